@@ -94,7 +94,7 @@ NEXT
 """
 GIVES = ELEVEN_TIMES % "      TRAP x55"
 MANY_ENDS = """
-seconds = 2
+seconds = 20
 [[run]]
 programs = [{ asked = "a.asm", must-call = ["sem_open /s"] }, { given = "gives.asm" }]
 """
@@ -148,16 +148,15 @@ def look(check, grader):
 
 
 def look_at_length(check, grader):
-    """What is too long to be traced is no mark of the machine's: the run is incomplete, and the others are marked."""
+    """What is too long to be traced is marked all the same."""
     folder, results = grader.folder("quotes", a__asm=QUOTES), grader.place / "results"
     printed, complained, status = grader.call("--results", results, grader.task(LONG_TASK, "long.toml"), folder)
     check(status == 0 and not complained, f"long output: status {status}: {complained}")
     said = [it for it in printed.splitlines() if it.startswith("  ") and it[2] != " "]
-    check(said == ["  calls: incomplete", "  another output: wrong output"], f"long output: {said}")
-    check("    the trace of an end, by which calls are known, has more output than is read\n" in printed, f"long output: {said}")
-    check(f"{folder}: fail: 1 of 3 points\n" in printed, f"long output: {printed[:200]}")
+    check(said == ["  another output: wrong output"], f"long output: {said}")
+    check(f"{folder}: fail: 2 of 3 points\n" in printed, f"long output: {printed[:200]}")
     pages = [it.read_bytes() for it in results.glob("quotes-*/*.html")]
-    check(len(pages) == 4 and all(len(it) <= 4_000_000 and b"</html>" in it[-200:] for it in pages), f"{len(pages)} long pages")
+    check(len(pages) == 2 and all(len(it) <= 4_000_000 and b"</html>" in it[-200:] for it in pages), f"{len(pages)} long pages")
     check(any(b"more than 4,000,000 bytes" in it for it in pages), "no page says that it was cut")
 
 
@@ -172,5 +171,6 @@ def look_at_seconds(check, grader, folders):
     check(not list((grader.place / "results/records").iterdir()), "a mark for want of time is kept")
     (grader.place / "gives.asm").write_text(GIVES)
     task = grader.task(MANY_ENDS, "many.toml")
+    # what is asked of calls is asked once, however many ends there are
     printed = grader.call(task, grader.folder("asks", a__asm=ASKS))[0]
-    check(": too long\n    the traces of all ends take more than 2 seconds\n" in printed, f"many ends: {printed}")
+    check(": pass: 1 of 1 points\n" in printed, f"many ends: {printed}")

@@ -78,14 +78,17 @@ def runs_of(lines):
         yield it, {"must-call": ["sem_wait /a"]}, "missing call"
     for it in forged(lines[:1]):
         yield it, {"must-hold": ["/a"]}, "missing call"
-    for name in NAMES:
+    # a name with a comma can't be asked for
+    for name in [it for it in NAMES if "," not in it]:
         waits = program(PUTS + OPEN + WAIT + PUTS, name, "\n")
         yield waits, {"must-call": [f"sem_wait {name}", f"sem_open {name}"], "must-hold": [name]}, "pass"
         yield waits, {"must-not-call": ["sem_wait"]}, "forbidden call"
         yield waits, {"must-not-call": [f"sem_open {name}"]}, "forbidden call"
-    # an object that has lost its name is still the one that was opened by it, but isn't that of the others
+    # an object that was unlinked has no name, so who forbids a call of a name forbids to unlink it, too
     unlinked = program(OPEN + UNLINK + WAIT, "/a")
-    yield unlinked, {"must-not-call": ["sem_wait /a"]}, "forbidden call"
+    yield unlinked, {"must-not-call": ["sem_wait /a"]}, "pass"
+    yield unlinked, {"must-not-call": ["sem_wait /a", "sem_unlink /a"]}, "forbidden call"
+    yield unlinked, {"may-call": ["sem_open", "sem_unlink", "sem_wait /a"]}, "forbidden call"
     yield unlinked, {"must-call": ["sem_wait /a"]}, "missing call"
     yield unlinked, {"must-hold": ["/a"]}, "missing call"
     yield program(OPEN + UNLINK + OPEN + WAIT, "/a"), {"must-call": ["sem_wait /a"], "must-not-call": ["sem_post"]}, "pass"

@@ -22,7 +22,12 @@ REFUSED = {
     '[[run]]\nprograms = [{ asked = "a.asm", input = "\\u20AC" }]\n': "one byte",
     '[[run]]\nprograms = [{ asked = "a.asm", must-call = ["sem_wat"] }]\n': "must-call: no call: sem_wat",
     '[[run]]\nprograms = [{ asked = "a.asm", must-call = ["sem_wait a"] }]\n': "no call: sem_wait a",
+    '[[run]]\nprograms = [{ asked = "a.asm", must-call = ["sem_wait /a,"] }]\n': "no call: sem_wait /a,",
+    '[[run]]\nprograms = [{ asked = "a.asm", must-call = ["sem_wait >= 1001"] }]\n': "no call: sem_wait >= 1001",
+    '[[run]]\nprograms = [{ asked = "a.asm", must-not-call = ["sem_wait >= 2"] }]\n': "must-not-call: a number of calls",
     '[[run]]\nprograms = [{ asked = "a.asm", must-hold = "/a" }]\n': "must-hold: this must be a list",
+    '[[run]]\nprograms = [{ asked = "a.asm", must-hold = ["/a,"] }]\n': "must-hold: no name of a semaphore: /a,",
+    '[[run]]\nprograms = [{ asked = "a.asm", must-hold = ["/1", "/2", "/3", "/4", "/5", "/6", "/7", "/8", "/9"] }]\n': "more than 8",
     ONE + "outputs = []\n": "one for each program, so 1",
     ONE + 'outputs = [{ lines = ["("] }]\n': "no regular expression",
     ONE + "outputs = [{ colour = 1 }]\n": "neither a text",
@@ -48,6 +53,8 @@ PRINTS = '     .ORIG x3000\n     LEA R0,TEXT\n     PUTS\n     HALT\nTEXT .STRING
 OUTPUTS = {
     '"12\\nabc\\n"': "pass", '"12\\nabc"': "wrong output",
     '{ any = ["", "12\\nabc\\n"] }': "pass", '{ any = ["", "12"] }': "wrong output",
+    # one of the texts has a byte for which explore has no words
+    '{ any = ["\\u00E9", "12\\nabc\\n"] }': "pass", '{ any = ["\\u00E9", "12"] }': "wrong output",
     '{ lines = ["[0-9]+", "a.c"] }': "pass", '{ lines = ["[0-9]+"] }': "wrong output", '{ lines = ["1", "a"] }': "wrong output",
     '{ lines = ["12", "abc", ""] }': "wrong output",
     '{ each-line = "[a-c0-2]*" }': "pass", '{ each-line = "[a-c]*" }': "wrong output",
@@ -98,6 +105,12 @@ ASKED = [
     (HALT, "", 'never = ["blocked", "crashed"]', "pass"),
     (PRINTS, "", 'alternatives = [["1"], ["12\\nabc\\n"]]', "pass"),
     (PRINTS, "", 'alternatives = [["1"], ["2"]]', "wrong output"),
+    (PRINTS, "", 'alternatives = [["1"], [{ lines = ["12", "abc"] }]]', "pass"),
+    (PRINTS, "", 'alternatives = [["12\\nabc\\n"], [{ lines = ["1"] }]]', "pass"),
+    (PRINTS, "", 'alternatives = [["1"], [{ lines = ["1"] }]]', "wrong output"),
+    (PRINTS, "", 'alternatives = [["1"], [{ free = true }]]', "pass"),
+    (PRINTS, '}, { given = "x.asm"', 'alternatives = [["1", "x"], [{ any = ["12\\nabc\\n", "2"] }, { any = ["", "y"] }]]', "pass"),
+    (PRINTS, '}, { given = "x.asm"', 'alternatives = [["12\\nabc\\n", "x"], [{ any = ["1", "2"] }, { any = ["", "y"] }]]', "wrong output"),
     (ECHO, ', input-file = "x.in"', 'outputs = ["x"]', "pass"),
     (ECHO, ', input-file = "x.in"', 'outputs = ["y"]', "wrong output"),
     (ECHO, ', input = "y"', 'outputs = ["y"]', "pass"),
@@ -111,9 +124,15 @@ ASKED = [
     (POSTS, ', must-order = ["sem_post", "sem_post"]', "", "missing call"),
     (TWICE, ', must-order = ["sem_post /w"]', "", "missing call"),
     (TWICE, ', must-order = ["sem_post /w", "sem_post /w"]', "", "pass"),
-    # a call that is made only where another process was there before
+    (TWICE, ', must-call = ["sem_post >= 2", "sem_open /w >= 2"]', "", "pass"),
+    (TWICE, ', must-call = ["sem_post /w >= 3"]', "", "missing call"),
+    # a call that isn't made where another process was there before, and one that is made only then
+    (LOOKS, ', must-call = ["sem_close"] }, { given = "posts.asm"', "", "missing call"),
     (LOOKS, ', must-not-call = ["sem_close"] }, { given = "posts.asm"', "", "forbidden call"),
     (LOOKS, ', may-call = ["sem_open", "sem_getvalue"] }, { given = "posts.asm"', "", "forbidden call"),
+    # the search for calls leaves no world out, and so meets a limit that the other one doesn't
+    (POSTS, ' }, { given = "posts.asm"', "worlds = 13", "pass"),
+    (POSTS, ', must-call = ["sem_post"] }, { given = "posts.asm"', "worlds = 13", "incomplete"),
     (ASKS, '}, { given = "posts.asm"', "", "endless"),
     (ASKS, '}, { given = "posts.asm"', "fair = true", "pass"),
     # where there is no end, nothing is so that is asked of ends
@@ -171,6 +190,7 @@ def look_at_keys(check, grader):
     """What the keys of a run and of a program ask, each with an answer that is so, or with one that isn't."""
     (grader.place / "x.in").write_text("x")
     (grader.place / "posts.asm").write_text(POSTS)
+    (grader.place / "x.asm").write_text(HALT)
     for number, (source, program, keys, verdict) in enumerate(ASKED):
         folder = grader.folder(f"key-{number}", a__asm=source)
         task = grader.task(ONE.replace('"a.asm"', f'"a.asm"{program}') + keys + "\n")

@@ -19,16 +19,20 @@ class End:
 
 @dataclass
 class Answer:
-    """The ends, what isn't as it should be (a verdict, and a schedule that shows it where there is one), the processes that have
-    written something else, each with such a schedule, the objects that conditions name and nobody opens, and a schedule that
+    """The ends, what isn't as it should be but for demands (a verdict, and a schedule that shows it), the demands that aren't met,
+    each with such a schedule, the limits that were met, the objects that conditions name and nobody opens, and a schedule that
     never ends, where there is one."""
 
     ends: list
     fault: tuple | None
-    unwritten: dict
+    unmet: dict
     limits: list
     unopened: list
     round: str | None
+
+    def is_wrong(self, need, end):
+        """The outputs of an end aren't as it is needed. Where explore was asked it says so of the first such end."""
+        return not need.is_met(end.outputs) if need.word is None else self.unmet.get(need.key()) == end.schedule
 
 
 def member(where, key, kind):
@@ -52,31 +56,16 @@ def end_of(found, count):
     return End([member(it, "out", str) for it in processes], schedule_of(member(found, "schedule", str)))
 
 
-def unmet(found):
-    """The words of --require that aren't so, in the order in which explore tells them; each with the schedule that shows it."""
+def untrue(found):
+    """What isn't as it should be, by the option and its word, in the order in which explore tells it; each with the schedule
+    that shows it."""
     for it in member(found, "not", list):
         word, schedules = member(it, "require", str), member(it, "schedules", list)
         if not schedules:
             raise NoMark("explore --json: not isn't as the schema says")
-        yield word, schedule_of(schedules[-1])
-
-
-def unwritten_of(found, outputs):
-    """The processes whose outputs aren't as --require asks; each with the schedule that shows it."""
-    by_word = {word: process for process, word in outputs.items()}
-    told = {word: schedule for word, schedule in unmet(found) if word not in WORDS}
-    if not told.keys() <= by_word.keys():
-        raise NoMark("explore --json: not isn't as the schema says")
-    return {by_word[word]: schedule for word, schedule in told.items()}
-
-
-def faults_of(found):
-    """What isn't as it should be, but for outputs, in the order in which explore tells it; each with the schedule that shows it."""
-    for word, schedule in unmet(found):
-        if word in WORDS:
-            yield f"not {word}", schedule
+        yield ("require", word), schedule_of(schedules[-1])
     for it in member(found, "reached", list):
-        yield f"reached {member(it, 'never', str)}", schedule_of(member(it, "schedule", str))
+        yield ("never", member(it, "never", str)), schedule_of(member(it, "schedule", str))
 
 
 def round_of(found):
@@ -88,11 +77,12 @@ def round_of(found):
     return f"{way} {back}".strip()
 
 
-def fault_of(found, asks_to_end):
-    """The first thing that isn't as it should be. `asks_to_end` says that an endless run is a fault, too."""
-    endless = round_of(found)
-    for it in faults_of(found):
-        return it
+def fault_of(told, endless, asks_to_end):
+    """The first thing that isn't as it should be, but for demands. `asks_to_end` says that an endless run is a fault, too."""
+    if not all(option == "never" or word in WORDS for option, word in told):
+        raise NoMark("explore --json: not isn't as the schema says")
+    for (option, word), schedule in told.items():
+        return f"{'not' if option == 'require' else 'reached'} {word}", schedule
     return ("endless", endless) if endless is not None and asks_to_end else None
 
 
@@ -103,11 +93,6 @@ def parsed(raw):
         raise NoMark("explore --json: this is no JSON") from None
 
 
-def ways(raw, count):
-    """The schedules of the ends of walks."""
-    return [end_of(it, count).schedule for it in member(parsed(raw), "ends", list)]
-
-
 def read(raw, count, run):
     """The answer for a run of so many programs."""
     found = parsed(raw)
@@ -115,14 +100,19 @@ def read(raw, count, run):
     complete = member(found, "search", str) == "complete"
     if complete == bool(limits) or not all(isinstance(it, str) for it in limits + unopened):
         raise NoMark("explore --json: search and limits contradict each other")
-    fault, unwritten = fault_of(found, run.asks_to_end()), unwritten_of(found, run.outputs_asked())
+    told, endless = dict(untrue(found)), round_of(found)
+    unmet = {it: told.pop(it) for it in run.demands() if it in told}
+    fault = fault_of(told, endless, run.asks_to_end())
     # what explore itself makes of it must be the same
-    holds = not (fault or unwritten)
+    holds = not (fault or unmet)
+    if holds and complete and run.questions() and found.get("holds", "none") is None:
+        # calls have a search of their own, which meets a limit alone
+        complete, limits = False, ["worlds or memory"]
     if not run.asks() or holds and not complete:
         holds = None
     if found.get("holds", "none") is not holds:
         raise NoMark("explore --json: holds contradicts what was found")
     ends = [end_of(it, count) for it in member(found, "ends", list)]
-    if not set(unwritten.values()) <= {it.schedule for it in ends}:
+    if not {unmet.get(it.key()) for it in run.needs} <= {None, *(it.schedule for it in ends)}:
         raise NoMark("explore --json: an end that isn't told has another output")
-    return Answer(ends, fault, unwritten, limits, unopened, round_of(found))
+    return Answer(ends, fault, unmet, limits, unopened, endless)

@@ -1,8 +1,4 @@
-"""Which calls a process must make, read from the trace of a run (docs/trace.md).
-
-A trace has a line of its own for each call, and nothing that a program prints or names ends a line or begins one: outputs,
-names and messages stand between quotes, with quotes, backslashes and control characters as numbers.
-"""
+"""What a task asks of the calls of a process, in the words of `explore` (docs/asking-calls.md)."""
 import re
 from dataclasses import dataclass
 
@@ -10,26 +6,25 @@ from .faults import TaskFault
 
 CALLS = "mq_open mq_close mq_unlink mq_send mq_receive mq_getattr mq_setattr sem_open sem_close sem_unlink sem_wait" \
     " sem_trywait sem_post sem_getvalue".split()
-NAME = r"/[!-.0-~]+"
-LINE = re.compile(rb" *\d+ P(\d+) +x[0-9A-F]{4} +\+\d+ ((?:mq|sem)_[a-z]+)\((.*)")
-BY_NAME = re.compile(r'"([^"]*)"(.*)')
-# names have no blanks, so the first one ends the handle, whatever the name is; an object without a name has its place there
-BY_HANDLE = re.compile(r"(\d+)<(/?)\S*>(?=, |\) )(.*)")
-ANSWERED = re.compile(r"[^)]*\) = (\d+)")
-QUOTED = re.compile(r'"[^"]*"')
-CODE = re.compile(r"\\x([0-9A-F]{4})")
-HELD = {"sem_wait": 1, "sem_trywait": 1, "sem_post": -1}
+# commas stand between the words of `explore`, so a name that has one can't be asked for
+NAME = r"/[!-+\-.0-~]+"
+# the most that `explore` counts, and the most semaphores of which it asks whether they are held
+MOST_CALLS = 1_000
+MOST_HELD = 8
+KEYS = ["must-call", "must-not-call", "must-hold", "may-call", "must-order"]
 
 
 @dataclass(frozen=True)
-class Call:
-    """A call of this process that was answered and not refused, on the object that it opened by this name. The object may
-    have lost the name since, and another one may have it."""
+class Question:
+    """An option of `explore` with its word, and the verdict and the sentence where that isn't so."""
 
-    process: int
-    call: str
-    name: str
-    has_name: bool
+    option: str
+    word: str
+    verdict: str
+    said: str
+
+    def key(self):
+        return self.option, self.word
 
 
 @dataclass(frozen=True)
@@ -40,14 +35,14 @@ class Wanted:
     name: str | None
     times: int
 
-    def fits(self, made):
-        return made.call == self.call and self.name in (None, made.name)
+    def kind(self):
+        return self.call + (f" {self.name}" if self.name else "")
 
-    def is_made(self, made, process):
-        return sum(1 for it in made if it.process == process and self.fits(it)) >= self.times
+    def written(self):
+        return self.kind() + (f" >= {self.times}" if self.times > 1 else "")
 
     def told(self):
-        return self.call + (f" {self.name}" if self.name else "") + (f" {self.times} times" if self.times > 1 else "")
+        return self.kind() + (f" {self.times} times" if self.times > 1 else "")
 
 
 def wanted_calls(words, key):
@@ -57,17 +52,19 @@ def wanted_calls(words, key):
 
 def wanted_call(word, key):
     found = re.fullmatch(rf"([a-z]+_[a-z]+)(?: ({NAME}))?(?: >= ([1-9]\d{{0,5}}))?", word)
-    if not found or found[1] not in CALLS:
+    if not found or found[1] not in CALLS or int(found[3] or 1) > MOST_CALLS:
         raise TaskFault(f"{key}: no call: {word}")
     return Wanted(found[1], found[2], int(found[3] or 1))
 
 
 def listed_calls(words, key):
-    """The calls of a list in which each stands for itself, and not for so many."""
+    """The kinds of the calls of a list in which each stands for itself, and not for so many."""
     found = wanted_calls(words, key)
     if any(it.times > 1 for it in found):
         raise TaskFault(f"{key}: a number of calls can't be asked here")
-    return found
+    if len(found) > MOST_CALLS:
+        raise TaskFault(f"{key}: more than {MOST_CALLS} calls can't be asked here")
+    return [it.kind() for it in found]
 
 
 def wanted_names(words, key):
@@ -75,6 +72,8 @@ def wanted_names(words, key):
     for word in words_of(words, key):
         if not re.fullmatch(NAME, word):
             raise TaskFault(f"{key}: no name of a semaphore: {word}")
+    if len(words) > MOST_HELD:
+        raise TaskFault(f"{key}: more than {MOST_HELD} semaphores can't be asked here")
     return words
 
 
@@ -84,65 +83,24 @@ def words_of(words, key):
     return words
 
 
-def calls_of(trace):
-    """The calls that a trace tells, of those that were answered and not refused."""
-    opened, made = {}, []
-    for line in trace.split(b"\n"):
-        found = LINE.fullmatch(line)
-        it = call_of(int(found[1]), found[2].decode(), found[3].decode("latin-1"), opened) if found else None
-        made += [it] if it else []
-    return made
+def questions_of(table, process):
+    """What the table of a program asks of its calls."""
+    called, uncalled, held, listed, ordered = (table.get(it, []) for it in KEYS)
+    found = [missing(f"{process} calls {it.written()}", f"process {process} never calls {it.told()} with success")
+             for it in wanted_calls(called, "must-call")]
+    found += [forbidden(f"{process} calls {it}") for it in listed_calls(uncalled, "must-not-call")]
+    names = " and ".join(dict.fromkeys(wanted_names(held, "must-hold")))
+    found += [missing(f"{process} holds {names}", f"process {process} never holds {names} together")] if names else []
+    kinds = ", ".join(listed_calls(listed, "may-call"))
+    found += [forbidden(f"{process} calls other than {kinds}")] if kinds else []
+    order = ", ".join(listed_calls(ordered, "must-order"))
+    said = f"process {process} doesn't call {order} in this order, with none of them between"
+    return found + ([missing(f"{process} calls in order {order}", said)] if order else [])
 
 
-def call_of(process, call, rest, opened):
-    """The call of a line, where it was answered. `opened` has the name by which each process opened each of its handles."""
-    by_name, by_handle = BY_NAME.fullmatch(rest), BY_HANDLE.fullmatch(rest)
-    behind = by_name[2] if by_name else by_handle[3] if by_handle else ""
-    # behind the name or handle only what stands between quotes can hold a bracket
-    answered = ANSWERED.match(QUOTED.sub("", behind))
-    if not answered:
-        return None
-    kind = call.partition("_")[0]
-    if by_handle:
-        return Call(process, call, opened[process, kind, by_handle[1]], by_handle[2] == "/")
-    name = CODE.sub(lambda it: chr(int(it[1], 16)), by_name[1])
-    if call == f"{kind}_open":
-        opened[process, kind, answered[1]] = name
-    return Call(process, call, name, True)
+def missing(word, said):
+    return Question("require", word, "missing call", said)
 
 
-def holds_together(made, process, names):
-    """At some moment the process has taken a unit of each of these semaphores, and not given it back."""
-    held = dict.fromkeys(names, 0)
-    for it in made:
-        if it.process == process and it.name in held:
-            held[it.name] = max(0, held[it.name] + HELD.get(it.call, 0))
-            if all(held.values()):
-                return True
-    return not names
-
-
-def fault_of(program, process, made):
-    """What a process did that it mustn't, or didn't do that it must: a verdict and a sentence, or nothing."""
-    named = [it for it in made if it.has_name]
-    for it in program.must_call:
-        if not it.is_made(named, process):
-            return "missing call", f"process {process} never calls {it.told()} with success"
-    for it in program.must_not_call:
-        if it.is_made(made, process):
-            return "forbidden call", f"process {process} calls {it.told()}"
-    if not holds_together(named, process, program.must_hold):
-        return "missing call", f"process {process} never holds {' and '.join(program.must_hold)} together"
-    for it in made if program.may_call else []:
-        if it.process == process and not any(wanted.fits(it) for wanted in program.may_call):
-            return "forbidden call", f"process {process} calls {it.call} {it.name}"
-    return order_fault(program.must_order, process, named)
-
-
-def order_fault(wanted, process, made):
-    """What is said where the calls that are listed aren't made in this order, with no other of them between."""
-    found = [it for it in made if it.process == process and any(word.fits(it) for word in wanted)]
-    if len(found) == len(wanted) and all(word.fits(it) for word, it in zip(wanted, found)):
-        return None
-    told = ", ".join(f"{it.call} {it.name}" for it in found) or "none of them"
-    return "missing call", f"process {process} doesn't call {', '.join(it.told() for it in wanted)} in this order, but {told}"
+def forbidden(word):
+    return Question("never", word, "forbidden call", f"process {word}")

@@ -5,7 +5,7 @@ import shutil
 import time
 from pathlib import Path
 
-from . import answer, calls, outputs, pages, shown, sources
+from . import answer, pages, shown, sources
 from .faults import NoMark, TaskFault
 from .records import PAGES
 
@@ -104,7 +104,7 @@ class Marking:
         found = self.explore(run, judged)
         if isinstance(found, dict):
             return found
-        verdict, detail, schedule = self.fault_of(run, found, words)
+        verdict, detail, schedule = fault_of(run, found)
         part = {"verdict": verdict, "detail": detail, "schedule": schedule, "ends": len(found.ends)}
         if schedule is not None:
             text = self.show(place, run, words, schedule)
@@ -129,7 +129,7 @@ class Marking:
     def explore(self, run, words):
         """The answer to all that is asked of the search, or the part of a mark where there is none."""
         ran = self.laboratory.run(["explore", "--json", *run.words(), *words], self.place, run.bounds)
-        met = bound_met(run, ran, "the search")
+        met = bound_met(run, ran)
         if met:
             return {"verdict": met[0], "detail": [met[1]]}
         if ran.status == 2 and b" doesn't fit the programs: " in ran.errors:
@@ -137,50 +137,6 @@ class Marking:
         if ran.status not in (0, 1):
             raise NoMark("; ".join([f"explore ended with status {ran.status}"] + shown.lines(ran.errors, LONGEST_LINE, 5)))
         return answer.read(ran.output, len(words), run)
-
-    def fault_of(self, run, found, words):
-        """The first thing that isn't as it should be: the verdict, what is said of it, and its schedule."""
-        if found.fault:
-            return found.fault[0], [], found.fault[1]
-        if not found.ends and not found.limits and run.asks_of_ends():
-            return "endless", ["no interleaving has an end"], found.round
-        for end in found.ends:
-            unwritten = [process for process, schedule in found.unwritten.items() if schedule == end.schedule]
-            wrong = outputs.difference(run.alternatives, end.outputs, run.outputs_asked(), unwritten)
-            if wrong:
-                return "wrong output", wrong, end.schedule
-        fault = self.fault_of_calls(run, found, words) if any(it.is_watched() for it in run.programs) else None
-        if fault:
-            return fault
-        if found.limits:
-            return "incomplete", ["the search met the limit of " + ", ".join(found.limits)], None
-        return "pass", [f"nobody opens {it}" for it in found.unopened], None
-
-    def fault_of_calls(self, run, found, words):
-        """What is said of the first end on the way to which a process didn't call what it must, or called what it mustn't."""
-        until = spent_so_far() + run.bounds.seconds
-        for schedule in self.ways(run, found, words):
-            if spent_so_far() > until:
-                return "too long", [f"the traces of all ends take more than {run.bounds.seconds} seconds"], None
-            ran = self.traced(run, words, schedule)
-            met = bound_met(run, ran, "the trace of an end, by which calls are known,")
-            if met:
-                return met[0], [met[1]], schedule
-            if ran.status != 0:
-                raise NoMark("; ".join(["trace failed"] + shown.lines(ran.errors, LONGEST_LINE, 5)))
-            made = calls.calls_of(ran.output)
-            faults = [calls.fault_of(program, number, made) for number, program in enumerate(run.programs)]
-            for verdict, said in filter(None, faults):
-                return verdict, [said], schedule
-        return None
-
-    def ways(self, run, found, words):
-        """The schedules that lead to the ends, and those of some walks to an end, since other ways may have other calls."""
-        yield from (it.schedule for it in found.ends)
-        for number in self.task.walks if len(words) > 1 else []:
-            ran = self.laboratory.run(["explore", "--json", *run.words_of_walk(number), *words], self.place, run.bounds)
-            if not ran.bound and ran.status == 0:
-                yield from answer.ways(ran.output, len(words))
 
     def traced(self, run, words, schedule, *options):
         """The trace of a run by a schedule."""
@@ -235,14 +191,32 @@ def handed_in(task, folder):
     return taken, hashlib.sha256(f"{task.key} {found}".encode()).hexdigest()
 
 
-def bound_met(run, ran, what):
-    """The verdict and a sentence where a call met a bound, which is what the programs do, and no fault of the machine."""
+def fault_of(run, found):
+    """The first thing that isn't as it should be: the verdict, what is said of it, and its schedule."""
+    if found.fault:
+        return found.fault[0], [], found.fault[1]
+    if not found.ends and not found.limits and run.asks_of_ends():
+        return "endless", ["no interleaving has an end"], found.round
+    for end in found.ends:
+        wrong = [it for it in run.needs if found.is_wrong(it, end)]
+        if wrong:
+            return "wrong output", [line for it in wrong for line in it.difference(end.outputs)], end.schedule
+    for it in run.questions():
+        if it.key() in found.unmet:
+            return it.verdict, [it.said], found.unmet[it.key()]
+    if found.limits:
+        return "incomplete", ["the search met the limit of " + ", ".join(found.limits)], None
+    return "pass", [f"nobody opens {it}" for it in found.unopened], None
+
+
+def bound_met(run, ran):
+    """The verdict and a sentence where a search met a bound, which is what the programs do, and no fault of the machine."""
     if ran.bound == "time":
-        return "too long", f"{what} takes more than {run.bounds.seconds} seconds"
+        return "too long", f"the search takes more than {run.bounds.seconds} seconds"
     if ran.bound == "size":
-        return "incomplete", f"{what} has more output than is read"
+        return "incomplete", "the search has more output than is read"
     if ran.bound == "memory" or not ran.output and ran.status == 1 and b"out of memory" in ran.errors:
-        return "incomplete", f"{what} takes more than {run.bounds.memory} megabytes"
+        return "incomplete", f"the search takes more than {run.bounds.memory} megabytes"
     return None
 
 

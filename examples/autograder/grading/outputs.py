@@ -1,4 +1,6 @@
 """What each process of a run should print."""
+import itertools
+import math
 import re
 from dataclasses import dataclass
 
@@ -8,7 +10,9 @@ from .faults import TaskFault
 # what stands for a character in a text of `explore --require`, beside those from a blank to `~`
 ESCAPES = {"\n": "\\n", "\t": "\\t", "\r": "\\r", "\a": "\\a", "\b": "\\b", "\f": "\\f", "\v": "\\v", "\x1b": "\\e",
            "\0": "\\0", '"': '\\"', "\\": "\\\\"}
-LONGEST = 10_000
+# a word has so many characters, and joins so many alternatives; the system takes words that are somewhat longer
+LONGEST = 100_000
+MOST = 1_000
 
 
 @dataclass
@@ -20,12 +24,11 @@ class Text:
     def fits(self, found):
         return found in self.texts
 
-    def written(self):
-        """The text as `explore --require` takes it, if there is one alone, and it does."""
-        text = self.texts[0]
-        if len(self.texts) > 1 or len(text) > LONGEST or not all(" " <= it <= "~" or it in ESCAPES for it in text):
+    def words(self, process):
+        """What `explore --require` takes for each of the texts, if it does for all of them."""
+        if not all(" " <= it <= "~" or it in ESCAPES for text in self.texts for it in text):
             return None
-        return "".join(ESCAPES.get(it, it) for it in text)
+        return [f'out {process} = "{"".join(ESCAPES.get(it, it) for it in text)}"' for text in self.texts]
 
     def told(self):
         return " or ".join(shown.output(it) for it in self.texts)
@@ -41,6 +44,9 @@ class Lines:
         lines = lines_of(found)
         return len(lines) == len(self.patterns) and all(it.fullmatch(line) for it, line in zip(self.patterns, lines))
 
+    def words(self, process):
+        return None
+
     def told(self):
         return "lines like " + ", ".join(f"/{it.pattern}/" for it in self.patterns)
 
@@ -54,6 +60,9 @@ class EachLine:
     def fits(self, found):
         return all(self.pattern.fullmatch(it) for it in lines_of(found))
 
+    def words(self, process):
+        return None
+
     def told(self):
         return f"only lines like /{self.pattern.pattern}/"
 
@@ -61,11 +70,32 @@ class EachLine:
 class Anything:
     """Whatever is printed."""
 
-    def fits(self, found):
-        return True
 
-    def told(self):
-        return "anything"
+@dataclass
+class Need:
+    """What processes should print together: each alternative has it by their numbers. `word` asks `explore` for it, where that
+    has words."""
+
+    alternatives: list
+    word: str | None
+
+    def key(self):
+        return "require", self.word
+
+    def wrong(self, found):
+        """For each alternative the processes that printed something else."""
+        return [[place for place, it in each.items() if not it.fits(found[place])] for each in self.alternatives]
+
+    def is_met(self, found):
+        return [] in self.wrong(found)
+
+    def difference(self, found):
+        """What is wrong with the outputs of an end, in lines."""
+        wrong = self.wrong(found)
+        nearest = min(range(len(wrong)), key=lambda it: len(wrong[it]))
+        told = self.alternatives[nearest]
+        also = ["(other outputs would do, too)"] * (len(wrong) > 1)
+        return [f"process {it} printed {shown.output(found[it])}, not {told[it].told()}" for it in wrong[nearest]] + also
 
 
 def lines_of(text):
@@ -108,24 +138,19 @@ def wanted_of_all(words, count):
     return [wanted(it) for it in words]
 
 
-def required(alternatives):
-    """The words of `--require` that ask for the outputs, by the processes, as far as it has words for them."""
-    if len(alternatives) != 1:
-        return {}
-    texts = {place: it.written() for place, it in enumerate(alternatives[0]) if isinstance(it, Text)}
-    return {place: f'out {place} = "{text}"' for place, text in texts.items() if text is not None}
+def word_for(alternatives):
+    """The word of `--require` that asks for one of the alternatives, if it has words for all of them."""
+    words = [[it.words(place) for place, it in each.items()] for each in alternatives]
+    if any(None in each for each in words) or sum(math.prod(map(len, each)) for each in words) > MOST:
+        return None
+    word = " or ".join(" and ".join(it) for each in words for it in itertools.product(*each))
+    return word if len(word) <= LONGEST else None
 
 
-def difference(alternatives, found, asked, unwritten):
-    """What is wrong with the outputs of an end, in lines, or nothing where they are those of an alternative. Of the processes that
-    `explore` was asked about it said which are wrong."""
-    def is_wrong(place, it):
-        return place in unwritten if place in asked else not it.fits(found[place])
-
-    wrong = [[place for place, it in enumerate(each) if is_wrong(place, it)] for each in alternatives]
-    if not wrong or [] in wrong:
+def needs_of(alternatives):
+    """What is asked of the outputs. Of one alternative each process has its own, so that it is told alone."""
+    asked = [{place: it for place, it in enumerate(each) if not isinstance(it, Anything)} for each in alternatives]
+    if not asked or {} in asked:
         return []
-    nearest = min(range(len(wrong)), key=lambda it: len(wrong[it]))
-    told = alternatives[nearest]
-    also = ["(other outputs would do, too)"] * (len(alternatives) > 1)
-    return [f"process {it} printed {shown.output(found[it])}, not {told[it].told()}" for it in wrong[nearest]] + also
+    parts = [asked] if len(asked) > 1 else [[{place: it}] for place, it in asked[0].items()]
+    return [Need(it, word_for(it)) for it in parts]

@@ -12,33 +12,24 @@ from .faults import TaskFault
 from .laboratory import Bounds
 
 # another number where marks come to be worked out otherwise, so that kept ones aren't taken up
-FORM = 4
-# of each run in which calls count, and which has more than one process, so many walks are looked at beside its ends
-WALKS = 6
+FORM = 5
 VISIBILITIES = ["visible", "hidden", "after_due_date", "after_published"]
 # what stands at the head of a task holds for each run that doesn't say otherwise
 SHARED = {"require": "halted", "may-wait": [], "never": [], "fair": False, "profile": "a", "limit": 100_000,
           "worlds": 100_000, "memory": 1024, "seconds": 60, "points": 1, "visibility": "visible"}
 ADDRESSES = re.compile("x[0-9A-Fa-f]{1,4}(-x[0-9A-Fa-f]{1,4})?")
 OF_RUN = {"name", "programs", "outputs", "alternatives"}
-OF_PROGRAM = {"given", "asked", "input", "input-file", "must-call", "must-not-call", "must-hold", "may-call", "must-order"}
+OF_PROGRAM = {"given", "asked", "input", "input-file", *calls.KEYS}
 
 
 @dataclass
 class Program:
-    """A process of a run: the source that is given or asked, its console input, and what it must do."""
+    """A process of a run: the source that is given or asked, its console input, and what is asked of its calls."""
 
     given: bytes | None
     name: str
     input: bytes | None
-    must_call: list
-    must_not_call: list
-    must_hold: list
-    may_call: list
-    must_order: list
-
-    def is_watched(self):
-        return bool(self.must_call or self.must_not_call or self.must_hold or self.may_call or self.must_order)
+    questions: list
 
 
 @dataclass
@@ -48,16 +39,11 @@ class Run:
     name: str
     programs: list
     alternatives: list
+    needs: list
     options: dict
     points: float
     visibility: str
     bounds: Bounds
-
-    def words_of_walk(self, number):
-        """The words of explore for one walk at random."""
-        said = self.options
-        return ["--profile", said["profile"], "--limit", str(said["limit"]), "--memory", str(said["memory"]),
-                "--random", "1", "--seed", str(number)]
 
     def words(self):
         """The words of explore but for the programs."""
@@ -65,9 +51,9 @@ class Run:
         found = ["--profile", said["profile"], "--limit", str(said["limit"]), "--worlds", str(said["worlds"]),
                  "--memory", str(said["memory"]), "--threads", "1"]
         found += ["--require", said["require"]] if said["require"] else []
-        found += [word for it in self.outputs_asked().values() for word in ("--require", it)]
         for option in "may-wait", "never":
             found += [word for it in said[option] for word in (f"--{option}", it)]
+        found += [word for option, it in self.demands() for word in (f"--{option}", it)]
         return found + ["--fair"] * said["fair"]
 
     def names_labels(self):
@@ -76,17 +62,22 @@ class Run:
                   for it in re.findall(r"(?<!\S)at +(\S+)", text)]
         return not all(ADDRESSES.fullmatch(it) for it in places)
 
-    def outputs_asked(self):
-        """What the search itself is asked about outputs, by the processes."""
-        return outputs.required(self.alternatives)
+    def questions(self):
+        """What is asked of the calls of all processes."""
+        return [it for program in self.programs for it in program.questions]
+
+    def demands(self):
+        """What the search is asked about outputs and calls, each an option and its word, once."""
+        asked = [it.key() for it in self.needs if it.word is not None]
+        return list(dict.fromkeys(asked + [it.key() for it in self.questions()]))
 
     def asks(self):
         """Something is asked of the search itself."""
-        return bool(self.options["require"] or self.options["never"] or self.outputs_asked())
+        return bool(self.options["require"] or self.options["never"] or self.demands())
 
     def asks_of_ends(self):
         """Something is asked of each end, and so of nothing where there is none."""
-        return bool(self.alternatives or self.options["require"] or any(it.is_watched() for it in self.programs))
+        return bool(self.alternatives or self.options["require"] or any(it.option == "require" for it in self.questions()))
 
     def asks_to_end(self):
         return not {"ended", "stuck", "halted"}.isdisjoint(self.options["require"].split(","))
@@ -99,7 +90,6 @@ class Task:
     title: str
     runs: list
     key: str = field(default="")
-    walks: list = field(default_factory=list)
 
     def asked(self):
         """The names of the files that a student hands in, each once."""
@@ -137,7 +127,7 @@ def asked_name(name):
     return name
 
 
-def program_of(table, folder):
+def program_of(table, folder, process):
     expect_keys(table, OF_PROGRAM, "programs")
     given, asked = value(table, "given", str), value(table, "asked", str)
     if (given is None) == (asked is None):
@@ -149,11 +139,9 @@ def program_of(table, folder):
         raise TaskFault("input: a character stands for one byte, up to \\u00FF")
     file = value(table, "input-file", str)
     content = words.encode("latin-1") if words is not None else content_of(folder, file) if file else None
-    made = [calls.wanted_calls(table.get(it, []), it) for it in ("must-call", "must-not-call")]
     source = None if given is None else content_of(folder, given)
     name = asked_name(asked) if given is None else os.path.basename(given)
-    listed = [calls.listed_calls(table.get(it, []), it) for it in ("may-call", "must-order")]
-    return Program(source, name, content, *made, calls.wanted_names(table.get("must-hold", []), "must-hold"), *listed)
+    return Program(source, name, content, calls.questions_of(table, process))
 
 
 def wanted_outputs(table, count):
@@ -184,11 +172,12 @@ def options_of(table):
 
 def run_of(table, shared, folder):
     expect_keys(table, OF_RUN | SHARED.keys(), "run")
-    programs = [program_of(it, folder) for it in value(table, "programs", list, [])]
+    programs = [program_of(it, folder, process) for process, it in enumerate(value(table, "programs", list, []))]
     if not 1 <= len(programs) <= 64:
         raise TaskFault("a run has 1 to 64 programs")
     said = options_of(shared | {key: it for key, it in table.items() if key in SHARED})
-    return Run(value(table, "name", str, ""), programs, wanted_outputs(table, len(programs)), said,
+    alternatives = wanted_outputs(table, len(programs))
+    return Run(value(table, "name", str, ""), programs, alternatives, outputs.needs_of(alternatives), said,
                float(said["points"]), said["visibility"], Bounds(said["seconds"], said["memory"]))
 
 
@@ -221,8 +210,6 @@ def read_task(path, seed, laboratory):
         raise TaskFault(f"{path}: {it.strerror}") from None
     except (ValueError, TaskFault) as it:
         raise TaskFault(f"{path}: {it}") from None
-    hat = drawn.Hat(f"{seed} walks")
-    task.walks = [hat.below(1_000_000) for _ in range(WALKS)]
     task.key = key_of(task, table, laboratory)
     return task
 
@@ -230,4 +217,4 @@ def read_task(path, seed, laboratory):
 def key_of(task, table, laboratory):
     """A digest of all that a mark depends on beside what is handed in."""
     files = [(it.given, it.input) for run in task.runs for it in run.programs]
-    return hashlib.sha256(repr((FORM, laboratory.identity, table, files, task.walks)).encode()).hexdigest()
+    return hashlib.sha256(repr((FORM, laboratory.identity, table, files)).encode()).hexdigest()

@@ -1,5 +1,12 @@
-; wrong: two instructions for ever
+; wrong: asks for a unit of /room for ever
           .ORIG x3000
-LOOP      TRAP x54
+          LEA  R0,ROOM
+          LD   R1,CREATE
+          TRAP x50
+          ADD  R4,R0,#0
+LOOP      ADD  R0,R4,#0
+          TRAP x54
           BR   LOOP
+ROOM      .STRINGZ "/room"
+CREATE    .FILL x40
           .END

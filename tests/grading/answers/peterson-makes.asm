@@ -1,42 +1,32 @@
-; wrong: a lock by a name, which is made anew by O_EXCL and unlinked
+; wrong: a lock by a name: who makes the queue /lock, which tells by its size who that was, has it, and unlinks it
           .ORIG x3000
           GETC
           ST   R0,DIGIT
-          LEA  R1,MINE
-          STR  R0,R1,#5
-          LD   R1,SUM
-          NOT  R0,R0
-          ADD  R0,R0,#1
-          ADD  R0,R1,R0
-          LEA  R1,OTHERS
-          STR  R0,R1,#5
-          LD   R1,LESSONE
-          ADD  R0,R0,R1
-          ST   R0,LESS
-          LD   R1,FLAGS
-          LEA  R2,SIZES
-          LEA  R0,MINE
-          TRAP x40
-          ADD  R4,R0,#0
-          LEA  R0,OTHERS
-          TRAP x40
-          ADD  R5,R0,#0
-          LEA  R0,TURN
-          TRAP x40
-          ADD  R6,R0,#0
+          LD   R1,LESSZERO
+          ADD  R6,R0,R1
+          ADD  R6,R6,#1
+          ST   R6,PLACES
+          NOT  R6,R6
+          ADD  R6,R6,#1
           LEA  R0,ROOM
+          LD   R1,CREATE
           AND  R2,R2,#0
           TRAP x50
           ST   R0,SLOT
-          ADD  R2,R2,#1
-          LEA  R1,STATE
 
-          LD   R1,NEW
 LOOP      LEA  R0,LOCK
-          LD   R1,NEW
-          TRAP x50
+          LD   R1,FLAGS
+          LEA  R2,SIZES
+          TRAP x40
           ADD  R3,R0,#0
-          BRn  LOOP
+          LEA  R1,STATE
+          TRAP x45
+          LD   R1,FOUND
+          ADD  R1,R1,R6
+          BRz  ENTER
+          ADD  R0,R3,#0
+          TRAP x41
+          BR   LOOP
 ENTER     LD   R0,SLOT
           TRAP x55
           LD   R0,DIGIT
@@ -44,31 +34,25 @@ ENTER     LD   R0,SLOT
           LD   R0,SLOT
           TRAP x53
 LEAVE     ADD  R0,R3,#0
-          TRAP x51
+          TRAP x41
           LEA  R0,LOCK
-          TRAP x52
-          AND  R3,R3,#0
+          TRAP x42
           LD   R0,TIMES
           ADD  R0,R0,#-1
           ST   R0,TIMES
           BRp  LOOP
           HALT
-MINE      .STRINGZ "/flag?"
-OTHERS    .STRINGZ "/flag?"
-TURN      .STRINGZ "/turn"
 ROOM      .STRINGZ "/room"
+LOCK      .STRINGZ "/lock"
+CREATE    .FILL x40
 FLAGS     .FILL x0842
 SIZES     .FILL 0
+PLACES    .BLKW 1
           .FILL 1
-          .FILL 1
-STATE     .BLKW 3
-VALUE     .BLKW 1
-SUM       .FILL x61
-LESSONE   .FILL x-31
+STATE     .BLKW 1
+FOUND     .BLKW 3
+LESSZERO  .FILL x-30
 TIMES     .FILL 2
-LOCK      .STRINGZ "/lock"
-NEW       .FILL xC0
 DIGIT     .BLKW 1
-LESS      .BLKW 1
 SLOT      .BLKW 1
           .END
