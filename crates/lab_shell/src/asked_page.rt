@@ -6,7 +6,7 @@ ghost use Rattle.lab_shell.specs.Private.Shown.{IsUnmet};
 use crate::page::Paged;
 use lab_commands::{Complaint, Search};
 use lab_page::{Asked, EndList, ShownRun};
-use lab_questions::{Answer, Word};
+use lab_questions::{Answer, OutputNeed, Word};
 use lab_sched::{SchedFault, Schedule, World};
 use lab_ways::Ways;
 use lab_worlds::{Exploration, Lasso};
@@ -36,6 +36,7 @@ pub fn told_of<'a>(
     };
     add_round(alloc, paged, search, &mut told)?;
     add_words(alloc, paged, search, &mut told)?;
+    add_outputs(alloc, paged, search, &mut told)?;
     add_conditions(alloc, paged, search, &mut told)?;
     add_calls(alloc, paged, search, &mut told)?;
     add_fairness(alloc, search, &mut told)?;
@@ -106,6 +107,49 @@ fn add_words<'a>(
         told.asked.push(one)?;
     }
     Ok(())
+}
+
+/// Adds what is required of outputs.
+fn add_outputs<'a>(
+    alloc: Global,
+    paged: &Paged<'_, 'a>,
+    search: &Search,
+    told: &mut Told,
+) -> Result<(), Complaint<'a>> {
+    let answers = &search.answers;
+    for (need, fault) in answers
+        .asked
+        .outputs
+        .iter()
+        .zip(answers.output_faults.iter())
+    {
+        let one = output_asked(alloc, paged, search, need, *fault, told)?;
+        told.asked.push(one)?;
+    }
+    Ok(())
+}
+
+/// What is required of outputs, with the run to the first end that isn't so, if there is one.
+fn output_asked<'a>(
+    alloc: Global,
+    paged: &Paged<'_, 'a>,
+    search: &Search,
+    need: &OutputNeed,
+    fault: Option<usize>,
+    told: &mut Told,
+) -> Result<Asked, Complaint<'a>>
+    ensures failed { IfOk result (λ a. a.failed ≡ is_some fault) }
+{
+    let mut runs = Vec::new(alloc);
+    if let Some(number) = fault {
+        push_end(alloc, paged, search, number, told, &mut runs)?;
+    }
+    let text = need.text.as_str();
+    Ok(Asked {
+        text: format!(in alloc; "--require {text}")?,
+        failed: fault.is_some(),
+        runs,
+    })
 }
 
 /// Whether a word asks that each run comes to rest.
