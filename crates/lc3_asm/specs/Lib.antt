@@ -2,6 +2,7 @@ pub mod Addresses
 pub mod Faults
 pub mod Laws
 pub mod Listings
+pub mod Results
 pub mod Symbols
 pub mod Texts
 pub mod Views

@@ -2,5 +2,4 @@
 pub mod Layouts
 pub mod Words
 pub mod Readings
-pub mod Results
 pub mod Tables

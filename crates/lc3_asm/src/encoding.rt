@@ -3,7 +3,7 @@
 ghost use Rattle.std.specs.Prelude.{◌≡◌, ◌+◌, ◌-ℤ◌, pos, IfOk, map, [], ◌∷◌, ◌++◌};
 ghost use Rattle.lc3_table.specs.Meaning.{offset_between, label_number, resolved_field, resolved_fields, words_of_fields, words};
 ghost use Rattle.lc3_asm.specs.Texts.{value};
-ghost use Rattle.lc3_asm.specs.Private.Results.{Gives};
+ghost use Rattle.lc3_asm.specs.Results.{Gives};
 ghost use Rattle.lc3_asm.specs.Views.{seen_operand, seen_line};
 
 use crate::fault::LineError;

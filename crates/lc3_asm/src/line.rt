@@ -2,7 +2,7 @@
 
 ghost use Rattle.std.specs.Prelude.{◌≡◌, option_map, string_bytes, map, ◌≤◌, ◌^◌};
 ghost use Rattle.lc3_asm.specs.Views.{token_of, seen_line};
-ghost use Rattle.lc3_asm.specs.Private.Results.{Gives};
+ghost use Rattle.lc3_asm.specs.Results.{Gives};
 ghost use Rattle.lc3_table.specs.Statements.{label_defined, begins_with_dot, operation_order, with_operands, unless, Operates, line_of, line};
 
 use crate::fault::LineError;
@@ -27,7 +27,7 @@ pub enum Line {
     },
 }
 
-pub fn begins_with_dot(word: &[u8]) -> bool
+fn begins_with_dot(word: &[u8]) -> bool
     ensures value { result ≡ begins_with_dot word.now }
 {
     matches!(word, [b'.', ..])

@@ -6,7 +6,7 @@ ghost use Rattle.lc3_word.specs.Segment.{first_device};
 ghost use Rattle.lc3_asm.specs.Texts.{is_origin, is_end, origin, labels, address_after, place_fault, is_duplicate, label_of};
 ghost use Rattle.lc3_table.specs.Statements.{Line, option_or};
 ghost use Rattle.lc3_table.specs.Meaning.{size};
-ghost use Rattle.lc3_asm.specs.Private.Results.{Gives};
+ghost use Rattle.lc3_asm.specs.Results.{Gives};
 ghost use Rattle.lc3_asm.specs.Views.{seen_line, token_of};
 ghost use Rattle.lc3_asm.specs.Private.Readings.{AreTables};
 ghost use Rattle.lc3_asm.specs.Addresses.{addresses};

@@ -2,7 +2,7 @@
 
 ghost use Rattle.std.specs.Prelude.{◌≡◌, ◌<◌, ◌≤◌, IfOk, string_bytes, map, IsAscii, is_some, option_map, Option, Some, None, IfSome, IfNone, nat_abs, true, nat_le, ◌&&◌, length, ◌||◌, ◌-ℤ◌, pos};
 ghost use Rattle.lc3_asm.specs.Views.{token_of, seen_operand};
-ghost use Rattle.lc3_asm.specs.Private.Results.{Gives};
+ghost use Rattle.lc3_asm.specs.Results.{Gives};
 ghost use Rattle.lc3_table.specs.Words.{upper, register};
 ghost use Rattle.std.specs.List.{list_all};
 ghost use Rattle.lc3_table.specs.Statements.{is_between, characters, onto, fault_in, token_fault, operand_by_register, operand_by_number, operand, operands, all_operands, escape, is_string_byte, takes_register, takes_label, accepts, forms, token_operation, without_colon};
@@ -133,6 +133,7 @@ fn is_printable(word: &[u8]) -> bool
     word.iter().all(|byte| 33 <= *byte && *byte <= 126)
 }
 
+/// The fault of a token that can't stand in a line, whatever it means.
 pub fn fault_in(token: Token<'_>) -> Option<Fault>
     ensures value { result ≡ fault_in (token_of token.entry) }
 {
@@ -221,6 +222,7 @@ fn word_operand(alloc: Global, form: Form, word: &[u8]) -> Result<Operand, LineE
     }
 }
 
+/// What a token says in the place of an operand of this form, or its fault there.
 pub fn token_operand(alloc: Global, form: Form, token: Token<'_>) -> Result<Operand, LineError>
     ensures exact { Gives seen_operand result (operand form (token_of token.entry)) }
 {

@@ -2,7 +2,7 @@
 #![tactic(auto)]
 
 mod characters;
-mod forms;
+mod faulty;
 mod labels;
 mod lines;
 mod message;

@@ -3,11 +3,9 @@ use std::alloc::{AllocError, Global};
 
 /// The lines of a text, each without a carriage return at its end.
 pub(crate) fn lines_of(alloc: Global, text: &str) -> Result<Vec<&str>, AllocError> {
-    let mut lines = Vec::new(alloc);
-    for line in text.split('\n') {
-        lines.push(line.strip_suffix('\r').unwrap_or(line))?;
-    }
-    Ok(lines)
+    text.split('\n')
+        .map(|line| line.strip_suffix('\r').unwrap_or(line))
+        .collect(alloc)
 }
 
 /// A text in which a fault was found, before the byte that is no UTF-8: the number of its last line, from 1, and how many

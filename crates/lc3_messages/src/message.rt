@@ -81,10 +81,6 @@ fn span_within(line: &str, mark: Span) -> Option<Span>
     }
 }
 
-fn characters_before(line: &str, place: usize) -> usize {
-    line.get(..place).unwrap_or("").chars().count()
-}
-
 /// The message about a place of the line with this number, from 1. What is marked lies within the line.
 pub(crate) fn message_on(line: &str, number: usize, kind: Kind, remark: Remark) -> Message
     ensures line { result.line ≡ number }
@@ -96,13 +92,11 @@ pub(crate) fn message_on(line: &str, number: usize, kind: Kind, remark: Remark) 
         Some(mark) => span_within(line, mark),
         None => None,
     };
-    let start = match mark {
-        Some(mark) => mark.start,
-        None => 0,
-    };
+    let start = mark.map_or(0, |mark| mark.start);
+    let before = line.get(..start).unwrap_or("").chars().count();
     Message {
         line: number,
-        column: characters_before(line, start).saturating_add(1),
+        column: before.saturating_add(1),
         mark,
         kind,
         text: remark.text,

@@ -1,16 +1,28 @@
 //! Operands that can't stand where they do.
 use crate::characters::Excerpt;
-use crate::forms::form_text;
-use crate::message::Remark;
-use crate::parts::{part_at, part_count, word_at};
+use crate::parts::operation_number;
 use crate::texts::Place;
-use crate::words::{
-    NO_LABEL_BUT_OPERATION, is_operation, is_register, number_meant, operation_number, said_of,
-};
+use crate::words::{NO_LABEL_BUT_OPERATION, is_operation, is_register, number_meant, said_of};
 use lc3_asm::is_label;
 use lc3_table::Form;
 use std::alloc::{AllocError, Global};
 use std::fmt::Write;
+
+/// What may stand as an operand.
+fn form_text(form: Form) -> &'static str {
+    match form {
+        Form::Register => "a register, R0 to R7",
+        Form::RegisterOrImmediate => "a register, R0 to R7, or a number from -16 to 15",
+        Form::Offset => "a number from -32 to 31",
+        Form::Target => "a label, or an offset from -256 to 255",
+        Form::FarTarget => "a label, or an offset from -1,024 to 1,023",
+        Form::Vector => "a number from 0 to 255",
+        Form::Address => "an address from x0000 to xFE00",
+        Form::Count => "a number from 1 to 65,024",
+        Form::Value => "a label, or a number from -32,768 to 65,535",
+        Form::Characters => "a string between two \"",
+    }
+}
 
 /// Adds a number, or this word where it is 0.
 fn push_number(text: &mut String, number: usize, none: &str) -> Result<(), AllocError> {
@@ -32,12 +44,17 @@ fn push_counts(text: &mut String, taken: usize, given: usize) -> Result<(), Allo
     push_number(text, given, "none")
 }
 
-fn other_count(alloc: Global, place: Place<'_>, operation: usize) -> Result<String, AllocError> {
-    if operation == 0 && is_operation(word_at(place.line, 1).as_bytes()) {
-        return said_of(alloc, place.word(), NO_LABEL_BUT_OPERATION);
+fn other_count(alloc: Global, place: Place<'_>) -> Result<String, AllocError> {
+    if place.at == 0
+        && place
+            .parts
+            .get(1)
+            .is_some_and(|second| second.is_operation())
+    {
+        return said_of(alloc, place.part.word, NO_LABEL_BUT_OPERATION);
     }
-    let given = part_count(place.line.as_bytes()).saturating_sub(operation.saturating_add(1));
-    let mut text = said_of(alloc, place.word(), " takes ")?;
+    let given = place.parts.len().saturating_sub(place.at.saturating_add(1));
+    let mut text = said_of(alloc, place.part.word, " takes ")?;
     push_counts(&mut text, place.forms.len(), given)?;
     push_forms(&mut text, place.forms)?;
     if given > place.forms.len() {
@@ -73,21 +90,18 @@ fn other_sort(form: Form, word: &str) -> (&str, &'static str) {
     }
 }
 
-pub(crate) fn bad_operands(alloc: Global, place: Place<'_>) -> Result<Remark, AllocError> {
-    let operation = operation_number(place.line);
-    if let Some(part) = part_at(place.line.as_bytes(), operation) {
-        if part.span.start == place.mark.start {
-            let text = other_count(alloc, place, operation)?;
-            return Ok(place.remark(text));
-        }
+pub(crate) fn bad_operands(alloc: Global, place: Place<'_>) -> Result<String, AllocError> {
+    if place.at == operation_number(place.parts) {
+        return other_count(alloc, place);
     }
     let form = place.form();
-    let (name, said) = other_sort(form, place.word());
-    let text = misplaced(alloc, name, said, form)?;
-    Ok(place.remark(text))
+    let (name, said) = other_sort(form, place.part.word);
+    misplaced(alloc, name, said, form)
 }
 
-fn no_number(alloc: Global, word: &str, form: Form) -> Result<String, AllocError> {
+pub(crate) fn bad_number(alloc: Global, place: Place<'_>) -> Result<String, AllocError> {
+    let word = place.part.word;
+    let form = place.form();
     let takes_label = form.takes_label();
     let bytes = word.as_bytes();
     if takes_label && is_operation(bytes) {
@@ -101,7 +115,7 @@ fn no_number(alloc: Global, word: &str, form: Form) -> Result<String, AllocError
             form,
         );
     }
-    if let Some(number) = number_meant(alloc, bytes)? {
+    if let Some(number) = number_meant(alloc, word)? {
         let (shown, number) = (Excerpt(word), Excerpt(&number));
         return format!(in alloc; "{shown} is no number; did you mean {number}?");
     }
@@ -113,13 +127,8 @@ fn no_number(alloc: Global, word: &str, form: Form) -> Result<String, AllocError
     misplaced(alloc, word, said, form)
 }
 
-pub(crate) fn bad_number(alloc: Global, place: Place<'_>) -> Result<Remark, AllocError> {
-    let text = no_number(alloc, place.word(), place.form())?;
-    Ok(place.remark(text))
-}
-
-pub(crate) fn range(alloc: Global, place: Place<'_>) -> Result<Remark, AllocError> {
-    let shown = Excerpt(place.word());
+pub(crate) fn range(alloc: Global, place: Place<'_>) -> Result<String, AllocError> {
+    let shown = Excerpt(place.part.word);
     let form = place.form();
     let stands = form_text(form);
     let hint = if matches!(form, Form::Target | Form::FarTarget) {
@@ -127,6 +136,5 @@ pub(crate) fn range(alloc: Global, place: Place<'_>) -> Result<Remark, AllocErro
     } else {
         ""
     };
-    let text = format!(in alloc; "the number {shown} is out of range; here stands {stands}{hint}")?;
-    Ok(place.remark(text))
+    format!(in alloc; "the number {shown} is out of range; here stands {stands}{hint}")
 }

@@ -1,7 +1,7 @@
 //! Words in the place of a label or of an operation.
 use crate::characters::{Excerpt, picture};
 use crate::message::Remark;
-use crate::parts::{Part, part_at};
+use crate::parts::Part;
 use crate::texts::{Place, Source};
 use crate::words::{
     NO_LABEL_BUT_OPERATION, did_you_mean, is_number, is_operation, is_register, operation_meant,
@@ -60,7 +60,8 @@ fn other_use(name: &[u8]) -> Option<&'static str> {
     }
 }
 
-fn label_text(alloc: Global, name: &str) -> Result<String, AllocError> {
+pub(crate) fn bad_label(alloc: Global, place: Place<'_>) -> Result<String, AllocError> {
+    let name = name_of(place.part.word);
     let bytes = name.as_bytes();
     if is_label(bytes) {
         return String::from_str(alloc, ".ORIG takes no label");
@@ -74,28 +75,11 @@ fn label_text(alloc: Global, name: &str) -> Result<String, AllocError> {
     }
 }
 
-pub(crate) fn bad_label(alloc: Global, place: Place<'_>) -> Result<Remark, AllocError> {
-    let text = label_text(alloc, name_of(place.word()))?;
-    Ok(place.remark(text))
-}
-
-fn remark_on(part: Part<'_>, text: String) -> Remark {
-    Remark {
-        mark: Some(part.span),
-        text,
-    }
-}
-
-fn no_operation(
-    alloc: Global,
-    line: &str,
-    part: Part<'_>,
-    meant: Option<&str>,
-) -> Result<Remark, AllocError> {
-    let shown = Excerpt(part.span.text_in(line));
+fn no_operation(alloc: Global, part: Part<'_>, meant: Option<&str>) -> Result<Remark, AllocError> {
+    let shown = Excerpt(part.word);
     let mean = did_you_mean(alloc, meant)?;
     let text = format!(in alloc; "{shown} is no operation and no directive{mean}")?;
-    Ok(remark_on(part, text))
+    Ok(part.remark(text))
 }
 
 /// The operation that the first token of a line was meant to name, if it is spelled nearly like one and has no `:`.
@@ -103,27 +87,23 @@ fn first_meant(alloc: Global, word: &str) -> Result<Option<&'static str>, AllocE
     if word.ends_with(':') {
         return Ok(None);
     }
-    operation_meant(alloc, word.as_bytes())
+    operation_meant(alloc, word)
 }
 
 fn two_words(
     alloc: Global,
     source: &Source<'_>,
-    line: &str,
     first: Part<'_>,
     second: Part<'_>,
 ) -> Result<Remark, AllocError> {
-    let first_meant = first_meant(alloc, first.span.text_in(line))?;
-    let second_word = second.span.text_in(line).as_bytes();
-    let name = upper(alloc, second_word)?;
-    if first_meant.is_some() && source.labels.definition(&name).is_some() {
-        return no_operation(alloc, line, first, first_meant);
+    let first_meant = first_meant(alloc, first.word)?;
+    let second_meant = operation_meant(alloc, second.word)?;
+    let name = upper(alloc, second.word.as_bytes())?;
+    let is_label = source.labels.definitions.contains_key(name.as_str());
+    if first_meant.is_some() && (is_label || second_meant.is_none()) {
+        return no_operation(alloc, first, first_meant);
     }
-    let second_meant = operation_meant(alloc, second_word)?;
-    if second_meant.is_none() && first_meant.is_some() {
-        return no_operation(alloc, line, first, first_meant);
-    }
-    no_operation(alloc, line, second, second_meant)
+    no_operation(alloc, second, second_meant)
 }
 
 /// What may stand before this operand, at the end of a text; nothing where a word is no operand.
@@ -136,25 +116,19 @@ fn before_operand(operand: Token<'_>, has_colon: bool) -> Option<&'static str> {
     }
 }
 
-fn operand_behind(
-    alloc: Global,
-    line: &str,
-    first: Part<'_>,
-    second: Part<'_>,
-) -> Result<Remark, AllocError> {
-    let word = first.span.text_in(line);
-    let meant = first_meant(alloc, word)?;
+fn operand_behind(alloc: Global, first: Part<'_>, second: Part<'_>) -> Result<Remark, AllocError> {
+    let meant = first_meant(alloc, first.word)?;
     if meant.is_some() {
-        return no_operation(alloc, line, first, meant);
+        return no_operation(alloc, first, meant);
     }
-    let Some(as_which) = before_operand(second.token, word.ends_with(':')) else {
-        return no_operation(alloc, line, first, None);
+    let Some(as_which) = before_operand(second.token, first.word.ends_with(':')) else {
+        return no_operation(alloc, first, None);
     };
-    let shown = Excerpt(name_of(word));
+    let shown = Excerpt(name_of(first.word));
     let text = format!(in alloc;
         "behind the label {shown} stands an operation or a directive{as_which}"
     )?;
-    Ok(remark_on(second, text))
+    Ok(second.remark(text))
 }
 
 pub(crate) fn bad_operation(
@@ -162,28 +136,23 @@ pub(crate) fn bad_operation(
     source: &Source<'_>,
     place: Place<'_>,
 ) -> Result<Remark, AllocError> {
-    let line = place.line;
-    let bytes = line.as_bytes();
-    let Some(first) = part_at(bytes, 0) else {
-        return Ok(place.remark(String::new(alloc)));
-    };
-    match (first.token, part_at(bytes, 1)) {
+    let first = place.part;
+    match (first.token, place.parts.get(1)) {
         (Token::Word([b'.', ..]), _) | (Token::Word(_), None) => {
-            let meant = operation_meant(alloc, first.span.text_in(line).as_bytes())?;
-            no_operation(alloc, line, first, meant)
+            no_operation(alloc, first, operation_meant(alloc, first.word)?)
         }
         (Token::Word(_), Some(second)) => match second.token {
             Token::Word(word) if !is_number(word) && !is_register(word) => {
-                two_words(alloc, source, line, first, second)
+                two_words(alloc, source, first, *second)
             }
-            _ => operand_behind(alloc, line, first, second),
+            _ => operand_behind(alloc, first, *second),
         },
         _ => {
             let text = String::from_str(
                 alloc,
                 "a string begins no statement; here stands a label, an operation or a directive",
             )?;
-            Ok(remark_on(first, text))
+            Ok(first.remark(text))
         }
     }
 }

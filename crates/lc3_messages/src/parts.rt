@@ -1,46 +1,48 @@
 //! The tokens of a line with their places.
-use crate::message::Span;
-use lc3_asm::{Token, first_token, without_separators};
+use crate::message::{Remark, Span};
+use lc3_asm::{Token, first_token, token_operation, without_separators};
+use std::alloc::{AllocError, Global};
 
-/// A token of a line, and where it stands.
+/// A token of a line, where it stands and as what it is written.
 #[derive(Clone, Copy)]
 pub(crate) struct Part<'a> {
     pub token: Token<'a>,
     pub span: Span,
+    pub word: &'a str,
 }
 
-/// The token with this number, from 0, if there is one.
-pub(crate) fn part_at(line: &[u8], number: usize) -> Option<Part<'_>> {
-    let mut rest = line;
-    for _ in 0..number {
-        let (_, after) = first_token(rest)?;
-        rest = after;
+impl Part<'_> {
+    pub fn is_operation(&self) -> bool {
+        token_operation(self.token).is_some()
     }
-    let rest = without_separators(rest);
-    let (token, after) = first_token(rest)?;
-    Some(Part {
-        token,
-        span: Span {
+
+    pub fn remark(&self, text: String) -> Remark {
+        Remark {
+            mark: Some(self.span),
+            text,
+        }
+    }
+}
+
+pub(crate) fn parts_of(alloc: Global, line: &str) -> Result<Vec<Part<'_>>, AllocError> {
+    let mut parts = Vec::new(alloc);
+    let mut rest = without_separators(line.as_bytes());
+    while let Some((token, after)) = first_token(rest) {
+        let span = Span {
             start: line.len().saturating_sub(rest.len()),
             end: line.len().saturating_sub(after.len()),
-        },
-    })
-}
-
-pub(crate) fn part_count(line: &[u8]) -> usize {
-    let mut rest = line;
-    let mut count = 0_usize;
-    while let Some((_, after)) = first_token(rest) {
-        rest = after;
-        count = count.saturating_add(1);
+        };
+        let word = span.text_in(line);
+        parts.push(Part { token, span, word })?;
+        rest = without_separators(after);
     }
-    count
+    Ok(parts)
 }
 
-/// The text of the token with this number, from 0.
-pub(crate) fn word_at(line: &str, number: usize) -> &str {
-    match part_at(line.as_bytes(), number) {
-        Some(part) => part.span.text_in(line),
-        None => "",
+/// The number of the operation among the tokens of a line, from 0: 1 behind a label, else 0.
+pub(crate) fn operation_number(parts: &[Part<'_>]) -> usize {
+    match parts {
+        [first, second, ..] if !first.is_operation() && second.is_operation() => 1,
+        _ => 0,
     }
 }

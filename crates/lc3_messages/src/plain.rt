@@ -1,13 +1,8 @@
 //! Characters that can't stand in a word.
 use crate::characters::{Number, is_dash, is_other_blank, is_typographic_quote};
 use crate::message::{Remark, Span};
+use crate::texts::Place;
 use std::alloc::{AllocError, Global};
-
-fn bad_character(line: &str, mark: Span) -> Option<(usize, char)> {
-    line.char_indices().find(|(i, character)| mark.start <= *i
-        && *i < mark.end
-        && !matches!(*character, '!'..='~'))
-}
 
 /// What is said of a character that can't stand in a word, before its number and behind it.
 fn around_number(character: char, is_first: bool) -> (&'static str, &'static str) {
@@ -36,19 +31,20 @@ fn around_number(character: char, is_first: bool) -> (&'static str, &'static str
     }
 }
 
-pub(crate) fn bad_token(
-    alloc: Global,
-    line: &str,
-    number: usize,
-    word: Span,
-) -> Result<Remark, AllocError> {
-    let (at, character) = bad_character(line, word).unwrap_or((word.start, ' '));
-    let (before, behind) = around_number(character, number == 1 && at == 0);
+pub(crate) fn bad_token(alloc: Global, place: Place<'_>) -> Result<Remark, AllocError> {
+    let (at, character) = place
+        .part
+        .word
+        .char_indices()
+        .find(|(_, character)| !matches!(*character, '!'..='~'))
+        .unwrap_or((0, ' '));
+    let start = place.part.span.start.saturating_add(at);
+    let (before, behind) = around_number(character, place.number == 1 && start == 0);
     let shown = Number(character);
     Ok(Remark {
         mark: Some(Span {
-            start: at,
-            end: at.saturating_add(character.len_utf8()),
+            start,
+            end: start.saturating_add(character.len_utf8()),
         }),
         text: format!(in alloc; "{before}{shown}{behind}")?,
     })

@@ -1,56 +1,34 @@
 //! Labels that no line defines, or that are too far away.
 use crate::characters::{Excerpt, Grouped};
-use crate::message::Remark;
 use crate::texts::{Place, Source};
 use crate::words::{did_you_mean, upper};
-use lc3_spelling::suggestion;
 use lc3_table::Form;
 use std::alloc::{AllocError, Global};
-
-/// What is said of a label that no line defines, and that may have been meant as one of these names.
-fn unknown_label(
-    alloc: Global,
-    names: &[&str],
-    name: &str,
-    word: &str,
-) -> Result<String, AllocError> {
-    let meant = suggestion(alloc, name, names)?;
-    let meant = meant.and_then(|place| names.get(place).copied());
-    let mean = did_you_mean(alloc, meant)?;
-    let shown = Excerpt(word);
-    format!(in alloc; "no line defines the label {shown}{mean}")
-}
-
-/// What is said of a label that no line before `.END` defines.
-fn undefined_text(alloc: Global, source: &Source<'_>, word: &str) -> Result<String, AllocError> {
-    let name = upper(alloc, word.as_bytes())?;
-    match source.labels.line_behind(&name) {
-        Some(line) => {
-            let shown = Excerpt(word);
-            format!(in alloc;
-                "no line before .END defines the label {shown}; line {line} behind it does"
-            )
-        }
-        None => unknown_label(alloc, source.names, &name, word),
-    }
-}
 
 pub(crate) fn undefined(
     alloc: Global,
     source: &Source<'_>,
     place: Place<'_>,
-) -> Result<Remark, AllocError> {
-    Ok(place.remark(undefined_text(alloc, source, place.word())?))
+) -> Result<String, AllocError> {
+    let word = place.part.word;
+    let shown = Excerpt(word);
+    let name = upper(alloc, word.as_bytes())?;
+    if let Some(line) = source.labels.behind.get(name.as_str()) {
+        return format!(in alloc;
+            "no line before .END defines the label {shown}; line {line} behind it does"
+        );
+    }
+    let mean = did_you_mean(alloc, source.labels.name_meant(alloc, word)?)?;
+    format!(in alloc; "no line defines the label {shown}{mean}")
 }
 
 pub(crate) fn offset_range(
     alloc: Global,
     source: &Source<'_>,
     place: Place<'_>,
-) -> Result<Remark, AllocError> {
-    let word = place.word();
-    let shown = Excerpt(word);
-    let name = upper(alloc, word.as_bytes())?;
+) -> Result<String, AllocError> {
+    let shown = Excerpt(place.part.word);
+    let name = upper(alloc, place.part.word.as_bytes())?;
     let target = source.reader.symbols().value(&name).unwrap_or(0);
     let places = source.reader.places();
     let address = places
@@ -62,8 +40,7 @@ pub(crate) fn offset_range(
         Form::FarTarget => "from -1,024 to 1,023",
         _ => "from -256 to 255",
     };
-    let text = format!(in alloc;
+    format!(in alloc;
         "the label {shown} is too far away: its offset is {offset}, and here it is {bounds}"
-    )?;
-    Ok(place.remark(text))
+    )
 }

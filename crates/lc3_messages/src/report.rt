@@ -12,7 +12,7 @@ use crate::message::{Kind, Message, Span, message_on};
 use crate::texts::{Source, line_at, remark};
 use crate::told::{Finding, What, error_count, findings};
 use crate::warned::warning_remark;
-use lc3_asm::{Reader, faults_of, reading};
+use lc3_asm::{faults_of, reading};
 use lc3_table::Profile;
 use std::alloc::{AllocError, Global};
 use std::fmt::Write;
@@ -197,30 +197,6 @@ fn source_report(
     report_of(alloc, file, source, &findings)
 }
 
-fn lines_report(
-    alloc: Global,
-    file: &str,
-    content: &str,
-    lines: &[&str],
-    reader: &Reader,
-    wish: Wish<'_>,
-) -> Result<Report, AllocError>
-    requires read { reader.now ≡ reading content.now }
-    ensures errors { IfOk result (λ r. (r.errors ≡ 0) ↔ IsTrue (is_accepted content.now)) }
-    ensures warnings { IfOk result (λ r. r.warnings ≡ length (told_warnings wish.entry.profile
-        (map (λ name. name.now) wish.entry.allowed.now) content.now)) }
-{
-    let labels = labels_of(alloc, lines, reader)?;
-    let names = labels.names(alloc)?;
-    let source = Source {
-        lines,
-        reader,
-        labels: &labels,
-        names: &names,
-    };
-    source_report(alloc, file, content, &source, wish)
-}
-
 fn text_report(
     alloc: Global,
     file: &str,
@@ -233,7 +209,13 @@ fn text_report(
 {
     let lines = lines_of(alloc, content)?;
     let reader = reading(alloc, content)?;
-    lines_report(alloc, file, content, &lines, &reader, wish)
+    let labels = labels_of(alloc, &lines, &reader)?;
+    let source = Source {
+        lines: &lines,
+        reader: &reader,
+        labels: &labels,
+    };
+    source_report(alloc, file, content, &source, wish)
 }
 
 fn no_utf8(alloc: Global, bytes: &[u8], first: Option<&u8>) -> Result<String, AllocError> {

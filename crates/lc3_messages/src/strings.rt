@@ -1,6 +1,8 @@
 //! Strings without an end, and what can't stand in one.
 use crate::characters::{Number, is_typographic_quote, picture};
 use crate::message::{Remark, Span};
+use crate::parts::Part;
+use lc3_asm::Token;
 use std::alloc::{AllocError, Global};
 
 /// What is bad in a string.
@@ -42,20 +44,6 @@ fn first_bad(text: &str) -> Option<(usize, Bad)> {
     None
 }
 
-fn is_closed(text: &str) -> bool {
-    let mut is_escaped = false;
-    for character in text.chars().skip(1) {
-        if is_escaped {
-            is_escaped = false;
-        } else if character == '"' {
-            return true;
-        } else {
-            is_escaped = character == '\\';
-        }
-    }
-    false
-}
-
 fn unclosed(alloc: Global, text: &str) -> Result<String, AllocError> {
     match text
         .chars()
@@ -86,18 +74,14 @@ fn unfit(alloc: Global, bad: Bad) -> Result<String, AllocError> {
     }
 }
 
-pub(crate) fn bad_string(alloc: Global, line: &str, string: Span) -> Result<Remark, AllocError> {
-    let text = string.text_in(line);
-    if !is_closed(text) {
-        return Ok(Remark {
-            mark: Some(string),
-            text: unclosed(alloc, text)?,
-        });
-    }
-    let inside = string.start.saturating_add(1);
-    let content = line.get(inside..string.end.saturating_sub(1)).unwrap_or("");
+pub(crate) fn bad_string(alloc: Global, part: Part<'_>) -> Result<Remark, AllocError> {
+    let Token::Quoted(_) = part.token else {
+        return Ok(part.remark(unclosed(alloc, part.word)?));
+    };
+    let end = part.word.len().saturating_sub(1);
+    let content = part.word.get(1..end).unwrap_or("");
     let (place, bad) = first_bad(content).unwrap_or((0, Bad::Character('"')));
-    let start = inside.saturating_add(place);
+    let start = part.span.start.saturating_add(place).saturating_add(1);
     Ok(Remark {
         mark: Some(Span {
             start,

@@ -1,14 +1,16 @@
 //! What is said of a fault.
 use crate::characters::Excerpt;
+use crate::faulty::{Faulty, faulty_part};
 use crate::labels::Labels;
-use crate::message::{Remark, Span};
+use crate::message::Remark;
 use crate::operands::{bad_number, bad_operands, range};
-use crate::operations::{bad_label, bad_operation};
+use crate::operations::{bad_label, bad_operation, name_of};
+use crate::parts::{Part, parts_of};
 use crate::plain::bad_token;
 use crate::references::{offset_range, undefined};
 use crate::strings::bad_string;
 use crate::words::upper;
-use lc3_asm::{AsmFault, LineFault, Mark, Reader, fault_mark, without_colon};
+use lc3_asm::{LineFault, Reader};
 use lc3_table::{Fault, Form};
 use std::alloc::{AllocError, Global};
 
@@ -18,49 +20,25 @@ pub(crate) struct Source<'a> {
     pub lines: &'a [&'a str],
     pub reader: &'a Reader,
     pub labels: &'a Labels,
-    /// The labels that lines define, in upper case and in their order.
-    pub names: &'a [&'a str],
 }
 
-/// A line with a fault, and where the assembler has it.
+/// Where a line has its fault.
 #[derive(Clone, Copy)]
 pub(crate) struct Place<'a> {
-    /// Its number, from 1.
+    /// The number of the line, from 1.
     pub number: usize,
-    pub line: &'a str,
+    pub parts: &'a [Part<'a>],
+    /// The number of the token with the fault, from 0.
+    pub at: usize,
     /// The token with the fault.
-    pub mark: Span,
+    pub part: Part<'a>,
     /// What could stand there as operands: of an operand one form, of an operation those of all its operands.
     pub forms: &'static [Form],
 }
 
-impl<'a> Place<'a> {
-    pub fn word(&self) -> &'a str {
-        self.mark.text_in(self.line)
-    }
-
-    pub fn remark(&self, text: String) -> Remark {
-        Remark {
-            mark: Some(self.mark),
-            text,
-        }
-    }
-
+impl Place<'_> {
     pub fn form(&self) -> Form {
         self.forms.first().copied().unwrap_or(Form::Characters)
-    }
-}
-
-/// Where a line has a fault of this kind, and what could stand there as operands.
-fn mark_of(
-    alloc: Global,
-    line: &str,
-    kind: Fault,
-) -> Result<Option<(Span, &'static [Form])>, AllocError> {
-    match fault_mark(alloc, line.as_bytes(), kind) {
-        Ok(Some(Mark { start, end, forms })) => Ok(Some((Span { start, end }, forms))),
-        Ok(None) => Ok(None),
-        Err(AsmFault::NoMemory | AsmFault::At { .. }) => Err(AllocError),
     }
 }
 
@@ -73,17 +51,15 @@ pub(crate) fn line_at<'a>(source: &Source<'a>, number: usize) -> &'a str {
         .unwrap_or("")
 }
 
-/// The token of a line at which the assembler has its fault.
+/// The token of a line at which it has its fault.
 pub(crate) fn word_at_fault<'a>(
     alloc: Global,
     source: &Source<'a>,
     fault: LineFault,
 ) -> Result<&'a str, AllocError> {
-    let line = line_at(source, fault.line);
-    match mark_of(alloc, line, fault.kind)? {
-        Some((mark, _)) => Ok(mark.text_in(line)),
-        None => Ok(""),
-    }
+    let parts = parts_of(alloc, line_at(source, fault.line))?;
+    let at = faulty_part(alloc, &parts, fault.kind)?.number;
+    Ok(parts.get(at).map_or("", |part| part.word))
 }
 
 fn no_statement(alloc: Global) -> Result<Remark, AllocError> {
@@ -100,28 +76,26 @@ fn duplicate_label(
     alloc: Global,
     source: &Source<'_>,
     place: Place<'_>,
-) -> Result<Remark, AllocError> {
-    let word = place.word();
-    let bytes = without_colon(word.as_bytes());
-    let name = upper(alloc, bytes)?;
-    let line = source.labels.definition(&name).unwrap_or(1);
-    let shown = Excerpt(word.get(..bytes.len()).unwrap_or(word));
-    Ok(place.remark(format!(in alloc; "line {line} defines the label {shown} already")?))
+) -> Result<String, AllocError> {
+    let name = name_of(place.part.word);
+    let shown = Excerpt(name);
+    let name = upper(alloc, name.as_bytes())?;
+    let line = source
+        .labels
+        .definitions
+        .get(name.as_str())
+        .copied()
+        .unwrap_or(1);
+    format!(in alloc; "line {line} defines the label {shown} already")
 }
 
-fn plainly(alloc: Global, place: Place<'_>, text: &str) -> Result<Remark, AllocError> {
-    let text = String::from_str(alloc, text)?;
-    Ok(place.remark(text))
-}
-
-fn second_origin(alloc: Global, reader: &Reader, place: Place<'_>) -> Result<Remark, AllocError> {
+fn second_origin(alloc: Global, reader: &Reader) -> Result<String, AllocError> {
     let origin = reader
         .lines()
         .iter()
         .position(|line| line.origin().is_some());
     let line = origin.unwrap_or(0).saturating_add(1);
-    let text = format!(in alloc; "a source has one .ORIG, the one of line {line}")?;
-    Ok(place.remark(text))
+    format!(in alloc; "a source has one .ORIG, the one of line {line}")
 }
 
 fn remark_at(
@@ -130,29 +104,28 @@ fn remark_at(
     place: Place<'_>,
     kind: Fault,
 ) -> Result<Remark, AllocError> {
-    match kind {
-        Fault::NoOrig => plainly(
+    let text = match kind {
+        Fault::BadToken => return bad_token(alloc, place),
+        Fault::BadString => return bad_string(alloc, place.part),
+        Fault::BadOperation => return bad_operation(alloc, source, place),
+        Fault::NoOrig => String::from_str(
             alloc,
-            place,
             "the first statement has to be .ORIG with the address of the first word, as .ORIG x3000",
         ),
-        Fault::SecondOrig => second_origin(alloc, source.reader, place),
-        Fault::TooLong => plainly(
+        Fault::SecondOrig => second_origin(alloc, source.reader),
+        Fault::TooLong => String::from_str(
             alloc,
-            place,
             "the words up to here go beyond xFE00, where the device registers begin",
         ),
-        Fault::BadToken => bad_token(alloc, place.line, place.number, place.mark),
-        Fault::BadString => bad_string(alloc, place.line, place.mark),
         Fault::BadLabel => bad_label(alloc, place),
-        Fault::BadOperation => bad_operation(alloc, source, place),
         Fault::BadOperands => bad_operands(alloc, place),
         Fault::BadNumber => bad_number(alloc, place),
         Fault::Range => range(alloc, place),
         Fault::DuplicateLabel => duplicate_label(alloc, source, place),
         Fault::Undefined => undefined(alloc, source, place),
         Fault::OffsetRange => offset_range(alloc, source, place),
-    }
+    };
+    Ok(place.part.remark(text?))
 }
 
 /// What is said of a fault of this kind in the line with this number, from 1.
@@ -162,17 +135,19 @@ pub(crate) fn remark(
     number: usize,
     kind: Fault,
 ) -> Result<Remark, AllocError> {
-    let line = line_at(source, number);
     if kind == Fault::NoOrig && !source.reader.started() && source.reader.faults().is_empty() {
         return no_statement(alloc);
     }
-    let Some((mark, forms)) = mark_of(alloc, line, kind)? else {
+    let parts = parts_of(alloc, line_at(source, number))?;
+    let Faulty { number: at, forms } = faulty_part(alloc, &parts, kind)?;
+    let Some(part) = parts.get(at).copied() else {
         return no_statement(alloc);
     };
     let place = Place {
         number,
-        line,
-        mark,
+        parts: &parts,
+        at,
+        part,
         forms,
     };
     remark_at(alloc, source, place, kind)

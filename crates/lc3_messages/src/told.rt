@@ -52,9 +52,9 @@ fn may_follow(alloc: Global, source: &Source<'_>, fault: LineFault) -> Result<bo
     let word = word_at_fault(alloc, source, fault)?;
     let name = upper(alloc, without_colon(word.as_bytes()))?;
     if fault.kind == Fault::Undefined {
-        Ok(source.labels.is_meant(&name))
+        Ok(source.labels.meant.contains_key(name.as_str()))
     } else {
-        Ok(source.labels.definition(&name) == Some(fault.line))
+        Ok(source.labels.definitions.get(name.as_str()).copied() == Some(fault.line))
     }
 }
 
