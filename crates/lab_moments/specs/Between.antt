@@ -1,8 +1,6 @@
 -- The steps between two lines of the trace: of each process those since the last line, of whichever process.
-use Rattle.std.specs.Prelude.{ℕ, ◌+◌, ◌==◌, ◌&&◌, Bool, if◌then◌else◌, List, [], ◌∷◌, length, replicate, is_some, slice_index_or, slice_set}
+use Rattle.std.specs.Prelude.{ℕ, ◌+◌, ◌==◌, ◌&&◌, Bool, if◌then◌else◌, List, [], ◌∷◌, length, replicate, slice_index_or, slice_set}
 use Rattle.serde_json.specs.Data.{Data}
-use Rattle.lab_told.specs.Scenes.{Scene}
-use Rattle.lab_told.specs.Tallies.{account_of}
 use Rattle.lab_told.specs.declared.told.Told.{Told}
 use Rattle.lab_told.specs.declared.told.Told.TheVariants.{Nothing, Counted, Shown}
 use Rattle.lab_moments.specs.Values.{list, natural, all_below}
@@ -33,10 +31,6 @@ abbrev pub between_after : ℕ → ℕ → Bool → Told → List StepCount → 
 between_after n p waits Nothing b = slice_set b p (with_steps 0 (idle_of n waits) (count_of b p))
 between_after n p waits Counted b = slice_set b p (with_steps n 0 (count_of b p))
 between_after n p waits (Shown e) b = none_between (length b)
-
--- whether process p waits before the next step of a scene
-abbrev pub waits_at : Scene → ℕ → Bool
-waits_at s p = is_some (account_of s.tally p).since
 
 -- the steps of process p, where there are any
 abbrev pub count_data : ℕ → StepCount → List Data

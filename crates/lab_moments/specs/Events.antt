@@ -2,10 +2,11 @@
 use Rattle.std.specs.Prelude.{ℕ, Bool, true, false, if◌then◌else◌, Option, Some, List, [], ◌∷◌, codes}
 use Rattle.std.specs.Option.{option_map}
 use Rattle.serde_json.specs.Data.{Data, null, string}
+use Rattle.ipc_errors.specs.Names.{error_name}
 use Rattle.ipc_kernel.specs.declared.call.Reply.TheVariants.{Message}
 use Rattle.lab_sched.specs.Worlds.{WorldState}
 use Rattle.lab_texts.specs.Texts.{how_text}
-use Rattle.lab_trace.specs.Outcomes.{error_name, outcome_text}
+use Rattle.lab_trace.specs.Outcomes.{outcome_text}
 use Rattle.lab_told.specs.Answers.{result_in}
 use Rattle.lab_trace.specs.Forms.{Form}
 use Rattle.lab_trace.specs.Lines.{columns, act_text}

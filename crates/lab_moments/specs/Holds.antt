@@ -7,12 +7,10 @@ use Rattle.ipc_kernel.specs.Kernel.{KernelState}
 use Rattle.ipc_kernel.specs.Places.{place_at, semaphore_value}
 use Rattle.ipc_traps.specs.declared.service.Service.{Service}
 use Rattle.ipc_traps.specs.declared.service.Service.TheVariants.{SemWait, SemTrywait, SemPost}
+use Rattle.lab_told.specs.Answers.{act_done}
 use Rattle.lab_told.specs.Tallies.{TallyState}
 use Rattle.lab_told.specs.Units.{units_of, balance}
-use Rattle.lab_told.specs.declared.answers.Outcome.{Outcome}
-use Rattle.lab_told.specs.declared.answers.Outcome.TheVariants.{Replied}
 use Rattle.lab_told.specs.declared.told.Act.{Act}
-use Rattle.lab_told.specs.declared.told.Act.TheVariants.{Calls}
 use Rattle.lab_moments.specs.Changes.{known_at, made_with}
 use Rattle.lab_moments.specs.Values.{list, natural}
 use Rattle.lab_moments.specs.declared.known.Known.{Known}
@@ -21,16 +19,6 @@ use Rattle.lab_moments.specs.declared.holds.Hold.{Hold}
 -- whether a unit is of the semaphore in a place, and process p has taken it
 abbrev pub is_hold_of : ℕ → ℕ → Hold → Bool
 is_hold_of place p h = (h.place == place) && (h.pid == p)
-
--- a call on the object in a place, where it was answered and not refused
-abbrev pub answered_by : Outcome → Service → Option ℕ → Option (Service × ℕ)
-answered_by (Replied reply) s (Some place) = Some (s, place)
-answered_by outcome s place = None
-
--- the call that a process made on an object, and the place of that, where it was answered and not refused
-abbrev pub answered : Act → Option (Service × ℕ)
-answered (Calls c) = answered_by c.outcome c.service c.place
-answered other = None
 
 -- the last unit that process p took of the semaphore in a place, where it gives one back
 abbrev pub given_to : ℕ → ℕ → Service → List Hold → Option Hold
@@ -76,15 +64,15 @@ is_over k given h = not (is_kept k given h)
 
 -- the units that don't stay taken after what process p did; k is the kernel after it
 abbrev pub holds_over : KernelState → ℕ → Act → List Hold → List Hold
-holds_over k p act hs = filter (is_over k (given_by p (answered act) hs)) hs
+holds_over k p act hs = filter (is_over k (given_by p (act_done act) hs)) hs
 
 -- the units that stay taken
 abbrev pub holds_kept : KernelState → ℕ → Act → List Hold → List Hold
-holds_kept k p act hs = filter (is_kept k (given_by p (answered act) hs)) hs
+holds_kept k p act hs = filter (is_kept k (given_by p (act_done act) hs)) hs
 
 -- the units that are taken after what process p did in step n; k and t are the kernel and the tally after it
 abbrev pub holds_after : KernelState → TallyState → ℕ → ℕ → Act → List (Option Known) → List Hold → List Hold
-holds_after k t n p act ks hs = taken_by n p (answered act) t ks ++ holds_kept k p act hs
+holds_after k t n p act ks hs = taken_by n p (act_done act) t ks ++ holds_kept k p act hs
 
 -- a unit: its process, and the step in which that took it
 abbrev pub hold_data : Hold → Data

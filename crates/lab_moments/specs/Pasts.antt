@@ -2,6 +2,7 @@
 use Rattle.std.specs.Prelude.{ℕ, ◌==◌, not, Bool, Option, Some, None, List, [], ◌∷◌, ◌++◌, length}
 use Rattle.std.specs.List.{filter}
 use Rattle.lab_sched.specs.Worlds.{WorldState}
+use Rattle.lab_told.specs.Answers.{act_done}
 use Rattle.lab_told.specs.Tallies.{TallyState}
 use Rattle.lab_told.specs.declared.origins.Origin.{Origin}
 use Rattle.lab_told.specs.declared.told.Act.{Act}
@@ -12,7 +13,7 @@ use Rattle.ipc_traps.specs.declared.service.Service.{Service}
 use Rattle.ipc_traps.specs.declared.service.Service.TheVariants.{MqSend}
 use Rattle.lab_moments.specs.Between.{none_between, between_after}
 use Rattle.lab_moments.specs.Changes.{none_known, known_after}
-use Rattle.lab_moments.specs.Holds.{answered, holds_after}
+use Rattle.lab_moments.specs.Holds.{holds_after}
 use Rattle.lab_moments.specs.declared.between.StepCount.{StepCount}
 use Rattle.lab_moments.specs.declared.known.Known.{Known}
 use Rattle.lab_moments.specs.declared.holds.Hold.{Hold}
@@ -51,7 +52,7 @@ received_by other = None
 
 -- the messages that nobody has received after what a process did in step n
 abbrev pub unreceived_after : ℕ → Act → List ℕ → List ℕ
-unreceived_after n act ms = unreceived_without (received_by act) ms ++ sent_by n (answered act)
+unreceived_after n act ms = unreceived_without (received_by act) ms ++ sent_by n (act_done act)
 
 -- after what process p did in step n, by the world and the tally after it
 abbrev pub past_with : ℕ → ℕ → WorldState → TallyState → Act → Past → Past

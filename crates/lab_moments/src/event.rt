@@ -4,20 +4,20 @@ ghost use Rattle.std.specs.Option.{option_map};
 ghost use Rattle.serde_json.specs.View.{view};
 ghost use Rattle.lab_trace.specs.Outcomes.{outcome_text};
 ghost use Rattle.lab_moments.specs.Values.{natural, naturals, or_null};
-ghost use Rattle.lab_moments.specs.Events.{outcome_data, words_of, called_data, act_data, is_arranging, tells_open, open_told, event_data};
+ghost use Rattle.lab_moments.specs.Events.{outcome_data, words_of, called_data, act_data, is_arranging, open_told, event_data};
 
 use crate::holds::over_value;
+use crate::known::objects_told;
 use crate::open::open_value;
 use crate::past::Past;
 use crate::values::{bytes_value, words_value};
+use ipc_errors::error_name;
 use ipc_kernel::Reply;
 use ipc_traps::Service;
 use lab_sched::World;
 use lab_texts::how_name;
-use lab_trace::{
-    Act, Called, Event, Form, Origin, Outcome, Tally, columns_text, error_name, event_text,
-    push_outcome, result_in,
-};
+use lab_told::{Act, Called, Event, Origin, Outcome, Taken, result_in};
+use lab_trace::{Form, columns_text, event_text, push_outcome};
 use serde_json::{Value, json};
 use std::alloc::{AllocError, Global};
 
@@ -81,8 +81,7 @@ fn answer_text(alloc: Global, outcome: &Outcome) -> Result<String, AllocError>
 fn called_value(alloc: Global, call: &Called) -> Result<Value, AllocError>
     ensures value { IfOk result (λ v. view v ≡ called_data call.now) }
 {
-    let name = call.service.name();
-    let object = call.object.as_str();
+    let (name, object) = (call.service.name(), call.object.as_str());
     json!(in alloc; [
         "call",
         name,
@@ -117,53 +116,39 @@ fn is_arranging(service: Service) -> bool
     !service.is_on_level() && !matches!(service, Service::MqGetattr | Service::SemGetvalue)
 }
 
-/// Whether it is told what the process has open behind what it did.
-fn tells_open(act: &Act) -> bool
-    ensures value { result ≡ tells_open act.now }
-{
-    match act {
-        Act::Calls(call) => is_arranging(call.service),
-        Act::Writes(_) => false,
-        Act::Ends(_) => true,
-    }
-}
-
 /// What process `pid` has open, where it is told behind what it did.
 #[tactic(auto, unfolding(crate::specs::Events::open_told))]
 fn open_told(alloc: Global, world: &World, pid: usize, act: &Act) -> Result<Value, AllocError>
     requires process { pid < length world.now.processes }
     ensures value { IfOk result (λ v. view v ≡ open_told world.now pid act.now) }
 {
-    if tells_open(act) {
-        open_value(alloc, world, pid)
-    } else {
-        Ok(Value::Null)
+    match act {
+        Act::Calls(call) if !is_arranging(call.service) => Ok(Value::Null),
+        Act::Writes(_) => Ok(Value::Null),
+        Act::Calls(_) | Act::Ends(_) => open_value(alloc, world, pid),
     }
 }
 
-/// The event of process `pid` in step `number`, by the world and the tally after it, and by what was kept of the steps before it.
+/// The event of a step, by what was kept of the steps before it.
 #[tactic(auto, unfolding(crate::specs::Events::event_data))]
 pub fn event_value(
     alloc: Global,
-    world: &World,
-    tally: &Tally,
+    taken: &Taken<'_>,
     past: &Past,
     form: &Form<'_>,
-    number: u32,
-    pid: usize,
     event: &Event,
 ) -> Result<Value, AllocError>
-    requires process { pid < length world.now.processes }
-    ensures value { IfOk result (λ v. view v
-        ≡ event_data form.now number pid event.now world.now tally.now past.now) }
+    requires process { taken.now.pid < length taken.now.world.now.processes }
+    ensures value { IfOk result (λ v. view v ≡ event_data form.now taken.now.number taken.now.pid
+        event.now taken.now.world.now taken.now.tally.now past.now) }
 {
     json!(in alloc; [
         event.pc,
-        columns_text(alloc, form, number, pid, event)?,
+        columns_text(alloc, form, taken.number, taken.pid, event)?,
         event_text(alloc, event)?,
         act_value(alloc, &event.act)?,
-        past.objects.told(alloc, world, tally, pid, &event.act)?,
-        open_told(alloc, world, pid, &event.act)?,
-        over_value(alloc, world.kernel(), pid, &event.act, &past.holds)?
+        objects_told(alloc, &past.objects, taken, &event.act)?,
+        open_told(alloc, taken.world, taken.pid, &event.act)?,
+        over_value(alloc, taken.world.kernel(), taken.pid, &event.act, &past.holds)?
     ])
 }

@@ -3,12 +3,13 @@ ghost use Rattle.std.specs.Prelude.{◌≡◌, [], IfOk, OnOk, map};
 ghost use Rattle.std.specs.List.{find, filter};
 ghost use Rattle.std.specs.Option.{option_map, option_to_list};
 ghost use Rattle.serde_json.specs.View.{view};
-ghost use Rattle.lab_moments.specs.Holds.{answered, given_by, has_taken, hold_data, holds_after, holds_data, holds_over, is_hold_of, is_kept, is_other, is_over, taken_by};
+ghost use Rattle.lab_told.specs.Answers.{act_done};
+ghost use Rattle.lab_moments.specs.Holds.{given_by, has_taken, holds_after, holds_data, holds_over, is_hold_of, is_kept, is_over, taken_by};
 
-use crate::known::KnownObjects;
+use crate::known::{Known, made_with};
 use ipc_kernel::Kernel;
 use ipc_traps::Service;
-use lab_trace::{Act, Outcome, Tally};
+use lab_told::{Act, Taken, Tally};
 use serde_json::{Value, json};
 use std::alloc::{AllocError, Global};
 
@@ -21,19 +22,6 @@ pub struct Hold {
     pub place: u8,
     /// The step in which the process took it.
     pub step: u32,
-}
-
-/// The call that a process made on an object, and the place of that, where it was answered and not refused.
-pub fn answered(act: &Act) -> Option<(Service, u8)>
-    ensures call { result ≡ answered act.now }
-{
-    let Act::Calls(call) = act else {
-        return None;
-    };
-    match (&call.outcome, call.place) {
-        (Outcome::Replied(_), Some(place)) => Some((call.service, place)),
-        _ => None,
-    }
 }
 
 fn is_hold_of(hold: &Hold, place: u8, pid: usize) -> bool
@@ -53,40 +41,36 @@ fn last_hold(holds: &[Hold], place: u8, pid: usize) -> Option<Hold>
 
 /// The unit that process `pid` gives back by what it does.
 fn given_by(holds: &[Hold], pid: usize, act: &Act) -> Option<Hold>
-    ensures hold { result ≡ given_by pid (answered act.now) holds.now }
+    ensures hold { result ≡ given_by pid (act_done act.now) holds.now }
 {
-    match answered(act) {
+    match act.done() {
         Some((Service::SemPost, place)) => last_hold(holds, place, pid),
         _ => None,
     }
 }
 
 /// Whether process `pid` has taken more units than it gave, of a semaphore that wasn't made with the value 0.
-fn has_taken(tally: &Tally, objects: &KnownObjects, pid: usize, place: u8) -> bool
+fn has_taken(tally: &Tally, objects: &[Option<Known>], pid: usize, place: u8) -> bool
     ensures value { result ≡ has_taken pid place tally.now objects.now }
 {
-    objects.made_with(place) > 0 && tally.balance(place, pid) > 0
+    made_with(objects, place) > 0 && tally.balance(place, pid) > 0
 }
 
 /// The unit that process `pid` took by what it did in step `step`, by the tally after it.
-fn taken_by(tally: &Tally, objects: &KnownObjects, step: u32, pid: usize, act: &Act) -> Option<Hold>
+fn taken_by(
+    tally: &Tally,
+    objects: &[Option<Known>],
+    step: u32,
+    pid: usize,
+    act: &Act,
+) -> Option<Hold>
     ensures hold { option_to_list result
-        ≡ taken_by step pid (answered act.now) tally.now objects.now }
+        ≡ taken_by step pid (act_done act.now) tally.now objects.now }
 {
-    match answered(act) {
+    match act.done() {
         Some((Service::SemWait | Service::SemTrywait, place))
             if has_taken(tally, objects, pid, place) => { Some(Hold { pid, place, step }) }
         _ => None,
-    }
-}
-
-/// Whether a unit is another than this one.
-fn is_other(given: Option<Hold>, hold: Hold) -> bool
-    ensures value { result ≡ is_other given hold }
-{
-    match given {
-        Some(given) => given.step != hold.step,
-        None => true,
     }
 }
 
@@ -94,7 +78,8 @@ fn is_other(given: Option<Hold>, hold: Hold) -> bool
 fn is_kept(kernel: &Kernel, given: Option<Hold>, hold: Hold) -> bool
     ensures value { result ≡ is_kept kernel.now given hold }
 {
-    is_other(given, hold) && kernel.semaphore_at(hold.place).is_some()
+    let is_given = matches!(given, Some(given) if given.step == hold.step);
+    !is_given && kernel.semaphore_at(hold.place).is_some()
 }
 
 /// The units that don't stay taken.
@@ -121,41 +106,31 @@ fn drop_over(holds: &mut Vec<Hold>, kernel: &Kernel, given: Option<Hold>)
     holds.retain(|hold| is_kept(kernel, given, *hold));
 }
 
-fn hold_value(alloc: Global, hold: &Hold) -> Result<Value, AllocError>
-    ensures value { IfOk result (λ v. view v ≡ hold_data hold.now) }
-{
-    let (pid, step) = (hold.pid, hold.step);
-    json!(in alloc; [pid, step])
-}
-
 /// Units, one by one.
 pub fn holds_value(alloc: Global, holds: &[Hold]) -> Result<Value, AllocError>
     ensures value { IfOk result (λ v. view v ≡ holds_data holds.now) }
 {
     let mut values = Vec::new(alloc);
     for hold in holds {
-        values.push(hold_value(alloc, hold)?)?;
+        values.push(json!(in alloc; [hold.pid, hold.step])?)?;
     }
     Ok(Value::Array(values))
 }
 
-/// Keeps what process `pid` did in step `step` among the units that are taken, the last one first, by the kernel and the tally after
-/// it.
+/// Keeps what a process did in a step among the units that are taken, the last one first.
 pub fn keep_holds(
     holds: &mut Vec<Hold>,
-    kernel: &Kernel,
-    tally: &Tally,
-    objects: &KnownObjects,
-    step: u32,
-    pid: usize,
+    taken: &Taken<'_>,
+    objects: &[Option<Known>],
     act: &Act,
 ) -> Result<(), AllocError>
     ensures kept { OnOk result (holds.new.items
-        ≡ holds_after kernel.now tally.now step pid act.now objects.now holds.old.items) }
+        ≡ holds_after taken.now.world.now.kernel taken.now.tally.now taken.now.number
+        taken.now.pid act.now objects.now holds.old.items) }
 {
-    let given = given_by(holds, pid, act);
-    drop_over(holds, kernel, given);
-    if let Some(hold) = taken_by(tally, objects, step, pid, act) {
+    let given = given_by(holds, taken.pid, act);
+    drop_over(holds, taken.world.kernel(), given);
+    if let Some(hold) = taken_by(taken.tally, objects, taken.number, taken.pid, act) {
         holds.insert(0, hold)?;
     }
     Ok(())

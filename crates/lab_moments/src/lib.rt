@@ -15,11 +15,11 @@ mod state;
 mod values;
 mod waits;
 
-pub use between::{Between, StepCount};
+pub use between::{StepCount, between_value};
 pub use circles::circles_value;
 pub use event::act_value;
 pub use holds::{Hold, holds_value};
-pub use known::{Known, KnownObjects};
+pub use known::Known;
 pub use moment::moment_by;
 pub use objects::object_value;
 pub use past::Past;

@@ -4,73 +4,60 @@ ghost use Rattle.std.specs.Option.{option_map};
 ghost use Rattle.serde_json.specs.View.{view};
 ghost use Rattle.lab_moments.specs.Moments.{counted_moment, shown_moment, moment_by};
 
+use crate::between::between_value;
 use crate::event::event_value;
 use crate::past::Past;
 use crate::state::state_in;
-use lab_sched::World;
-use lab_trace::{Event, Form, Tally, Told};
+use lab_told::{Event, Taken, Told};
+use lab_trace::Form;
 use serde_json::{Value, json};
 use std::alloc::{AllocError, Global};
 
 #[tactic(auto, unfolding(crate::specs::Moments::counted_moment))]
-fn counted_moment(
-    alloc: Global,
-    world: &World,
-    number: u32,
-    pid: usize,
-) -> Result<Value, AllocError>
-    ensures moment { IfOk result (λ v. view v ≡ counted_moment number pid world.now) }
+fn counted_moment(alloc: Global, taken: &Taken<'_>) -> Result<Value, AllocError>
+    ensures moment { IfOk result (λ v. view v
+        ≡ counted_moment taken.now.number taken.now.pid taken.now.world.now) }
 {
-    json!(in alloc; [number, pid, state_in(alloc, world, pid)?])
+    json!(in alloc; [taken.number, taken.pid, state_in(alloc, taken.world, taken.pid)?])
 }
 
 #[tactic(auto, unfolding(crate::specs::Moments::shown_moment))]
 fn shown_moment(
     alloc: Global,
-    world: &World,
-    tally: &Tally,
+    taken: &Taken<'_>,
     past: &Past,
     form: &Form<'_>,
-    number: u32,
-    pid: usize,
     event: &Event,
 ) -> Result<Value, AllocError>
-    requires process { pid < length world.now.processes }
-    ensures moment { IfOk result (λ v. view v
-        ≡ shown_moment form.now number pid event.now world.now tally.now past.now) }
+    requires process { taken.now.pid < length taken.now.world.now.processes }
+    ensures moment { IfOk result (λ v. view v ≡ shown_moment form.now taken.now.number
+        taken.now.pid event.now taken.now.world.now taken.now.tally.now past.now) }
 {
     json!(in alloc; [
-        number,
-        pid,
-        state_in(alloc, world, pid)?,
-        event_value(alloc, world, tally, past, form, number, pid, event)?,
-        past.between.value(alloc)?
+        taken.number,
+        taken.pid,
+        state_in(alloc, taken.world, taken.pid)?,
+        event_value(alloc, taken, past, form, event)?,
+        between_value(alloc, &past.between)?
     ])
 }
 
-/// The moment after step `number` of process `pid`, by what is told of it, where it has one; the world and the tally are those
-/// after it, and `past` is what was kept of the steps before it.
+/// The moment after a step, where it has one; `past` is what was kept of the steps before it.
 pub fn moment_by(
     alloc: Global,
-    world: &World,
-    tally: &Tally,
+    taken: &Taken<'_>,
     past: &Past,
     form: &Form<'_>,
     whole: bool,
-    number: u32,
-    pid: usize,
-    told: &Told,
 ) -> Result<Option<Value>, AllocError>
-    requires process { pid < length world.now.processes }
+    requires process { taken.now.pid < length taken.now.world.now.processes }
     ensures moment { IfOk result (λ m. option_to_list (option_map view m)
-        ≡ moment_by form.now whole number pid told.now world.now tally.now past.now) }
+        ≡ moment_by form.now whole taken.now.number taken.now.pid taken.now.told.now
+        taken.now.world.now taken.now.tally.now past.now) }
 {
-    match told {
-        Told::Counted if whole => Ok(Some(counted_moment(alloc, world, number, pid)?)),
-        Told::Shown(event) => {
-            let moment = shown_moment(alloc, world, tally, past, form, number, pid, event)?;
-            Ok(Some(moment))
-        }
+    match taken.told {
+        Told::Counted if whole => Ok(Some(counted_moment(alloc, taken)?)),
+        Told::Shown(event) => Ok(Some(shown_moment(alloc, taken, past, form, event)?)),
         Told::Nothing | Told::Counted => Ok(None),
     }
 }

@@ -14,7 +14,7 @@ use ipc_names::Name;
 use ipc_objects::Queue;
 use ipc_traps::Service;
 use lab_sched::{Process, World};
-use lab_trace::{Origin, Tally, held_place, service_at};
+use lab_told::{Origin, Tally, held_place, service_at};
 use lc3_word::Reg;
 use serde_json::{Value, json};
 use std::alloc::{AllocError, Global};

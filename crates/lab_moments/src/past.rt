@@ -1,25 +1,26 @@
 //! What a page keeps of the steps so far, beside the world and the tally.
 ghost use Rattle.std.specs.Prelude.{◌≡◌, ◌==◌, ◌++◌, not, IfOk, OnOk, length};
 ghost use Rattle.std.specs.List.{filter};
-ghost use Rattle.lab_moments.specs.Holds.{answered};
-ghost use Rattle.lab_moments.specs.Pasts.{first_past, past_after, past_told, past_with, received_by, sent_by, unreceived_after, unreceived_without};
+ghost use Rattle.lab_told.specs.Answers.{act_done};
+ghost use Rattle.lab_moments.specs.Pasts.{first_past, past_after, past_with, received_by, sent_by, unreceived_without};
 
-use crate::between::Between;
-use crate::holds::{Hold, answered, keep_holds};
-use crate::known::KnownObjects;
+use crate::between::{NO_STEPS, StepCount, keep_between};
+use crate::holds::{Hold, keep_holds};
+use crate::known::{Known, known_after};
+use ipc_kernel::OBJECT_PLACES;
 use ipc_traps::Service;
 use lab_sched::World;
-use lab_trace::{Act, Origin, Tally, Told};
+use lab_told::{Act, Taken, Told};
 use std::alloc::{AllocError, Global};
 use std::marker::Model;
 
 /// What is kept of the steps so far.
 #[derive(Drop)]
 pub struct Past {
-    /// The steps since the last line.
-    pub between: Between,
-    /// What was last told of the objects.
-    pub objects: KnownObjects,
+    /// Of each process the steps since the last line, of whichever process.
+    pub between: Vec<StepCount>,
+    /// What was last told of the object in each place.
+    pub objects: Vec<Option<Known>>,
     /// The units of semaphores that are taken, the last one first.
     pub holds: Vec<Hold>,
     /// The steps that sent the messages which nobody has received.
@@ -32,20 +33,11 @@ impl Model for Past {
     ghost Value = { Kept };
 
     ghost view = { λ h. record {
-      between = h.between;
-      objects = h.objects;
+      between = h.between.items;
+      objects = h.objects.items;
       holds = h.holds.items;
       unreceived = h.unreceived.items;
     } };
-}
-
-fn received_by(act: &Act) -> Option<Origin>
-    ensures origin { result ≡ received_by act.now }
-{
-    match act {
-        Act::Calls(call) => call.origin,
-        Act::Writes(_) | Act::Ends(_) => None,
-    }
 }
 
 fn remove(unreceived: &mut Vec<u32>, sent: u32)
@@ -54,10 +46,15 @@ fn remove(unreceived: &mut Vec<u32>, sent: u32)
     unreceived.retain(|step| *step != sent);
 }
 
-fn receive(unreceived: &mut Vec<u32>, origin: Option<Origin>)
-    ensures left { unreceived.new.items ≡ unreceived_without origin unreceived.old.items }
+/// Lets go of the message that was received by what a process did.
+fn receive(unreceived: &mut Vec<u32>, act: &Act)
+    ensures left { unreceived.new.items
+        ≡ unreceived_without (received_by act.now) unreceived.old.items }
 {
-    if let Some(origin) = origin {
+    let Act::Calls(call) = act else {
+        return;
+    };
+    if let Some(origin) = call.origin {
         remove(unreceived, origin.step);
     }
 }
@@ -65,9 +62,9 @@ fn receive(unreceived: &mut Vec<u32>, origin: Option<Origin>)
 /// Adds the message that was sent by what a process did in step `number`.
 fn send(unreceived: &mut Vec<u32>, number: u32, act: &Act) -> Result<(), AllocError>
     ensures added { OnOk result (unreceived.new.items
-        ≡ unreceived.old.items ++ sent_by number (answered act.now)) }
+        ≡ unreceived.old.items ++ sent_by number (act_done act.now)) }
 {
-    if let Some((Service::MqSend, _)) = answered(act) {
+    if let Some((Service::MqSend, _)) = act.done() {
         unreceived.push(number)?;
     }
     Ok(())
@@ -79,50 +76,34 @@ impl Past {
         ensures first { IfOk result (λ h. h ≡ first_past world.now) }
     {
         Ok(Past {
-            between: Between::new(alloc, world.count())?,
-            objects: KnownObjects::new(alloc)?,
+            between: vec![in alloc; NO_STEPS; world.count()]?,
+            objects: Vec::from_array(alloc, [None; OBJECT_PLACES])?,
             holds: Vec::new(alloc),
             unreceived: Vec::new(alloc),
         })
     }
 
-    fn keep_act(
-        &mut self,
-        world: &World,
-        tally: &Tally,
-        number: u32,
-        pid: usize,
-        act: &Act,
-    ) -> Result<(), AllocError>
-        ensures kept { OnOk result (self.new
-            ≡ past_with number pid world.now tally.now act.now self.old) }
+    fn keep_act(&mut self, taken: &Taken<'_>, act: &Act) -> Result<(), AllocError>
+        ensures kept { OnOk result (self.new ≡ past_with taken.now.number taken.now.pid
+            taken.now.world.now taken.now.tally.now act.now self.old) }
     {
-        let kernel = world.kernel();
-        let holds = &mut self.holds;
-        keep_holds(holds, kernel, tally, &self.objects, number, pid, act)?;
-        self.objects.keep(kernel)?;
-        receive(&mut self.unreceived, received_by(act));
-        send(&mut self.unreceived, number, act)
+        keep_holds(&mut self.holds, taken, &self.objects, act)?;
+        let alloc = *self.objects.allocator();
+        let objects = known_after(alloc, &self.objects, taken.world.kernel())?;
+        self.objects = objects;
+        receive(&mut self.unreceived, act);
+        send(&mut self.unreceived, taken.number, act)
     }
 
-    /// Keeps so many steps of process `pid` from step `number` on, which waits before them or doesn't, of which this is told; the
-    /// world and the tally are those after them.
-    pub fn keep(
-        &mut self,
-        world: &World,
-        tally: &Tally,
-        number: u32,
-        pid: usize,
-        waits: bool,
-        told: &Told,
-        count: u32,
-    ) -> Result<(), AllocError>
-        ensures kept { OnOk result (self.new
-            ≡ past_after count number pid waits told.now world.now tally.now self.old) }
+    /// Keeps steps that were taken.
+    pub fn keep(&mut self, taken: &Taken<'_>) -> Result<(), AllocError>
+        ensures kept { OnOk result (self.new ≡ past_after taken.now.count taken.now.number
+            taken.now.pid taken.now.waited taken.now.told.now taken.now.world.now
+            taken.now.tally.now self.old) }
     {
-        self.between.keep(pid, waits, told, count)?;
-        match told {
-            Told::Shown(event) => self.keep_act(world, tally, number, pid, &event.act),
+        keep_between(&mut self.between, taken)?;
+        match taken.told {
+            Told::Shown(event) => self.keep_act(taken, &event.act),
             Told::Nothing | Told::Counted => Ok(()),
         }
     }

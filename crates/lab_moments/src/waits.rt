@@ -5,13 +5,13 @@ ghost use Rattle.serde_json.specs.View.{view};
 ghost use Rattle.lab_moments.specs.Objects.{awaited_at};
 ghost use Rattle.lab_moments.specs.Waits.{other_at, others, taken_data, wait_in, waits_data};
 
-use crate::known::KnownObjects;
+use crate::known::{Known, made_with};
 use crate::objects::{awaited_at, takers};
 use crate::values::push_some;
 use ipc_kernel::Kernel;
 use ipc_traps::Service;
 use lab_sched::World;
-use lab_trace::{Tally, has_open};
+use lab_told::{Tally, has_open};
 use serde_json::{Value, json};
 use std::alloc::{AllocError, Global};
 
@@ -52,13 +52,13 @@ fn taken_value(
     alloc: Global,
     world: &World,
     tally: &Tally,
-    objects: &KnownObjects,
+    objects: &[Option<Known>],
     place: u8,
 ) -> Result<Value, AllocError>
     ensures value { IfOk result (λ v. view v
         ≡ taken_data world.now tally.now objects.now place) }
 {
-    if objects.made_with(place) > 0 {
+    if made_with(objects, place) > 0 {
         Ok(Value::Array(takers(alloc, world, tally, place)?))
     } else {
         Ok(Value::Null)
@@ -70,7 +70,7 @@ fn wait_at(
     alloc: Global,
     world: &World,
     tally: &Tally,
-    objects: &KnownObjects,
+    objects: &[Option<Known>],
     pid: usize,
 ) -> Result<Option<Value>, AllocError>
     requires process { pid < length world.now.processes }
@@ -94,7 +94,7 @@ pub fn waits_value(
     alloc: Global,
     world: &World,
     tally: &Tally,
-    objects: &KnownObjects,
+    objects: &[Option<Known>],
 ) -> Result<Value, AllocError>
     ensures value { IfOk result (λ v. view v
         ≡ waits_data world.now tally.now objects.now) }

@@ -4,10 +4,11 @@ use Rattle.std.proofs.lemmas.Bool.{ltb-true, ltb-false}
 use Rattle.std.proofs.lemmas.List.{set-set, set_past}
 use Rattle.lab_sched.specs.Worlds.{StepEffect, nothing, local_step, kernel_step, step_effect_in}
 use Rattle.lab_told.specs.Scenes.{Scene, told, next}
+use Rattle.lab_told.specs.Tellings.{waits_at}
 use Rattle.lab_told.specs.declared.told.Told.{Told}
 use Rattle.lab_told.specs.declared.told.Told.TheVariants.{Nothing}
 use Rattle.lab_told.proofs.SceneLemmas.{renumbered, next-still, told-still, told-some}
-use Rattle.lab_moments.specs.Between.{between_after, waits_at, with_steps, idle_of, count_of}
+use Rattle.lab_moments.specs.Between.{between_after, with_steps, idle_of, count_of}
 use Rattle.lab_moments.specs.Pasts.{Past, past_after}
 use Rattle.lab_page.specs.Moments.{past_by, next_past, past_then}
 use Rattle.lab_moments.specs.declared.between.StepCount.{StepCount}

@@ -5,13 +5,12 @@ use Rattle.serde_json.specs.Data.{Data}
 use Rattle.lab_sched.specs.Worlds.{WorldState}
 use Rattle.lab_told.specs.Scenes.{Scene, told, next, scene_after}
 use Rattle.lab_told.specs.Tallies.{TallyState}
-use Rattle.lab_told.specs.Tellings.{TellsAll, BreaksOff, IsNext}
+use Rattle.lab_told.specs.Tellings.{TellsAll, BreaksOff, IsNext, waits_at}
 use Rattle.lab_told.specs.declared.telling.Taken.{Taken}
 use Rattle.lab_told.specs.declared.told.Told.{Told}
 use Rattle.lab_told.specs.declared.told.Told.TheVariants.{Nothing}
 use Rattle.lab_trace.specs.Forms.{Form}
 use Rattle.lab_trace.specs.Lines.{step_line, line, events}
-use Rattle.lab_moments.specs.Between.{waits_at}
 use Rattle.lab_moments.specs.Moments.{moment_by}
 use Rattle.lab_moments.specs.Pasts.{Past, past_after}
 use Rattle.lab_page.specs.Faults.{IsFault}

@@ -3,7 +3,7 @@ use Rattle.std.specs.Prelude.{ℕ, Bool, List, [], ◌∷◌, ◌++◌}
 use Rattle.serde_json.specs.Data.{Data}
 use Rattle.lab_trace.specs.Forms.{Form}
 use Rattle.lab_told.specs.Scenes.{Scene, told, next}
-use Rattle.lab_moments.specs.Between.{waits_at}
+use Rattle.lab_told.specs.Tellings.{waits_at}
 use Rattle.lab_moments.specs.Moments.{moment_by}
 use Rattle.lab_moments.specs.Pasts.{Past, past_after}
 

@@ -3,13 +3,13 @@ ghost use Rattle.std.specs.Prelude.{◌≡◌, ◌<◌, ◌≤◌, ◌++◌, IfO
 ghost use Rattle.serde_json.specs.View.{view};
 ghost use Rattle.lab_sched.specs.Schedules.{most_steps};
 ghost use Rattle.lab_sched.specs.Worlds.{step};
-ghost use Rattle.lab_told.specs.Scenes.{first_scene, scene_at, told, next_tally, IsKept};
+ghost use Rattle.lab_told.specs.Scenes.{first_scene, scene_at, told, next_tally};
 ghost use Rattle.lab_page.specs.Legs.{event_data, leg_data, leg_events, told_data};
 
 use lab_moments::act_value;
 use lab_sched::World;
-use lab_told::trace_step;
-use lab_trace::{Event, Tally, Told, event_text};
+use lab_told::{Event, Tally, Told, trace_step};
+use lab_trace::event_text;
 use serde_json::{Value, json};
 use std::alloc::{AllocError, Global};
 
@@ -31,7 +31,6 @@ fn push_step(
     pid: usize,
 ) -> Result<(), AllocError>
     requires process { pid < length world.old.processes }
-    requires kept { IsKept (scene_at number world.old tally.old) }
     ensures added { OnOk result (map view events.new.items ≡ map view events.old.items
         ++ told_data number (told (scene_at number world.old tally.old) pid)) }
     ensures world { OnOk result (world.new ≡ step world.old pid) }

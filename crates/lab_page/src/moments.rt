@@ -22,8 +22,8 @@ use crate::run::Look;
 use lab_moments::{Past, moment_by, states};
 use lab_sched::{Schedule, World};
 use lab_template::MOST_BYTES;
-use lab_told::{Taken, Telling};
-use lab_trace::{Tally, Told, ending, step_line};
+use lab_told::{Taken, Tally, Telling};
+use lab_trace::{ending, step_line};
 use serde_json::Value;
 use std::alloc::{AllocError, Global};
 use std::marker::Model;
@@ -95,41 +95,27 @@ impl Moments {
         Ok(())
     }
 
-    /// Adds the moment after a step, where it has one, and its line, and keeps so many steps of which this is told.
-    fn keep_step(
-        &mut self,
-        world: &World,
-        tally: &Tally,
-        look: &Look<'_>,
-        number: u32,
-        pid: usize,
-        waited: bool,
-        told: &Told,
-        count: u32,
-    ) -> Result<(), PageFault>
-        requires process { pid < length world.now.processes }
+    /// Adds the moment after a step, where it has one, and its line, and keeps the steps that it stands for.
+    fn keep_step(&mut self, look: &Look<'_>, taken: &Taken<'_>) -> Result<(), PageFault>
+        requires process { taken.now.pid < length taken.now.world.now.processes }
         ensures moment { OnOk result (self.new.json ≡ self.old.json
-            ++ more_json (moment_by look.now.page look.now.whole number pid told.now world.now
-            tally.now self.old.past)) }
+            ++ more_json (moment_by look.now.page look.now.whole taken.now.number taken.now.pid
+            taken.now.told.now taken.now.world.now taken.now.tally.now self.old.past)) }
         ensures line { OnOk result (self.new.lines ≡ self.old.lines
-            ++ step_line look.now.trace number pid told.now) }
-        ensures past { OnOk result (self.new.past
-            ≡ past_after count number pid waited told.now world.now tally.now self.old.past) }
+            ++ step_line look.now.trace taken.now.number taken.now.pid taken.now.told.now) }
+        ensures past { OnOk result (self.new.past ≡ past_after taken.now.count
+            taken.now.number taken.now.pid taken.now.waited taken.now.told.now
+            taken.now.world.now taken.now.tally.now self.old.past) }
         ensures fault { IfErr result (λ e. IsFault e (self.old.json
-            ++ more_json (moment_by look.now.page look.now.whole number pid told.now world.now
-            tally.now self.old.past))) }
+            ++ more_json (moment_by look.now.page look.now.whole taken.now.number taken.now.pid
+            taken.now.told.now taken.now.world.now taken.now.tally.now self.old.past))) }
     {
         let alloc = *self.json.allocator();
-        let (past, whole) = (&self.past, look.whole);
-        let moment = moment_by(
-            alloc, world, tally, past, &look.page, whole, number, pid, told,
-        )?;
+        let moment = moment_by(alloc, taken, &self.past, &look.page, look.whole)?;
         self.push(moment)?;
-        let line = step_line(alloc, &look.trace, number, pid, told)?;
+        let line = step_line(alloc, &look.trace, taken.number, taken.pid, taken.told)?;
         self.lines.extend_from_slice(line.as_bytes())?;
-        self.past
-            .keep(world, tally, number, pid, waited, told, count)?;
-        Ok(())
+        Ok(self.past.keep(taken)?)
     }
 
     /// Adds what stands behind the moments, and the end of the trace, once the schedule's steps are taken.
@@ -170,15 +156,6 @@ impl Telling<Moments> for Look<'_> {
         moments: &mut Moments,
         taken: &Taken<'_>,
     ) -> Result<(), PageFault> {
-        let Taken {
-            world,
-            tally,
-            number,
-            pid,
-            waited,
-            told,
-            count,
-        } = *taken;
-        moments.keep_step(world, tally, self, number, pid, waited, told, count)
+        moments.keep_step(self, taken)
     }
 }

@@ -7,10 +7,13 @@ ghost use Rattle.lab_page.specs.Runs.{schedule_data, output_of, outputs, outcome
 
 use crate::json::push_behind;
 use crate::run::Look;
-use lab_moments::{Past, bytes_value, circles_value, holds_value, steps_value, waits_value};
+use lab_moments::{
+    Past, between_value, bytes_value, circles_value, holds_value, steps_value, waits_value,
+};
 use lab_sched::{Schedule, World};
 use lab_texts::report_text;
-use lab_trace::{Form, Tally, stands};
+use lab_told::Tally;
+use lab_trace::{Form, stands};
 use serde_json::{Value, json};
 use std::alloc::{AllocError, Global};
 
@@ -62,7 +65,7 @@ fn outcome_value(
         stands(alloc, world, tally, form)?,
         report_text(alloc, world)?,
         outputs(alloc, world)?,
-        past.between.value(alloc)?,
+        between_value(alloc, &past.between)?,
         holds_value(alloc, &past.holds)?,
         steps_value(alloc, &past.unreceived)?,
         waits_value(alloc, world, tally, &past.objects)?,

@@ -3,7 +3,7 @@ ghost use Rattle.std.specs.Prelude.{◌≡◌, ℕ, Some, Err, OnOk, IfOk, IfErr
 ghost use Rattle.serde_json.specs.Written.{compact_text};
 ghost use Rattle.lab_sched.specs.Schedules.{steps_of};
 ghost use Rattle.lab_sched.specs.Worlds.{run};
-ghost use Rattle.lab_told.specs.Scenes.{scene_at, IsKept};
+ghost use Rattle.lab_told.specs.Scenes.{scene_at};
 ghost use Rattle.lab_trace.specs.Traces.{missing_after, trace_text, trace_with};
 ghost use Rattle.lab_told.specs.Tellings.{AreThere};
 ghost use Rattle.lab_page.specs.Faults.{Explains, IsFault};
@@ -16,7 +16,8 @@ use crate::moments::Moments;
 use lab_sched::{Schedule, World};
 use lab_sources::Source;
 use lab_template::MOST_WHOLE;
-use lab_trace::{Form, Tally, missing_after, tell_run};
+use lab_told::{Tally, tell_run};
+use lab_trace::{Form, missing_after};
 use std::alloc::{AllocError, Global};
 
 /// How a run is written. The lines on a page are without labels, for it shows the sources themselves; the trace has those of
@@ -67,7 +68,6 @@ fn take_steps(
     schedule: &Schedule,
 ) -> Result<WrittenRun, PageFault>
     requires there { AreThere world.old schedule.now }
-    requires kept { IsKept (scene_at 1 world.old tally.old) }
     ensures json { IfOk result (λ r. r.json.items ≡ compact_text (run_from look.now.page
         look.now.whole (scene_at 1 world.old tally.old) schedule.now)) }
     ensures trace { IfOk result (λ r. r.trace.items

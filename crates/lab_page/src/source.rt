@@ -6,7 +6,7 @@ ghost use Rattle.lab_page.specs.Sources.{source_of, row_words, first_call, row_d
 
 use ipc_traps::Service;
 use lab_moments::words_value;
-use lab_trace::service_of_word;
+use lab_told::service_of_word;
 use lc3_asm::{Assembled, Row};
 use serde_json::{Value, json};
 use std::alloc::{AllocError, Global};

@@ -1,5 +1,3 @@
-pub mod OriginLemmas
-pub mod UnitLemmas
 pub mod NameLemmas
 pub mod BelowLemmas
 pub mod SceneLemmas

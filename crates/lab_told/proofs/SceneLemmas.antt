@@ -1,7 +1,5 @@
 -- The scenes of a trace, one after another.
-use Rattle.std.proofs.Common.{◌≡◌, ℕ, zero, suc, ◌+◌, ◌<◌, Bool, true, false, if◌then◌else◌, List, [], ◌∷◌, ◌++◌, Option, Some, None, length, replicate, slice_get, set, refl, sym, ap, ◌∙◌, arith}
-use Rattle.std.proofs.lemmas.List.{length-set, length-replicate}
-use Rattle.std.proofs.lemmas.List.Elements.{All-nil}
+use Rattle.std.proofs.Common.{◌≡◌, ℕ, zero, suc, ◌+◌, Bool, true, false, if◌then◌else◌, List, [], ◌∷◌, ◌++◌, Option, Some, None, length, replicate, slice_get, refl, sym, ap, ◌∙◌, arith}
 use Rattle.ipc_kernel.specs.Kernel.{KernelState}
 use Rattle.lab_sched.specs.Worlds.{Process, WorldState, nothing, step_effect_in, after, step, run}
 use Rattle.lab_sched.specs.Held.{asked_by, told_in}
@@ -9,15 +7,13 @@ use Rattle.lab_sched.specs.declared.stepped.Stepped.{Stepped}
 use Rattle.lab_sched.specs.declared.stepped.Stepped.TheVariants as stepped
 use Rattle.lab_sched.proofs.Runs.{run-one, length-run, told_nothing, nothing_told}
 use Rattle.lab_told.specs.Events.{act_by, told_with, told_by}
-use Rattle.lab_told.specs.Tallies.{TallyState, new_account, account_in, account_of, account_counted, account_after, tally_after, AreBelow}
-use Rattle.lab_told.specs.Units.{AreFew, IsFew}
-use Rattle.lab_told.proofs.UnitLemmas.{few-more, after-few}
-use Rattle.lab_told.specs.Scenes.{Scene, first_scene, has_effect, before_at, told, next_tally, next, scene_after, IsKept}
+use Rattle.lab_told.specs.Tallies.{TallyState, account_of, tally_after}
+use Rattle.lab_told.specs.Scenes.{Scene, has_effect, before_at, told, next_tally, next, scene_after}
 use Rattle.lab_told.specs.declared.asking.Observed.{Observed}
 use Rattle.lab_told.specs.declared.tally.Account.{Account}
 use Rattle.lab_told.specs.declared.told.Act.{Act}
 use Rattle.lab_told.specs.declared.told.Told.{Told}
-use Rattle.lab_told.specs.declared.told.Told.TheVariants.{Nothing, Counted, Shown}
+use Rattle.lab_told.specs.declared.told.Told.TheVariants.{Nothing}
 
 pub scene-append : (s : Scene) (xs ys : List ℕ) → scene_after s (xs ++ ys) ≡ scene_after (scene_after s xs) ys
 unfolding scene_after
@@ -92,64 +88,9 @@ scene-still (suc n) s p e =
     let same : (s.number + 1) + n ≡ s.number + suc n = omega arith in
     ap (λ x. scene_after x (replicate n p)) (next-still s p e) ∙ scene-still n (renumbered s (s.number + 1)) p e ∙ ap (λ k. renumbered s k) same
 
--- what is kept of the accounts
-below-set : (n : ℕ) (t : List Account) (p : ℕ) (a : Account) → a.local < n → AreBelow n t → AreBelow n (set t p a)
-below-set n [] p a h b q = b q
-below-set n (x ∷ xs) zero a h b zero = h
-below-set n (x ∷ xs) zero a h b (suc q) = b (suc q)
-below-set n (x ∷ xs) (suc p) a h b zero = b 0
-below-set n (x ∷ xs) (suc p) a h b (suc q) = below-set n xs p a h (λ r. b (suc r)) q
-
-abbrev IsKeptTally : ℕ → ℕ → TallyState → Type 0
-IsKeptTally n count t = (length t.accounts ≡ count) × AreBelow (n + 1) t.accounts × AreFew (n + 1) t.units
-
-kept-still : (n count : ℕ) (t : TallyState) → length t.accounts ≡ count → AreBelow n t.accounts → AreFew n t.units → IsKeptTally n count t
-kept-still n count t l b f = (l, λ p. let h = b p in omega arith, few-more n t.units f)
-
-kept-told : (n count : ℕ) (k : KernelState) (t : TallyState) (p : ℕ) (told : Told)
-    → length t.accounts ≡ count → AreBelow n t.accounts → AreFew n t.units → IsKeptTally n count (tally_after k n p told t)
-kept-told n count k t p Nothing l h f = kept-still n count t l h f
-kept-told n count k t p Counted l h f =
-    let a : Account = account_counted (account_of t p) in
-    let few : (account_of t p).local < n = h p in (
-      length-set t.accounts p a ∙ l,
-      below-set (n + 1) t.accounts p a (omega (arith, few)) (λ q. let x = h q in omega (arith, x)),
-      few-more n t.units f,
-    )
-kept-told n count k t p (Shown e) l h f =
-    let a : Account = account_after n e.act in
-    let begun : 0 < n = let x = h p in omega (arith, x) in (
-      length-set t.accounts p a ∙ l,
-      below-set (n + 1) t.accounts p a (omega arith) (λ q. let x = h q in omega (arith, x)),
-      after-few n k p e.act t.units begun f,
-    )
-
-kept-tallied : (s : Scene) (p : ℕ) → IsKept s → IsKeptTally s.number (length s.world.processes) (next_tally s p)
-kept-tallied s p kept =
-    kept-told s.number (length s.world.processes) (step s.world p).kernel s.tally p (told s p) kept.accounts kept.below kept.few
-
 pub length-step : (w : WorldState) (p : ℕ) → length (step w p).processes ≡ length w.processes
 length-step w p = sym (ap (λ (x : WorldState). length x.processes) (run-one w p)) ∙ length-run w (p ∷ [])
-
-pub kept-next : (s : Scene) (p : ℕ) → IsKept s → IsKept (next s p)
-kept-next s p kept =
-    let t = kept-tallied s p kept in
-    record { accounts = t.0 ∙ sym (length-step s.world p); below = t.1; few = t.2 }
-
-pub kept-after : (s : Scene) (ps : List ℕ) → IsKept s → IsKept (scene_after s ps)
-unfolding scene_after
-kept-after s [] kept = kept
-kept-after s (p ∷ ps) kept = kept-after (next s p) ps (kept-next s p kept)
 
 -- as many processes as before
 pub length-scene : (s : Scene) (ps : List ℕ) → length (scene_after s ps).world.processes ≡ length s.world.processes
 length-scene s ps = ap (λ (w : WorldState). length w.processes) (scene-world s ps) ∙ length-run s.world ps
-
-below-first : (n p : ℕ) → (account_in (replicate n new_account) p).local < 1
-below-first zero p = omega arith
-below-first (suc n) zero = omega arith
-below-first (suc n) (suc p) = below-first n p
-
-pub kept-first : (w : WorldState) → IsKept (first_scene w)
-kept-first w =
-    record { accounts = length-replicate (length w.processes) new_account; below = below-first (length w.processes); few = All-nil (IsFew 1) }

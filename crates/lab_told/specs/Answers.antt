@@ -15,6 +15,9 @@ use Rattle.lab_sched.specs.declared.stepped.Stepped.{Stepped}
 use Rattle.lab_sched.specs.declared.stepped.Stepped.TheVariants as stepped
 use Rattle.lab_told.specs.declared.answers.Outcome.{Outcome}
 use Rattle.lab_told.specs.declared.answers.Outcome.TheVariants.{Waits, Refused, Replied}
+use Rattle.lab_told.specs.declared.told.Act.{Act}
+use Rattle.lab_told.specs.declared.told.Act.TheVariants.{Calls}
+use Rattle.lab_told.specs.declared.told.Called.{Called}
 
 -- the errors
 abbrev pub errors : List Errno
@@ -72,3 +75,17 @@ abbrev pub result_of : Outcome → Option ℕ
 result_of Waits = None
 result_of (Refused e) = None
 result_of (Replied reply) = Some (result_in reply)
+
+-- a call on the object in a place, where it was answered and not refused
+abbrev pub done_with : Outcome → Service → Option ℕ → Option (Service × ℕ)
+done_with (Replied reply) s (Some place) = Some (s, place)
+done_with outcome s place = None
+
+-- a call and the place of its object, where it was answered and not refused
+abbrev pub call_done : Called → Option (Service × ℕ)
+call_done c = done_with c.outcome c.service c.place
+
+-- the call that a process made, and the place of its object, where it was answered and not refused
+abbrev pub act_done : Act → Option (Service × ℕ)
+act_done (Calls c) = call_done c
+act_done other = None

@@ -2,10 +2,6 @@
 use Rattle.std.specs.Prelude.{ℕ, Bool, true, false, if◌then◌else◌, Option, Some, None, List, replicate, slice_get, slice_set}
 use Rattle.std.specs.Option.{option_and_then}
 use Rattle.ipc_kernel.specs.Limits.{object_places}
-use Rattle.lab_told.specs.Answers.{result_of}
-use Rattle.lab_told.specs.declared.told.Called.{Called}
-use Rattle.lab_told.specs.declared.told.Act.{Act}
-use Rattle.lab_told.specs.declared.told.Act.TheVariants.{Calls}
 use Rattle.ipc_traps.specs.declared.service.Service.{Service}
 use Rattle.ipc_traps.specs.declared.service.Service.TheVariants.{MqReceive, SemPost}
 
@@ -23,20 +19,10 @@ is_giving SemPost = true
 is_giving MqReceive = true
 is_giving other = false
 
--- after step n gave to the object in a place, where there is one
-abbrev pub givers_with : ℕ → Option ℕ → List (Option ℕ) → List (Option ℕ)
-givers_with n None gs = gs
-givers_with n (Some place) gs = slice_set gs place (Some n)
-
--- after a call in step n; one that waits or was refused gives nothing
-abbrev pub givers_after_call : ℕ → Called → Option ℕ → List (Option ℕ) → List (Option ℕ)
-givers_after_call n c None gs = gs
-givers_after_call n c (Some result) gs = if is_giving c.service then givers_with n c.place gs else gs
-
--- after what a process did in step n
-abbrev pub givers_after : ℕ → Act → List (Option ℕ) → List (Option ℕ)
-givers_after n (Calls c) gs = givers_after_call n c (result_of c.outcome) gs
-givers_after n other gs = gs
+-- after step n, by its call if it was answered and not refused; one that waits or was refused gives nothing
+abbrev pub givers_after : ℕ → Option (Service × ℕ) → List (Option ℕ) → List (Option ℕ)
+givers_after n None gs = gs
+givers_after n (Some call) gs = if is_giving call.0 then slice_set gs call.1 (Some n) else gs
 
 -- the step that last gave to the object of a call, where it has one
 abbrev pub giver_in : Option ℕ → List (Option ℕ) → Option ℕ

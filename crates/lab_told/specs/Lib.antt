@@ -15,4 +15,3 @@ pub mod Events
 pub mod Scenes
 pub mod Tellings
 pub mod Shown
-pub mod Private

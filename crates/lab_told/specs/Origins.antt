@@ -1,11 +1,10 @@
 -- Where the messages in queues come from.
-use Rattle.std.specs.Prelude.{ℕ, ◌==◌, ◌&&◌, nat_lt, not, Bool, if◌then◌else◌, Option, Some, None, List, length}
-use Rattle.std.specs.List.{find, filter, insert, remove, position_or_len}
+use Rattle.std.specs.Prelude.{ℕ, ◌==◌, ◌&&◌, nat_lt, not, Bool, if◌then◌else◌, Option, Some, None, List, [], ◌∷◌, ◌++◌, length, position}
+use Rattle.std.specs.List.{find, filter, insert, remove}
 use Rattle.ipc_kernel.specs.Kernel.{KernelState}
 use Rattle.ipc_kernel.specs.Outcomes.{queue_at}
-use Rattle.lab_told.specs.Answers.{result_of}
+use Rattle.lab_told.specs.Answers.{call_done}
 use Rattle.lab_told.specs.declared.origins.Origin.{Origin}
-use Rattle.lab_told.specs.declared.told.Called.{Called}
 use Rattle.lab_told.specs.declared.told.Act.{Act}
 use Rattle.lab_told.specs.declared.told.Act.TheVariants.{Calls}
 use Rattle.ipc_traps.specs.declared.service.Service.{Service}
@@ -19,52 +18,44 @@ is_in place o = o.place == place
 abbrev pub is_below : ℕ → ℕ → Origin → Bool
 is_below place priority o = (o.place == place) && nat_lt o.priority priority
 
+-- a message before the one at this position, or behind the others where there is none
+abbrev pub origins_with_at : Origin → List Origin → Option ℕ → List Origin
+origins_with_at o os None = os ++ o ∷ []
+origins_with_at o os (Some i) = insert os i o
+
 -- a message goes before those of its queue that have a lesser priority
-unfoldable pub origins_with : Origin → List Origin → List Origin
-origins_with o os = insert os (position_or_len (is_below o.place o.priority) os) o
+abbrev pub origins_with : Origin → List Origin → List Origin
+origins_with o os = origins_with_at o os (position (is_below o.place o.priority) os)
 
 -- the message of the queue in a place that is received first
 unfoldable pub first : ℕ → List Origin → Option Origin
 first place os = find (is_in place) os
 
--- the origins without that of the message which is received first from the queue in a place
-unfoldable pub origins_without_first : ℕ → List Origin → List Origin
-origins_without_first place os = remove os (position_or_len (is_in place) os)
+-- the origins without that at this position
+abbrev pub origins_without : List Origin → Option ℕ → List Origin
+origins_without os None = os
+origins_without os (Some i) = remove os i
 
 -- the origins of messages in other queues
-unfoldable pub origins_without_queue : ℕ → List Origin → List Origin
+abbrev pub origins_without_queue : ℕ → List Origin → List Origin
 origins_without_queue place os = filter (λ o. not (is_in place o)) os
 
--- an open found a queue without messages: it may be a new one
-abbrev pub origins_after_open : KernelState → Option ℕ → List Origin → List Origin
-origins_after_open k None os = os
-origins_after_open k (Some place) os = if length (queue_at k place).messages == 0 then origins_without_queue place os else os
+-- after a call of process p in step n on the object in a place, which was answered and not refused; k is the kernel after it, and an
+-- open that found a queue without messages may have made it
+abbrev pub origins_called : KernelState → ℕ → ℕ → ℕ → Service → ℕ → List Origin → List Origin
+origins_called k n p priority MqOpen place os = if length (queue_at k place).messages == 0 then origins_without_queue place os else os
+origins_called k n p priority MqSend place os = origins_with (record { place = place; priority = priority; step = n; pid = p }) os
+origins_called k n p priority MqReceive place os = origins_without os (position (is_in place) os)
+origins_called k n p priority other place os = os
 
--- after process p sent a message in step n to the queue in a place, where there is one
-abbrev pub origins_after_send : ℕ → ℕ → ℕ → Option ℕ → List Origin → List Origin
-origins_after_send n p priority None os = os
-origins_after_send n p priority (Some place) os = origins_with (record { place = place; priority = priority; step = n; pid = p }) os
-
--- after a message was received from the queue in a place, where there is one
-abbrev pub origins_after_receive : Option ℕ → List Origin → List Origin
-origins_after_receive None os = os
-origins_after_receive (Some place) os = origins_without_first place os
-
--- after a call of process p in step n that was answered and not refused; k is the kernel after it
-abbrev pub origins_after_success : KernelState → ℕ → ℕ → Called → Service → List Origin → List Origin
-origins_after_success k n p c MqOpen os = origins_after_open k c.place os
-origins_after_success k n p c MqSend os = origins_after_send n p c.priority c.place os
-origins_after_success k n p c MqReceive os = origins_after_receive c.place os
-origins_after_success k n p c other os = os
-
--- after a call of process p in step n; one that waits or was refused changes nothing
-abbrev pub origins_after_call : KernelState → ℕ → ℕ → Called → Option ℕ → List Origin → List Origin
-origins_after_call k n p c None os = os
-origins_after_call k n p c (Some result) os = origins_after_success k n p c c.service os
+-- the same, where there is such a call; one that waits or was refused changes nothing
+abbrev pub origins_by : KernelState → ℕ → ℕ → ℕ → Option (Service × ℕ) → List Origin → List Origin
+origins_by k n p priority None os = os
+origins_by k n p priority (Some call) os = origins_called k n p priority call.0 call.1 os
 
 -- after what process p did in step n; k is the kernel after it
 abbrev pub origins_after : KernelState → ℕ → ℕ → Act → List Origin → List Origin
-origins_after k n p (Calls c) os = origins_after_call k n p c (result_of c.outcome) os
+origins_after k n p (Calls c) os = origins_by k n p c.priority (call_done c) os
 origins_after k n p other os = os
 
 -- the message that is received first from the queue in a place, where there is one

@@ -1,13 +1,12 @@
 -- The steps of a schedule, one after another, as a trace goes through them.
-use Rattle.std.specs.Prelude.{◌≡◌, ℕ, ◌+◌, Bool, true, false, if◌then◌else◌, List, [], ◌∷◌, length, slice_get}
+use Rattle.std.specs.Prelude.{ℕ, ◌+◌, Bool, true, false, if◌then◌else◌, List, [], ◌∷◌, length, slice_get}
 use Rattle.lab_sched.specs.Worlds.{WorldState, step}
 use Rattle.lab_sched.specs.Held.{told_in}
 use Rattle.lab_sched.specs.declared.stepped.Stepped.{Stepped}
 use Rattle.lab_sched.specs.declared.stepped.Stepped.TheVariants.{Same}
 use Rattle.lab_told.specs.Questions.{before_in}
 use Rattle.lab_told.specs.Events.{told_by}
-use Rattle.lab_told.specs.Tallies.{TallyState, new_tally, tally_after, AreBelow}
-use Rattle.lab_told.specs.Units.{AreFew}
+use Rattle.lab_told.specs.Tallies.{TallyState, new_tally, tally_after}
 use Rattle.lab_told.specs.declared.asking.Observed.{Observed}
 use Rattle.lab_told.specs.declared.told.Told.{Told}
 use Rattle.lab_told.specs.declared.told.Told.TheVariants.{Nothing}
@@ -54,18 +53,3 @@ next s p = scene_at (s.number + 1) (step s.world p) (next_tally s p)
 unfoldable pub scene_after : Scene → List ℕ → Scene
 scene_after s [] = s
 scene_after s (p ∷ ps) = scene_after (next s p) ps
-
--- before a step there is an account of each process; its counted steps, and the units that a process took or gave, are fewer
--- than the steps that were taken or begin
-pub record IsKept (s : Scene) : Type 0 where
-  pub accounts : length s.tally.accounts ≡ length s.world.processes
-  pub below : AreBelow s.number s.tally.accounts
-  pub few : AreFew s.number s.tally.units
-
--- so it is before the first step of each world
-abbrev pub StartsKept : Type 0
-StartsKept = (w : WorldState) → IsKept (first_scene w)
-
--- and then after each step, of whichever process
-abbrev pub StaysKept : Type 0
-StaysKept = (s : Scene) (p : ℕ) → IsKept s → IsKept (next s p)

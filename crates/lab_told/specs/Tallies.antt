@@ -1,6 +1,7 @@
 -- What a trace keeps beside the world.
-use Rattle.std.specs.Prelude.{ℕ, ◌+◌, ◌<◌, replicate, slice_set, Option, Some, None, List, [], slice_get, unwrap_or}
+use Rattle.std.specs.Prelude.{ℕ, ◌+◌, replicate, slice_set, Option, Some, None, List, [], slice_get, unwrap_or}
 use Rattle.ipc_kernel.specs.Kernel.{KernelState}
+use Rattle.lab_told.specs.Answers.{act_done}
 use Rattle.lab_told.specs.Givers.{no_givers, givers_after}
 use Rattle.lab_told.specs.Origins.{origins_after}
 use Rattle.lab_told.specs.Units.{units_after}
@@ -57,18 +58,14 @@ account_counted a = record a { local = a.local + 1 }
 abbrev pub account_after : ℕ → Act → Account
 account_after n act = record { local = 0; since = waits_from n act }
 
--- before step number n: each process has fewer counted steps since its last line
-abbrev pub AreBelow : ℕ → List Account → Type 0
-AreBelow n t = (p : ℕ) → (account_in t p).local < n
-
 -- the tally after what process p did in step n; k is the kernel after it
 abbrev pub tally_with : KernelState → ℕ → ℕ → Act → TallyState → TallyState
 tally_with k n p act t =
     record {
       accounts = slice_set t.accounts p (account_after n act);
       origins = origins_after k n p act t.origins;
-      units = units_after k p act t.units;
-      givers = givers_after n act t.givers;
+      units = units_after k p (act_done act) t.units;
+      givers = givers_after n (act_done act) t.givers;
     }
 
 -- the tally after step n of process p, by what is told of it

@@ -16,19 +16,13 @@ const SEND: u8 = 1;
 fn can_do(held: Option<Descriptor>, place: u8, other: u8) -> bool
     ensures value { result ≡ can_do place other held }
 {
-    match held {
-        Some(held) => held.place == place && held.access != other,
-        None => false,
-    }
+    matches!(held, Some(held) if held.place == place && held.access != other)
 }
 
 fn refers(held: Option<Slot>, place: u8) -> bool
     ensures value { result ≡ slot_refers place held }
 {
-    match held {
-        Some(held) => held.place == place,
-        None => false,
-    }
+    matches!(held, Some(held) if held.place == place)
 }
 
 /// Whether process `pid` has a queue open other than by one access alone.

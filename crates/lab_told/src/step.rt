@@ -1,8 +1,6 @@
 //! One step of a trace.
 ghost use Rattle.std.specs.Prelude.{◌≡◌, ◌<◌, ◌≤◌, IfOk, OnOk, ℕ, length};
 ghost use Rattle.lab_sched.specs.Worlds.{step};
-ghost use Rattle.lab_told.specs.Tallies.{account_of};
-ghost use Rattle.lab_told.specs.Units.{AreFew};
 ghost use Rattle.lab_told.specs.Scenes.{scene_at, has_effect, told, next_tally};
 ghost use Rattle.lab_told.specs.declared.told.Told.TheVariants.{Nothing};
 
@@ -15,10 +13,7 @@ use std::alloc::{AllocError, Global};
 fn has_effect(stepped: &Stepped) -> bool
     ensures value { result ≡ has_effect stepped.now }
 {
-    match stepped {
-        Stepped::Same => false,
-        Stepped::Moved | Stepped::Refused(_) | Stepped::Called(_) | Stepped::Waits => true,
-    }
+    !matches!(stepped, Stepped::Same)
 }
 
 /// Takes a step of process `pid` and tells what it did; the tally is that before it.
@@ -49,9 +44,6 @@ pub fn trace_step(
     pid: usize,
 ) -> Result<Told, AllocError>
     requires process { pid < length world.old.processes }
-    requires account { pid < length tally.old.accounts }
-    requires room { (account_of tally.old pid).local < number }
-    requires few { AreFew number tally.old.units }
     ensures told { IfOk result (λ t. t ≡ told (scene_at number world.old tally.old) pid) }
     ensures world { OnOk result (world.new ≡ step world.old pid) }
     ensures tally { OnOk result (tally.new

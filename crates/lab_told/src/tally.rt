@@ -1,17 +1,16 @@
 //! What a trace keeps of each process beside the world.
-ghost use Rattle.std.specs.Prelude.{◌≡◌, ◌<◌, IfOk, OnOk, length, slice_set};
+ghost use Rattle.std.specs.Prelude.{◌≡◌, IfOk, OnOk, slice_set};
 ghost use Rattle.lab_told.specs.Givers.{giver_at};
 ghost use Rattle.lab_told.specs.Origins.{first};
-ghost use Rattle.lab_told.specs.Units.{units_of, balance, AreFew};
+ghost use Rattle.lab_told.specs.Units.{units_of, balance};
 ghost use Rattle.lab_told.specs.Tallies.{new_tally, account_of, account_counted, waits_from, tally_with, tally_after};
-ghost use Rattle.lab_told.specs.Private.Room.{most_units, HasRoom};
 
 use crate::answers::Outcome;
-use crate::givers::Givers;
-use crate::origins::{Origin, Origins};
+use crate::givers::{giver_at, keep_givers};
+use crate::origins::{Origin, first_origin, keep_origins};
 use crate::told::{Act, Told};
-use crate::units::Units;
-use ipc_kernel::Kernel;
+use crate::units::{UnitCount, keep_units, units_of};
+use ipc_kernel::{Kernel, OBJECT_PLACES};
 use std::alloc::{AllocError, Global};
 use std::marker::Model;
 
@@ -29,9 +28,9 @@ pub struct Account {
 #[derive(Drop)]
 pub struct Tally {
     accounts: Vec<Account>,
-    origins: Origins,
-    units: Units,
-    givers: Givers,
+    origins: Vec<Origin>,
+    units: Vec<UnitCount>,
+    givers: Vec<Option<u32>>,
 }
 
 impl Model for Tally {
@@ -41,9 +40,9 @@ impl Model for Tally {
 
     ghost view = { λ t. record {
       accounts = t.accounts.items;
-      origins = t.origins;
-      units = t.units;
-      givers = t.givers;
+      origins = t.origins.items;
+      units = t.units.items;
+      givers = t.givers.items;
     } };
 }
 
@@ -66,20 +65,25 @@ fn waits_from(number: u32, act: &Act) -> Option<u32>
     }
 }
 
+/// Sets the account of process `pid`, where there is one.
+fn set(accounts: &mut Vec<Account>, pid: usize, account: Account)
+    ensures set { accounts.new.items ≡ slice_set accounts.old.items pid account }
+{
+    if let Some(kept) = accounts.get_mut(pid) {
+        *kept = account;
+    }
+}
+
 impl Tally {
     /// The tally of so many processes before the first step.
     pub fn new(alloc: Global, count: usize) -> Result<Tally, AllocError>
         ensures empty { IfOk result (λ t. t ≡ new_tally count) }
     {
-        let mut accounts = Vec::with_capacity(alloc, count)?;
-        for _ in 0..count {
-            accounts.push(NEW_ACCOUNT)?;
-        }
         Ok(Tally {
-            accounts,
-            origins: Origins::new(alloc),
-            units: Units::new(alloc),
-            givers: Givers::new(alloc)?,
+            accounts: vec![in alloc; NEW_ACCOUNT; count]?,
+            givers: Vec::from_array(alloc, [None; OBJECT_PLACES])?,
+            origins: Vec::new(alloc),
+            units: Vec::new(alloc),
         })
     }
 
@@ -101,7 +105,7 @@ impl Tally {
     pub fn first_origin(&self, place: u8) -> Option<Origin>
         ensures value { result ≡ first place self.now.origins }
     {
-        self.origins.first(place)
+        first_origin(&self.origins, place)
     }
 
     /// Where the messages in queues come from, those of one queue in the order of receive.
@@ -115,14 +119,14 @@ impl Tally {
     pub fn balance(&self, place: u8, pid: usize) -> u32
         ensures value { result ≡ balance (units_of place pid self.now.units) }
     {
-        self.units.of(place, pid).balance()
+        units_of(&self.units, place, pid).balance()
     }
 
     /// The step that last posted to the semaphore in a place, or last received from the queue there.
     pub fn giver(&self, place: u8) -> Option<u32>
         ensures value { result ≡ giver_at place self.now.givers }
     {
-        self.givers.at(place)
+        giver_at(&self.givers, place)
     }
 
     /// Keeps what process `pid` did in step `number`, by the kernel after it.
@@ -133,32 +137,28 @@ impl Tally {
         pid: usize,
         act: &Act,
     ) -> Result<(), AllocError>
-        requires account { pid < length self.old.accounts }
-        requires room { HasRoom pid self.old.units }
         ensures kept { OnOk result (self.new
             ≡ tally_with kernel.now number pid act.now self.old) }
     {
-        self.accounts[pid] = Account {
+        let account = Account {
             local: 0,
             since: waits_from(number, act),
         };
-        self.givers.keep(number, act);
-        self.origins.keep(kernel, number, pid, act)?;
-        self.units.keep(kernel, pid, act)
+        set(&mut self.accounts, pid, account);
+        keep_givers(&mut self.givers, number, act);
+        keep_origins(&mut self.origins, kernel, number, pid, act)?;
+        keep_units(&mut self.units, kernel, pid, act)
     }
 
-    fn keep_counted(&mut self, pid: usize)
-        requires account { pid < length self.old.accounts }
-        requires room { (account_of self.old pid).local < most_units }
-        ensures kept { self.new ≡ record self.old {
+    fn keep_counted(&mut self, pid: usize) -> Result<(), AllocError>
+        ensures kept { OnOk result (self.new ≡ record self.old {
           accounts = slice_set self.old.accounts pid (account_counted (account_of self.old pid));
-        } }
+        }) }
     {
         let Account { local, since } = self.account(pid);
-        self.accounts[pid] = Account {
-            local: local + 1,
-            since,
-        };
+        let local = local.checked_add(1).ok_or(AllocError)?;
+        set(&mut self.accounts, pid, Account { local, since });
+        Ok(())
     }
 
     /// Keeps what is told of step `number`, of process `pid`, by the kernel after it.
@@ -169,18 +169,12 @@ impl Tally {
         pid: usize,
         told: &Told,
     ) -> Result<(), AllocError>
-        requires account { pid < length self.old.accounts }
-        requires room { (account_of self.old pid).local < number }
-        requires few { AreFew number self.old.units }
         ensures kept { OnOk result (self.new
             ≡ tally_after kernel.now number pid told.now self.old) }
     {
         match told {
             Told::Nothing => Ok(()),
-            Told::Counted => {
-                self.keep_counted(pid);
-                Ok(())
-            }
+            Told::Counted => self.keep_counted(pid),
             Told::Shown(event) => self.keep_act(kernel, number, pid, &event.act),
         }
     }

@@ -1,7 +1,7 @@
 //! A run that is told step by step.
 ghost use Rattle.std.specs.Prelude.{◌≡◌, ◌<◌, ◌≤◌, ◌+◌, ℕ, alloc_error, IfOk, IfErr, OnOk, length, replicate};
 ghost use Rattle.lab_sched.specs.Schedules.{steps_of, total_of, most_steps};
-ghost use Rattle.lab_told.specs.Scenes.{Scene, scene_at, scene_after, IsKept};
+ghost use Rattle.lab_told.specs.Scenes.{Scene, scene_at, scene_after};
 ghost use Rattle.lab_told.specs.Tellings.{AreThere, IsNext, TellsAll, BreaksOff};
 
 use crate::step::{steps_told, trace_step};
@@ -68,7 +68,6 @@ fn tell_first<O, T: Telling<O>>(
     steps: Steps,
 ) -> Result<u32, T::Fault>
     requires process { steps.pid < length world.old.processes }
-    requires kept { IsKept (scene_at steps.first world.old tally.old) }
     requires some { 1 ≤ steps.count }
     ensures scene { IfOk result (λ done. scene_at (steps.first + done) world.new tally.new
         ≡ scene_after (scene_at steps.first world.old tally.old) (replicate done steps.pid)) }
@@ -108,7 +107,6 @@ fn tell_block<O, T: Telling<O>>(
 ) -> Result<(), T::Fault>
     requires process { steps.pid < length world.old.processes }
     requires room { steps.first + steps.count ≤ most_steps + 1 }
-    requires kept { IsKept (scene_at steps.first world.old tally.old) }
     ensures scene { OnOk result (scene_at (steps.first + steps.count) world.new tally.new
         ≡ scene_after (scene_at steps.first world.old tally.old)
         (replicate steps.count steps.pid)) }
@@ -140,7 +138,6 @@ pub fn tell_run<O, T: Telling<O>>(
     tally: &mut Tally,
     blocks: &[Block],
 ) -> Result<(), T::Fault>
-    requires kept { IsKept (scene_at 1 world.old tally.old) }
     requires room { total_of blocks.now ≤ most_steps }
     requires there { AreThere world.old blocks.now }
     ensures scene { OnOk result (scene_at (1 + total_of blocks.now) world.new tally.new

@@ -2,9 +2,10 @@
 ghost use Rattle.std.specs.Prelude.{◌≡◌, ◌<◌, IfOk, length, slice_get, drop};
 ghost use Rattle.lab_sched.specs.Held.{process_view};
 ghost use Rattle.lab_sched.specs.Worlds.{machine_of};
+ghost use Rattle.lab_told.specs.Answers.{act_done, call_done};
 ghost use Rattle.lab_told.specs.Givers.{giver_by};
 ghost use Rattle.lab_told.specs.Origins.{origin_by};
-ghost use Rattle.lab_told.specs.Events.{opened_place, place_by, level_by, call_by, wrote, told_with, told_by};
+ghost use Rattle.lab_told.specs.Events.{place_by, level_by, call_by, wrote, told_with, told_by};
 ghost use Rattle.lab_told.specs.Tallies.{account_of};
 
 use crate::answers::{Outcome, outcome_of, result_of, wanted_of};
@@ -47,6 +48,18 @@ pub struct Called {
     pub giver: Option<u32>,
 }
 
+impl Called {
+    /// The call and the place of its object, where it was answered and not refused.
+    pub fn done(&self) -> Option<(Service, u8)>
+        ensures call { result ≡ call_done self.now }
+    {
+        match (&self.outcome, self.place) {
+            (Outcome::Replied(_), Some(place)) => Some((self.service, place)),
+            _ => None,
+        }
+    }
+}
+
 /// What a process did in a step.
 #[derive(Drop)]
 pub enum Act {
@@ -56,6 +69,18 @@ pub enum Act {
     Writes(Bytes),
     /// It ended.
     Ends(How),
+}
+
+impl Act {
+    /// The call that the process made, and the place of its object, where it was answered and not refused.
+    pub fn done(&self) -> Option<(Service, u8)>
+        ensures call { result ≡ act_done self.now }
+    {
+        match self {
+            Act::Calls(call) => call.done(),
+            Act::Writes(_) | Act::Ends(_) => None,
+        }
+    }
 }
 
 /// A step that a trace shows.
@@ -81,16 +106,6 @@ pub enum Told {
     Shown(Event),
 }
 
-fn opened_place(kernel: &Kernel, pid: usize, service: Service, outcome: &Outcome) -> Option<u8>
-    requires process { pid < length kernel.now.processes }
-    ensures place { result ≡ opened_place kernel.now pid service outcome.now }
-{
-    match outcome {
-        Outcome::Replied(Reply::Plain(number)) => held_place(kernel, pid, service, *number),
-        _ => None,
-    }
-}
-
 fn place_by(
     kernel: &Kernel,
     pid: usize,
@@ -101,10 +116,10 @@ fn place_by(
     requires process { pid < length kernel.now.processes }
     ensures place { result ≡ place_by kernel.now pid service place outcome.now }
 {
-    if service.is_open() {
-        opened_place(kernel, pid, service, outcome)
-    } else {
-        place
+    match outcome {
+        _ if !service.is_open() => place,
+        Outcome::Replied(Reply::Plain(number)) => held_place(kernel, pid, service, *number),
+        _ => None,
     }
 }
 

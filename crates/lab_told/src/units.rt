@@ -1,16 +1,13 @@
-//! Who took the units of semaphores, and who gave units.
-ghost use Rattle.std.specs.Prelude.{◌≡◌, ◌<◌, OnOk, IfOk, IfSome, length, position, []};
+//! How many units of semaphores each process took, and how many it gave.
+ghost use Rattle.std.specs.Prelude.{◌≡◌, ◌<◌, OnOk, IfSome, length, position};
 ghost use Rattle.std.specs.List.{find};
-ghost use Rattle.lab_told.specs.Answers.{result_of};
-ghost use Rattle.lab_told.specs.Units.{is_of, is_there, units_of, balance, units_with, remaining_units, units_after_wait, units_after_post, units_after_success, units_after_call, units_after};
-ghost use Rattle.lab_told.specs.Private.Room.{HasRoom};
+ghost use Rattle.lab_told.specs.Answers.{act_done};
+ghost use Rattle.lab_told.specs.Units.{is_of, units_of, balance, units_with, remaining_units, units_called, units_after};
 
-use crate::answers::result_of;
-use crate::told::{Act, Called};
+use crate::told::Act;
 use ipc_kernel::Kernel;
 use ipc_traps::Service;
-use std::alloc::{AllocError, Global};
-use std::marker::Model;
+use std::alloc::AllocError;
 
 /// How many units of a semaphore a process took and gave since the semaphore was made.
 #[derive(Clone, Copy, Debug, PartialEq, Eq)]
@@ -25,19 +22,13 @@ pub struct UnitCount {
     pub given: u32,
 }
 
-/// The counts of processes that took or gave units, one of a process and a semaphore.
-#[derive(Drop)]
-pub struct Units {
-    list: Vec<UnitCount>,
-}
-
-impl Model for Units {
-    ghost use Rattle.std.specs.Prelude.{List};
-    ghost use Rattle.lab_told.specs.declared.units.UnitCount.{UnitCount};
-
-    ghost Value = { List UnitCount };
-
-    ghost view = { λ u. u.list.items };
+impl UnitCount {
+    /// How many units more the process took than it gave; 0 where it gave as many or more.
+    pub fn balance(self) -> u32
+        ensures value { result ≡ balance self }
+    {
+        self.taken.saturating_sub(self.given)
+    }
 }
 
 fn is_of(count: &UnitCount, place: u8, pid: usize) -> bool
@@ -62,161 +53,87 @@ fn found(counts: &[UnitCount], place: u8, pid: usize) -> Option<UnitCount>
         .find(|count| is_of(count, place, pid))
 }
 
-fn is_there(kernel: &Kernel, count: UnitCount) -> bool
-    ensures value { result ≡ is_there kernel.now count }
+/// The count of process `pid` for the semaphore in a place.
+#[tactic(auto, unfolding(crate::specs::Units::units_of))]
+pub fn units_of(counts: &[UnitCount], place: u8, pid: usize) -> UnitCount
+    ensures value { result ≡ units_of place pid counts.now }
 {
-    kernel.semaphore_at(count.place).is_some()
+    match found(counts, place, pid) {
+        Some(count) => count,
+        None => UnitCount {
+            place,
+            pid,
+            taken: 0,
+            given: 0,
+        },
+    }
 }
 
-/// The counts for semaphores that are there.
-fn remaining_units(
-    alloc: Global,
+/// Counts so many units more that process `pid` took of the semaphore in a place, and gave to it.
+#[tactic(auto, unfolding(crate::specs::Units::units_with))]
+fn count_units(
+    counts: &mut Vec<UnitCount>,
+    place: u8,
+    pid: usize,
+    taken: u32,
+    given: u32,
+) -> Result<(), AllocError>
+    ensures kept { OnOk result (counts.new.items
+        ≡ units_with place pid taken given counts.old.items) }
+{
+    let was = units_of(counts, place, pid);
+    let taken = was.taken.checked_add(taken).ok_or(AllocError)?;
+    let given = was.given.checked_add(given).ok_or(AllocError)?;
+    let count = UnitCount {
+        taken,
+        given,
+        ..was
+    };
+    match index_of(counts, place, pid) {
+        Some(index) => counts[index] = count,
+        None => counts.push(count)?,
+    }
+    Ok(())
+}
+
+/// Counts the unit that process `pid` took or gave by a call that was answered and not refused.
+fn keep_called(
+    counts: &mut Vec<UnitCount>,
+    pid: usize,
+    service: Service,
+    place: u8,
+) -> Result<(), AllocError>
+    ensures kept { OnOk result (counts.new.items
+        ≡ units_called pid service place counts.old.items) }
+{
+    match service {
+        Service::SemWait | Service::SemTrywait => count_units(counts, place, pid, 1, 0),
+        Service::SemPost => count_units(counts, place, pid, 0, 1),
+        _ => Ok(()),
+    }
+}
+
+/// Lets go of the counts for semaphores that are no more.
+fn forget(counts: &mut Vec<UnitCount>, kernel: &Kernel)
+    ensures kept { counts.new.items ≡ remaining_units kernel.now counts.old.items }
+{
+    counts.retain(|count| kernel.semaphore_at(count.place).is_some());
+}
+
+/// Counts the units that process `pid` took or gave by what it did, and lets go of those of semaphores that are no more, by
+/// the kernel after it.
+pub fn keep_units(
+    counts: &mut Vec<UnitCount>,
     kernel: &Kernel,
-    counts: &[UnitCount],
-) -> Result<Vec<UnitCount>, AllocError>
-    ensures kept { IfOk result (λ v. v.items ≡ remaining_units kernel.now counts.now) }
+    pid: usize,
+    act: &Act,
+) -> Result<(), AllocError>
+    ensures kept { OnOk result (counts.new.items
+        ≡ units_after kernel.now pid (act_done act.now) counts.old.items) }
 {
-    let mut kept = Vec::new(alloc);
-    for count in counts {
-        if is_there(kernel, *count) {
-            kept.push(*count)?;
-        }
+    if let Some((service, place)) = act.done() {
+        keep_called(counts, pid, service, place)?;
     }
-    Ok(kept)
-}
-
-impl UnitCount {
-    /// How many units more the process took than it gave; 0 where it gave as many or more.
-    pub fn balance(self) -> u32
-        ensures value { result ≡ balance self }
-    {
-        self.taken.saturating_sub(self.given)
-    }
-}
-
-impl Units {
-    /// No process took or gave a unit.
-    pub fn new(alloc: Global) -> Units
-        ensures empty { result ≡ [] }
-    {
-        Units {
-            list: Vec::new(alloc),
-        }
-    }
-
-    /// The count of process `pid` for the semaphore in a place.
-    #[tactic(auto, unfolding(crate::specs::Units::units_of))]
-    pub fn of(&self, place: u8, pid: usize) -> UnitCount
-        ensures value { result ≡ units_of place pid self.now }
-    {
-        match found(&self.list, place, pid) {
-            Some(count) => count,
-            None => UnitCount {
-                place,
-                pid,
-                taken: 0,
-                given: 0,
-            },
-        }
-    }
-
-    /// Keeps another count of the same process for the same semaphore.
-    #[tactic(auto, unfolding(crate::specs::Units::units_with))]
-    fn keep_count(&mut self, count: UnitCount) -> Result<(), AllocError>
-        ensures kept { OnOk result (self.new ≡ units_with count self.old) }
-    {
-        match index_of(&self.list, count.place, count.pid) {
-            Some(index) => {
-                self.list[index] = count;
-                Ok(())
-            }
-            None => {
-                self.list.push(count)?;
-                Ok(())
-            }
-        }
-    }
-
-    fn keep_taken(&mut self, pid: usize, place: Option<u8>) -> Result<(), AllocError>
-        requires room { HasRoom pid self.old }
-        ensures kept { OnOk result (self.new ≡ units_after_wait pid place self.old) }
-    {
-        let Some(place) = place else {
-            return Ok(());
-        };
-        let count = self.of(place, pid);
-        self.keep_count(UnitCount {
-            place: count.place,
-            pid: count.pid,
-            taken: count.taken + 1,
-            given: count.given,
-        })
-    }
-
-    fn keep_given(&mut self, pid: usize, place: Option<u8>) -> Result<(), AllocError>
-        requires room { HasRoom pid self.old }
-        ensures kept { OnOk result (self.new ≡ units_after_post pid place self.old) }
-    {
-        let Some(place) = place else {
-            return Ok(());
-        };
-        let count = self.of(place, pid);
-        self.keep_count(UnitCount {
-            place: count.place,
-            pid: count.pid,
-            taken: count.taken,
-            given: count.given + 1,
-        })
-    }
-
-    /// Lets go of the counts for semaphores that are no more.
-    fn forget(&mut self, kernel: &Kernel) -> Result<(), AllocError>
-        ensures kept { OnOk result (self.new ≡ remaining_units kernel.now self.old) }
-    {
-        let alloc = *self.list.allocator();
-        let kept = remaining_units(alloc, kernel, &self.list)?;
-        self.list = kept;
-        Ok(())
-    }
-
-    /// Counts the unit that process `pid` took or gave by a call that was answered and not refused.
-    fn keep_answered(&mut self, pid: usize, call: &Called) -> Result<(), AllocError>
-        requires room { HasRoom pid self.old }
-        ensures kept { OnOk result (self.new
-            ≡ units_after_success pid call.now.place call.now.service self.old) }
-    {
-        match call.service {
-            Service::SemWait | Service::SemTrywait => self.keep_taken(pid, call.place),
-            Service::SemPost => self.keep_given(pid, call.place),
-            _ => Ok(()),
-        }
-    }
-
-    /// Counts the unit that process `pid` took or gave by a call, if it did.
-    fn keep_call(&mut self, pid: usize, call: &Called) -> Result<(), AllocError>
-        requires room { HasRoom pid self.old }
-        ensures kept { OnOk result (self.new
-            ≡ units_after_call pid call.now (result_of call.now.outcome) self.old) }
-    {
-        match result_of(&call.outcome) {
-            Some(_) => self.keep_answered(pid, call),
-            None => Ok(()),
-        }
-    }
-
-    /// Counts the units that process `pid` took or gave by what it did, and lets go of those of semaphores that are no more, by
-    /// the kernel after it.
-    pub fn keep(&mut self, kernel: &Kernel, pid: usize, act: &Act) -> Result<(), AllocError>
-        requires room { HasRoom pid self.old }
-        ensures kept { OnOk result (self.new ≡ units_after kernel.now pid act.now self.old) }
-    {
-        match act {
-            Act::Calls(call) => {
-                self.keep_call(pid, call)?;
-                self.forget(kernel)
-            }
-            Act::Ends(_) => self.forget(kernel),
-            Act::Writes(_) => Ok(()),
-        }
-    }
+    forget(counts, kernel);
+    Ok(())
 }

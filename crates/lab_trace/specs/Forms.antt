@@ -56,14 +56,10 @@ label_in address (Some s) = nearest s.assembled address
 abbrev pub label_of : List (Option Source) → ℕ → ℕ → Option (List ℕ × ℕ)
 label_of sources p address = label_in address (source_of sources p)
 
--- at which label an address is
-unfoldable pub at_text : List ℕ × ℕ → ℕ → List ℕ
-at_text l address = codes "at " ++ label_text l address
-
 -- the nearest label of an address, where there is one; `begun` says whether a note stands before it
 abbrev pub label_note : Bool → ℕ → Option (List ℕ × ℕ) → List ℕ
 label_note begun address None = []
-label_note begun address (Some l) = separator begun ++ at_text l address
+label_note begun address (Some l) = separator begun ++ codes "at " ++ label_text l address
 
 -- the line of a source at an address, where its first word is there and memory holds this word
 abbrev pub row_in : ℕ → ℕ → Option Source → Option Row
@@ -74,14 +70,10 @@ row_in address word (Some s) = held_row s.assembled address word
 abbrev pub row_of : List (Option Source) → ℕ → ℕ → ℕ → Option Row
 row_of sources p address word = row_in address word (source_of sources p)
 
--- a line of a source by its number
-unfoldable pub row_text : Row → List ℕ
-row_text row = codes "line " ++ decimal row.line
-
 -- the line of a source, where there is one; `begun` says whether a note stands before it
 abbrev pub row_note : Bool → Option Row → List ℕ
 row_note begun None = []
-row_note begun (Some row) = separator begun ++ row_text row
+row_note begun (Some row) = separator begun ++ codes "line " ++ decimal row.line
 
 -- the end of a line of process p at an address with this word: the nearest label and the line of its source there, where
 -- there are such; `begun` says whether a note stands before them

@@ -22,23 +22,15 @@ abbrev pub level_note : Option Level → List ℕ
 level_note None = []
 level_note (Some level) = separator false ++ level_text level
 
--- that a process waited, from which step on
-unfoldable pub waited_text : ℕ → List ℕ
-waited_text since = codes "waited since " ++ decimal since
-
 -- since when the process waited; `begun` says whether another note stands before it
 abbrev pub wait_note : Bool → Option ℕ → List ℕ
 wait_note begun None = []
-wait_note begun (Some n) = separator begun ++ waited_text n
-
--- where a message comes from
-unfoldable pub origin_text : Origin → List ℕ
-origin_text o = codes "from P" ++ decimal o.pid ++ codes " at " ++ decimal o.step
+wait_note begun (Some n) = separator begun ++ codes "waited since " ++ decimal n
 
 -- where a message comes from; `begun` says whether another note stands before it
 abbrev pub origin_note : Bool → Option Origin → List ℕ
 origin_note begun None = []
-origin_note begun (Some o) = separator begun ++ origin_text o
+origin_note begun (Some o) = separator begun ++ codes "from P" ++ decimal o.pid ++ codes " at " ++ decimal o.step
 
 -- the notes of a call
 abbrev pub notes : Called → List ℕ

@@ -1,13 +1,12 @@
 -- A call in words, what became of it, and the level of its object.
 use Rattle.std.specs.Prelude.{ℕ, Option, Some, None, List, [], ◌++◌, codes, slice_index}
 use Rattle.std.specs.Fmt.{decimal}
+use Rattle.ipc_errors.specs.Names.{error_name}
 use Rattle.lab_told.specs.Answers.{result_in}
 use Rattle.lab_told.specs.Attributes.{attributes_text}
 use Rattle.lab_told.specs.Words.{message_text}
 use Rattle.ipc_traps.specs.Services.{service_name}
 use Rattle.ipc_traps.specs.declared.service.Service.{Service}
-use Rattle.ipc_names.specs.declared.errno.Errno.{Errno}
-use Rattle.ipc_names.specs.declared.errno.Errno.TheVariants.{NoEntry, BadDescriptor, Again, Fault, Exists, Invalid, TooManyOpen, NoSpace, NameTooLong, Overflow, MessageSize}
 use Rattle.ipc_kernel.specs.declared.call.Reply.{Reply}
 use Rattle.ipc_kernel.specs.declared.call.Reply.TheVariants.{Plain, Message, Attr, Value}
 use Rattle.lab_told.specs.declared.answers.Outcome.{Outcome}
@@ -18,20 +17,6 @@ use Rattle.lab_told.specs.declared.handles.Level.TheVariants.{Messages, Value}
 -- a call with its arguments
 unfoldable pub call_text : Service → List ℕ → List ℕ
 call_text s arguments = service_name s ++ codes "(" ++ arguments ++ codes ")"
-
--- the name of an error (POSIX.1-2017, <errno.h>)
-abbrev pub error_name : Errno → List ℕ
-error_name NoEntry = codes "ENOENT"
-error_name BadDescriptor = codes "EBADF"
-error_name Again = codes "EAGAIN"
-error_name Fault = codes "EFAULT"
-error_name Exists = codes "EEXIST"
-error_name Invalid = codes "EINVAL"
-error_name TooManyOpen = codes "EMFILE"
-error_name NoSpace = codes "ENOSPC"
-error_name NameTooLong = codes "ENAMETOOLONG"
-error_name Overflow = codes "EOVERFLOW"
-error_name MessageSize = codes "EMSGSIZE"
 
 -- a message that was received
 abbrev pub received_text : List ℕ → ℕ → List ℕ

@@ -2,7 +2,7 @@
 //! source at their end.
 ghost use Rattle.std.specs.Prelude.{◌≡◌, ◌≤◌, ◌<◌, ◌^◌, ◌||◌, ◌++◌, OnOk, IfOk, IfSome, is_some, option_map, length, string_bytes};
 ghost use Rattle.std.specs.Fmt.{decimal};
-ghost use Rattle.lab_trace.specs.Forms.{form_for, process_column, local_column, head, separator, source_of, label_of, at_text, label_note, row_of, row_text, row_note, line_end};
+ghost use Rattle.lab_trace.specs.Forms.{form_for, process_column, local_column, head, separator, source_of, label_of, label_note, row_of, row_note, line_end};
 
 use crate::columns::{push_at_left, push_at_right};
 use lab_sources::{Near, Source};
@@ -128,8 +128,8 @@ impl<'a> Form<'a> {
         let Some(near) = self.near(pid, address) else {
             return Ok(begun);
         };
-        text.push_str(separator(begun))?;
-        push_at(text, near)?;
+        let separator = separator(begun);
+        write!(text, "{separator}at {near}")?;
         Ok(true)
     }
 
@@ -184,33 +184,14 @@ pub fn separator(begun: bool) -> &'static str
     if begun { ", " } else { " ; " }
 }
 
-#[tactic(auto, unfolding(crate::specs::Forms::at_text))]
-fn push_at(text: &mut String, near: Near<'_>) -> Result<(), AllocError>
-    ensures text { OnOk result (string_bytes text.new ≡ string_bytes text.old
-        ++ at_text (near.entry.name.now, near.entry.place) near.entry.address) }
-{
-    write!(text, "at {near}")?;
-    Ok(())
-}
-
-/// Adds a line of a source by its number.
-#[tactic(auto, unfolding(crate::specs::Forms::row_text))]
-fn push_row(text: &mut String, row: Row) -> Result<(), AllocError>
-    ensures text { OnOk result (string_bytes text.new ≡ string_bytes text.old ++ row_text row) }
-{
-    let number = row.line;
-    write!(text, "line {number}")?;
-    Ok(())
-}
-
 /// Adds the line of a source, where there is one. `begun` says whether a note stands before it.
 fn push_row_note(text: &mut String, begun: bool, row: Option<Row>) -> Result<(), AllocError>
     ensures text { OnOk result (string_bytes text.new ≡ string_bytes text.old
         ++ row_note begun row) }
 {
-    let Some(row) = row else {
-        return Ok(());
-    };
-    text.push_str(separator(begun))?;
-    push_row(text, row)
+    if let Some(row) = row {
+        let (separator, line) = (separator(begun), row.line);
+        write!(text, "{separator}line {line}")?;
+    }
+    Ok(())
 }

@@ -15,10 +15,7 @@ mod tracing;
 
 pub use fault::TraceFault;
 pub use form::Form;
-pub use lab_told::{
-    Account, Act, Bytes, Called, Event, Level, Origin, Outcome, Taken, Tally, Telling, Text, Told,
-    arguments_of, has_open, held_place, result_in, service_at, service_of_word, tell_run,
-};
+pub use lab_told::service_of_word;
 pub use lines::{columns_text, event_text, step_line};
-pub use outcomes::{error_name, push_call, push_outcome};
+pub use outcomes::{push_call, push_outcome};
 pub use tracing::{ending, missing_after, stands, trace};

@@ -1,6 +1,6 @@
 //! The line of a step.
 ghost use Rattle.std.specs.Prelude.{◌≡◌, ◌++◌, OnOk, IfOk, string_bytes};
-ghost use Rattle.lab_trace.specs.Lines.{level_note, waited_text, wait_note, origin_text, origin_note, notes, called_text, output_text, end_text, act_text, is_noted, columns, step_line};
+ghost use Rattle.lab_trace.specs.Lines.{level_note, wait_note, origin_note, notes, called_text, output_text, end_text, act_text, is_noted, columns, step_line};
 
 use crate::bytes::push_bytes;
 use crate::form::{Form, separator};
@@ -22,34 +22,14 @@ fn push_level_note(text: &mut String, level: Option<Level>) -> Result<(), AllocE
     push_level(text, level)
 }
 
-#[tactic(auto, unfolding(crate::specs::Lines::waited_text))]
-fn push_waited(text: &mut String, since: u32) -> Result<(), AllocError>
-    ensures text { OnOk result (string_bytes text.new ≡ string_bytes text.old
-        ++ waited_text since) }
-{
-    write!(text, "waited since {since}")?;
-    Ok(())
-}
-
 fn push_wait_note(text: &mut String, begun: bool, since: Option<u32>) -> Result<(), AllocError>
     ensures text { OnOk result (string_bytes text.new ≡ string_bytes text.old
         ++ wait_note begun since) }
 {
-    let Some(since) = since else {
-        return Ok(());
-    };
-    text.push_str(separator(begun))?;
-    push_waited(text, since)
-}
-
-#[tactic(auto, unfolding(crate::specs::Lines::origin_text))]
-fn push_origin(text: &mut String, origin: Origin) -> Result<(), AllocError>
-    ensures text { OnOk result (string_bytes text.new ≡ string_bytes text.old
-        ++ origin_text origin) }
-{
-    let sender = origin.pid;
-    let step = origin.step;
-    write!(text, "from P{sender} at {step}")?;
+    if let Some(since) = since {
+        let separator = separator(begun);
+        write!(text, "{separator}waited since {since}")?;
+    }
     Ok(())
 }
 
@@ -61,11 +41,11 @@ fn push_origin_note(
     ensures text { OnOk result (string_bytes text.new ≡ string_bytes text.old
         ++ origin_note begun origin) }
 {
-    let Some(origin) = origin else {
-        return Ok(());
-    };
-    text.push_str(separator(begun))?;
-    push_origin(text, origin)
+    if let Some(Origin { pid, step, .. }) = origin {
+        let separator = separator(begun);
+        write!(text, "{separator}from P{pid} at {step}")?;
+    }
+    Ok(())
 }
 
 fn push_notes(text: &mut String, call: &Called) -> Result<(), AllocError>

@@ -1,9 +1,9 @@
 //! A call in words, what became of it, and the level of its object.
 ghost use Rattle.std.specs.Prelude.{◌≡◌, ◌++◌, OnOk, string_bytes};
-ghost use Rattle.lab_trace.specs.Outcomes.{call_text, error_name, received_text, given_text, outcome_text, level_text};
+ghost use Rattle.lab_trace.specs.Outcomes.{call_text, received_text, given_text, outcome_text, level_text};
 
+use ipc_errors::error_name;
 use ipc_kernel::Reply;
-use ipc_names::Errno;
 use ipc_traps::Service;
 use lab_told::{Level, Outcome, Text, push_attributes, push_message, result_in};
 use std::alloc::AllocError;
@@ -18,25 +18,6 @@ pub fn push_call(text: &mut String, service: Service, arguments: &Text) -> Resul
     text.push_str("(")?;
     text.push_str(arguments.as_str())?;
     text.push_str(")")
-}
-
-/// The name of an error.
-pub fn error_name(error: Errno) -> &'static str
-    ensures text { result.now ≡ error_name error }
-{
-    match error {
-        Errno::NoEntry => "ENOENT",
-        Errno::BadDescriptor => "EBADF",
-        Errno::Again => "EAGAIN",
-        Errno::Fault => "EFAULT",
-        Errno::Exists => "EEXIST",
-        Errno::Invalid => "EINVAL",
-        Errno::TooManyOpen => "EMFILE",
-        Errno::NoSpace => "ENOSPC",
-        Errno::NameTooLong => "ENAMETOOLONG",
-        Errno::Overflow => "EOVERFLOW",
-        Errno::MessageSize => "EMSGSIZE",
-    }
 }
 
 fn push_received(text: &mut String, words: &[u16], priority: u16) -> Result<(), AllocError>

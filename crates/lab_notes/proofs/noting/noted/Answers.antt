@@ -1,16 +1,10 @@
-use Rattle.std.proofs.Common.{sym, ap, subst, ◌∙◌}
+use Rattle.std.proofs.Common.{ap, ◌∙◌}
 use Rattle.lab_sched.specs.Schedules.{steps_of}
-use Rattle.lab_told.specs.Scenes.{scene_at, first_scene, IsKept}
+use Rattle.lab_told.specs.Scenes.{scene_at, first_scene}
 use Rattle.lab_told.specs.Tallies.{new_tally}
-use Rattle.lab_told.proofs.SceneLemmas.{kept-first}
 use Rattle.lab_notes.specs.Notes.{new_rows, rows_after}
 use Rattle.lab_notes.proofs.NoteLemmas.{rows-all}
 use Rattle.lab_notes.proofs.noting.noted.Goals as goal
-
-pub tell_run-requires-clause-kept : goal.tell_run-requires-clause-kept
-tell_run-requires-clause-kept c =
-    let first = c.in_ok-tally.ensures.empty ∙ ap new_tally c.count.ensures.count in
-    subst (λ t. IsKept (scene_at 1 c.args.world.now t)) (sym first) (kept-first c.args.world.now)
 
 pub returns : goal.returns
 returns c =

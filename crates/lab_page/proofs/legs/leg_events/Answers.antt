@@ -1,9 +1,9 @@
-use Rattle.std.proofs.Common.{◌≡◌, ◌+◌, length, map, replicate, refl, sym, ap, subst, ◌∙◌, arith}
+use Rattle.std.proofs.Common.{◌+◌, length, map, refl, sym, ap, ◌∙◌, arith}
 use Rattle.serde_json.specs.View.{view}
 use Rattle.lab_sched.specs.Worlds.{WorldState}
-use Rattle.lab_told.specs.Scenes.{scene_at, first_scene, IsKept}
-use Rattle.lab_told.specs.Tallies.{TallyState, new_tally}
-use Rattle.lab_told.proofs.SceneLemmas.{scene-none, kept-first, kept-after, length-step}
+use Rattle.lab_told.specs.Scenes.{scene_at, first_scene}
+use Rattle.lab_told.specs.Tallies.{new_tally}
+use Rattle.lab_told.proofs.SceneLemmas.{scene-none, length-step}
 use Rattle.lab_page.proofs.LegLemmas.{leg-none, leg-added, scene-step}
 use Rattle.lab_page.proofs.legs.leg_events.Goals as goal
 
@@ -15,7 +15,6 @@ loop-done-init c =
       within = omega arith;
       scene = ap (scene_at 1 w) first ∙ sym (scene-none (first_scene w));
       events = ap (map view) c.new-events.ensures.items ∙ sym (leg-none (first_scene w));
-      kept = subst (λ (t : TallyState). IsKept (scene_at 1 w t)) (sym first) (kept-first w);
       there = c.requires.process;
     }
 
@@ -31,6 +30,5 @@ loop-done-preserved c =
       scene = led;
       events = leg-added s u c.loop-done.done c.args.pid _ _ _ c.loop-done.invariant.scene c.in_ok-push_step.ensures.added
           c.loop-done.invariant.events refl;
-      kept = subst IsKept (sym led) (kept-after s (replicate (c.loop-done.done + 1) c.args.pid) (kept-first c.args.world.now));
       there = omega (arith, len, c.loop-done.invariant.there);
     }

@@ -1,19 +1,13 @@
-use Rattle.std.proofs.Common.{◌≡◌, ℕ, List, sym, ap, subst, ◌∙◌}
+use Rattle.std.proofs.Common.{◌≡◌, ℕ, List, ap, subst, ◌∙◌}
 use Rattle.std.specs.Prelude.{IfOk, IfErr}
 use Rattle.serde_json.specs.Data.{Data}
 use Rattle.serde_json.specs.Written.{compact_text}
-use Rattle.lab_told.specs.Scenes.{scene_at, IsKept}
+use Rattle.lab_told.specs.Scenes.{scene_at}
 use Rattle.lab_told.specs.Tallies.{new_tally}
-use Rattle.lab_told.proofs.SceneLemmas.{kept-first}
 use Rattle.lab_page.specs.Faults.{IsFault}
 use Rattle.lab_page.proofs.RunLemmas.{run-first, trace-first}
 use Rattle.lab_page.proofs.PageLemmas.{result-explains}
 use Rattle.lab_page.proofs.run.written_run.Goals as goal
-
-pub take_steps-requires-clause-kept : goal.take_steps-requires-clause-kept
-take_steps-requires-clause-kept c =
-    let first = c.in_ok-tally.ensures.empty ∙ ap new_tally c.count.ensures.count in
-    subst (λ t. IsKept (scene_at 1 c.args.world.now t)) (sym first) (kept-first c.args.world.now)
 
 pub returns-clause-json : goal.returns-clause-json
 returns-clause-json c =

@@ -1,8 +1,8 @@
-use Rattle.std.proofs.Common.{◌≡◌, ◌+◌, ◌-◌, [], ◌++◌, length, replicate, refl, sym, ap, subst, ◌∙◌, arith, append-nil}
+use Rattle.std.proofs.Common.{◌≡◌, ◌+◌, ◌-◌, [], ◌++◌, length, replicate, refl, sym, ap, ◌∙◌, arith, append-nil}
 use Rattle.std.proofs.lemmas.List.{replicate-append-replicate}
 use Rattle.std.proofs.lemmas.Result.{err_from_is_err_and}
-use Rattle.lab_told.specs.Scenes.{Scene, scene_at, IsKept}
-use Rattle.lab_told.proofs.SceneLemmas.{scene-none, kept-after, length-scene}
+use Rattle.lab_told.specs.Scenes.{Scene, scene_at}
+use Rattle.lab_told.proofs.SceneLemmas.{scene-none, length-scene}
 use Rattle.lab_told.proofs.TellingLemmas.{scene-then, block-parts, told-then, breaks-first, breaks-then}
 use Rattle.lab_told.proofs.telling.tell_block.Goals as goal
 
@@ -14,7 +14,6 @@ loop-done-init g c =
       within = omega arith;
       scene = ap (λ n. scene_at n c.args.world.now c.args.tally.now) e ∙ sym (scene-none s);
       told = refl;
-      kept = rw e c.requires.kept;
       there = c.requires.process;
     }
 
@@ -34,7 +33,6 @@ loop-done-preserved g c =
       scene = led;
       told = told-then (g.T.Telling.tells c.args.telling.now) s u (replicate done p) (replicate k p) (replicate (done + k) p) _ _ _ parts c.loop-done.invariant.scene
           c.loop-done.invariant.told c.in_ok-taken.ensures.told;
-      kept = subst IsKept (sym led) (kept-after s (replicate (done + k) p) c.requires.kept);
       there = omega (arith, ap (λ (x : Scene). length x.world.processes) led, length-scene s (replicate (done + k) p), c.requires.process);
     }
 

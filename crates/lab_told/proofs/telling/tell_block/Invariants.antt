@@ -1,5 +1,5 @@
 use Rattle.std.proofs.Common.{◌≡◌, ◌+◌, ◌-◌, ◌<◌, ◌≤◌, length, replicate}
-use Rattle.lab_told.specs.Scenes.{scene_after, IsKept}
+use Rattle.lab_told.specs.Scenes.{scene_after}
 use Rattle.lab_told.specs.Tellings.{TellsAll}
 use Rattle.lab_told.proofs.telling.tell_block.Given as goal
 
@@ -11,7 +11,6 @@ invariant-loop-done g l = record {
       ≡ scene_after (record { number = l.steps.first; world = l.fn.world; tally = l.fn.tally }) (replicate l.done l.steps.pid);
   told : TellsAll (g.T.Telling.tells l.telling) (record { number = l.steps.first; world = l.fn.world; tally = l.fn.tally })
       (replicate l.done l.steps.pid) l.fn.output l.output;
-  kept : IsKept (record { number = l.steps.first + l.done; world = l.world; tally = l.tally });
   there : l.steps.pid < length l.world.processes;
 }
 

@@ -1,11 +1,11 @@
-use Rattle.std.proofs.Common.{◌+◌, length, take, drop, suc, get_or, replicate, refl, sym, ap, subst, ◌∙◌, arith, length-append}
+use Rattle.std.proofs.Common.{◌+◌, length, take, drop, suc, get_or, replicate, refl, sym, ap, ◌∙◌, arith, length-append}
 use Rattle.std.proofs.lemmas.List.{length-replicate, take_all}
 use Rattle.std.proofs.lemmas.Result.{err_from_is_err_and}
 use Rattle.lab_sched.specs.Schedules.{block, steps_of}
 use Rattle.lab_sched.proofs.ScheduleJoins.{length-steps}
 use Rattle.lab_sched.proofs.ScheduleRuns.{steps_of-none, steps-more, steps-split, steps-among}
-use Rattle.lab_told.specs.Scenes.{Scene, scene_at, scene_after, IsKept}
-use Rattle.lab_told.proofs.SceneLemmas.{scene-none, kept-after, length-scene}
+use Rattle.lab_told.specs.Scenes.{Scene, scene_at, scene_after}
+use Rattle.lab_told.proofs.SceneLemmas.{scene-none, length-scene}
 use Rattle.lab_told.proofs.TellingLemmas.{scene-then, told-then, breaks-then}
 use Rattle.lab_told.proofs.telling.tell_run.Goals as goal
 
@@ -16,7 +16,6 @@ loop-block-init g c =
       first = omega (arith, ap length steps_of-none);
       scene = sym (ap (scene_after s) steps_of-none ∙ scene-none s);
       told = rw steps_of-none refl;
-      kept = c.requires.kept;
       count = refl;
     }
 
@@ -45,7 +44,6 @@ loop-block-preserved g c =
       scene = led;
       told = told-then (g.T.Telling.tells c.args.telling.now) s u (steps_of (take i bs)) (replicate b.count b.pid) _ _ _ _ more c.loop-block.invariant.scene
           c.loop-block.invariant.told c.in_ok-tell_block.ensures.told;
-      kept = subst IsKept (sym led) (kept-after s (steps_of (take (i + 1) bs)) c.requires.kept);
       count = ap (λ (y : Scene). length y.world.processes) led ∙ length-scene s (steps_of (take (i + 1) bs));
     }
 

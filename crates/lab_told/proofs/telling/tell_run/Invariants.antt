@@ -1,6 +1,6 @@
 use Rattle.std.proofs.Common.{◌≡◌, ◌+◌, length, take}
 use Rattle.lab_sched.specs.Schedules.{steps_of}
-use Rattle.lab_told.specs.Scenes.{scene_after, IsKept}
+use Rattle.lab_told.specs.Scenes.{scene_after}
 use Rattle.lab_told.specs.Tellings.{TellsAll}
 use Rattle.lab_told.proofs.telling.tell_run.Given as goal
 
@@ -12,6 +12,5 @@ invariant-loop-block g l = record {
       ≡ scene_after (record { number = 1; world = l.fn.world; tally = l.fn.tally }) (steps_of (take l.block-index l.blocks));
   told : TellsAll (g.T.Telling.tells l.telling) (record { number = 1; world = l.fn.world; tally = l.fn.tally })
       (steps_of (take l.block-index l.blocks)) l.fn.output l.output;
-  kept : IsKept (record { number = l.first; world = l.world; tally = l.tally });
   count : length l.world.processes ≡ length l.fn.world.processes;
 }

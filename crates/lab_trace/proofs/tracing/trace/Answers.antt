@@ -3,18 +3,13 @@ use Rattle.std.specs.Io.KnownBytes.{Appends}
 use Rattle.std.proofs.KnownBytes.{Appends-trans}
 use Rattle.lab_io.proofs.Prefixes.{AppendsPrefix-after}
 use Rattle.lab_sched.specs.Schedules.{steps_of}
-use Rattle.lab_told.specs.Scenes.{Scene, scene_at, IsKept}
+use Rattle.lab_told.specs.Scenes.{Scene, scene_at}
 use Rattle.lab_told.specs.Tallies.{new_tally}
-use Rattle.lab_told.proofs.SceneLemmas.{scene-world, kept-first}
+use Rattle.lab_told.proofs.SceneLemmas.{scene-world}
 use Rattle.lab_trace.specs.Lines.{events}
 use Rattle.lab_trace.proofs.LineLemmas.{lines-told, lines-broke}
 use Rattle.lab_trace.proofs.WrittenLemmas.{on_err, on_ok, on_err-map, on_ok-map, trace-whole, lines-prefix, prefix-lines, form-is}
 use Rattle.lab_trace.proofs.tracing.trace.Goals as goal
-
-pub tell_run-requires-clause-kept : goal.tell_run-requires-clause-kept
-tell_run-requires-clause-kept g c =
-    let first = c.in_ok-tally.ensures.empty ∙ ap new_tally c.count-2.ensures.count in
-    subst (λ t. IsKept (scene_at 1 c.args.world.now t)) (sym first) (kept-first c.args.world.now)
 
 pub returns-in_err-tell_run-clause-prefix : goal.returns-in_err-tell_run-clause-prefix
 returns-in_err-tell_run-clause-prefix g c =
