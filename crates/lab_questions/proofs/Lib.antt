@@ -18,4 +18,6 @@ mod ReadingLemmas
 pub mod ToldLemmas
 mod FailureLemmas
 mod ValueLemmas
+mod LeftOrder
+mod MemberLemmas
 mod CallLemmas

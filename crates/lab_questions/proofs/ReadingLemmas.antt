@@ -54,6 +54,10 @@ joins f g h (Some m) each = ap Some (each m)
 pub same_word : (name word : List ℕ) → bytes_eq name word ≡ true → word ≡ name
 same_word name word is = sym ((bytes_eq-Decides name word).0 is)
 
+-- and one that isn't
+pub other_word : (name word : List ℕ) → bytes_eq name word ≡ false → name ≡ word → ⊥
+other_word name word other is = let same : bytes_eq name word ≡ true = (bytes_eq-Decides name word).1 is in absurd (cc)
+
 by_cond : (b : Bool) (n i : ℕ) → cond b (Some n) None ≡ Some i → n ≡ i
 by_cond true n i is = let some : ◌≡◌ {A = Option ℕ} (Some n) (Some i) = is in cc
 by_cond false n i is = let some : ◌≡◌ {A = Option ℕ} None (Some i) = is in absurd (cc)

@@ -16,4 +16,7 @@ pub mod CallWords
 pub mod Texts
 pub mod Values
 pub mod Members
+pub mod ProcessMembers
+pub mod LeftMembers
+pub mod Findings
 pub mod Private

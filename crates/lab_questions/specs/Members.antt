@@ -1,5 +1,5 @@
 -- The last members of the answers.
-use Rattle.std.specs.Prelude.{ℕ, Bool, true, false, List, ◌++◌, Option, Some, None, codes, map}
+use Rattle.std.specs.Prelude.{ℕ, Bool, true, false, List, [], ◌∷◌, Option, Some, None, codes, map}
 use Rattle.lab_worlds.specs.declared.lassos.Lasso.{Lasso}
 use Rattle.lab_questions.specs.declared.answers.Answers.{Answers}
 use Rattle.lab_questions.specs.declared.failure.Failure.{Failure}
@@ -7,16 +7,20 @@ use Rattle.lab_questions.specs.declared.failure.Failure.TheVariants.{Incomplete}
 use Rattle.lab_questions.specs.declared.object.Object.{Object}
 use Rattle.lab_questions.specs.Objects.{object_text}
 use Rattle.lab_questions.specs.Programs.{judges}
-use Rattle.lab_questions.specs.Values.{text_json, schedule_json, truth_json, values_json}
+use Rattle.lab_questions.specs.Values.{text_json, schedule_json, truth_json, array_json, member, object_json}
 
 -- objects, each as a condition names it
-abbrev pub objects_json : List Object → List ℕ
-objects_json objects = values_json (map (λ o. text_json (object_text o)) objects)
+abbrev pub objects_told : List Object → List (List ℕ)
+objects_told objects = map (λ o. text_json (object_text o)) objects
+
+-- a lasso
+unfoldable pub cycle_json : Lasso → List ℕ
+cycle_json r = object_json (member (codes "schedule") (schedule_json r.schedule) ∷ member (codes "round") (schedule_json r.steps) ∷ [])
 
 -- a lasso, or that there is none
 abbrev pub lasso_json : Option Lasso → List ℕ
 lasso_json None = codes "null"
-lasso_json (Some r) = codes "{\"schedule\":" ++ schedule_json r.schedule ++ codes ",\"round\":" ++ schedule_json r.steps ++ codes "}"
+lasso_json (Some r) = cycle_json r
 
 -- whether all is as it has to be, where something has to be so and that is known
 abbrev pub holds_json : Bool → Option Failure → List ℕ
@@ -25,22 +29,12 @@ holds_json true None = codes "true"
 holds_json true (Some Incomplete) = codes "null"
 holds_json true (Some failure) = codes "false"
 
--- the member for the objects that nobody opens
-unfoldable pub unopened_member : List Object → List ℕ
-unopened_member objects = codes ",\"unopened\":[" ++ objects_json objects ++ codes "]"
-
--- the members for whether only fair lassos are told, and for a lasso
-unfoldable pub endless_members : Bool → Option Lasso → List ℕ
-endless_members fair lasso = codes ",\"fair\":" ++ truth_json fair ++ codes ",\"endless\":" ++ lasso_json lasso
-
--- the member for whether all is as it has to be
-unfoldable pub holds_member : Bool → Option Failure → List ℕ
-holds_member judged failure = codes ",\"holds\":" ++ holds_json judged failure
-
--- the last members, and the end of the line
-unfoldable pub last_members : Answers → List ℕ
+-- the members for the objects that nobody opens, for whether only fair lassos are told, for a
+-- lasso, and for whether all is as it has to be
+unfoldable pub last_members : Answers → List (List ℕ)
 last_members answers =
-    unopened_member answers.unopened.items
-    ++ endless_members answers.exploration.fair answers.exploration.lasso
-    ++ holds_member (judges answers.asked) answers.failure
-    ++ codes "}\n"
+    member (codes "unopened") (array_json (objects_told answers.unopened.items))
+    ∷ member (codes "fair") (truth_json answers.exploration.fair)
+    ∷ member (codes "endless") (lasso_json answers.exploration.lasso)
+    ∷ member (codes "holds") (holds_json (judges answers.asked) answers.failure)
+    ∷ []

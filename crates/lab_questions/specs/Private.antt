@@ -2,5 +2,6 @@
 pub mod Told
 pub mod Presences
 pub mod Values
+pub mod Lefts
 pub mod Readings
 pub mod CallFailures

@@ -29,7 +29,27 @@ abbrev pub truth_json : Bool → List ℕ
 truth_json true = codes "true"
 truth_json false = codes "false"
 
+-- values behind others, each behind a comma
+abbrev pub further_json : List (List ℕ) → List ℕ
+further_json values = flat_map (λ value. codes "," ++ value) values
+
 -- the values of a list, with commas between them
 abbrev pub values_json : List (List ℕ) → List ℕ
 values_json [] = []
-values_json (value ∷ values) = value ++ flat_map (λ other. codes "," ++ other) values
+values_json (value ∷ values) = value ++ further_json values
+
+-- an array of these values
+abbrev pub array_json : List (List ℕ) → List ℕ
+array_json values = codes "[" ++ values_json values ++ codes "]"
+
+-- a member of an object: its name and its value
+abbrev pub member : List ℕ → List ℕ → List ℕ
+member name value = codes "\"" ++ name ++ codes "\":" ++ value
+
+-- an object of these members
+abbrev pub object_json : List (List ℕ) → List ℕ
+object_json members = codes "{" ++ values_json members ++ codes "}"
+
+-- a name, none of whose characters stands otherwise in a text, as one
+abbrev pub name_json : List ℕ → List ℕ
+name_json name = codes "\"" ++ name ++ codes "\""

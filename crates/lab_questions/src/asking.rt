@@ -36,7 +36,7 @@ use std::thread::Threads;
 /// which the conditions name them first. If only fair lassos are asked for, a
 /// lasso that is told is fair; where the exploration is complete and has none, no more than some number
 /// of passes that serve each process can follow each other. Workers judge conditions side by side.
-/// What is asked of calls is looked for by another search, of `again`, which is to be the same laboratory:
+/// What is asked of calls is looked for by another search, of `again`, which is the same laboratory:
 /// where it is so on every way, it is whatever steps are taken; else the steps of a schedule show that
 /// it isn't, or it isn't known.
 pub fn ask<O: Observer, R: Threads + Sync>(
@@ -48,6 +48,7 @@ pub fn ask<O: Observer, R: Threads + Sync>(
     observer: &mut O,
     workers: &Workers<'_, R>,
 ) -> Result<Answers, ExploreFault>
+    requires same { again ≡ fresh }
     ensures words { IfOk result (λ a. map (λ x. x.word) a.answers.items ≡ asked.words.items) }
     ensures outputs { IfOk result (λ a. a.asked.outputs ≡ asked.outputs) }
     ensures conditions { IfOk result (λ a. a.asked.never.items ≡ asked.never.items) }
@@ -55,6 +56,8 @@ pub fn ask<O: Observer, R: Threads + Sync>(
     ensures wanted { IfOk result (λ a. a.asked.wanted ≡ asked.wanted) }
     ensures shows { IfOk result (λ a. a.asked.show ≡ asked.show) }
     ensures plain { IfOk result (λ a. a.asked.plain ≡ asked.plain) }
+    ensures waiters { IfOk result (λ a. a.asked.waiters.items ≡ asked.waiters.items) }
+    ensures fairness { IfOk result (λ a. a.asked.fair ≡ asked.fair) }
     ensures text { IfOk result (λ a. string_bytes a.text
         ≡ answers_text false a.asked a.exploration a.answers.items a.output_faults.items
         a.ways.items) }
@@ -106,7 +109,7 @@ pub fn ask<O: Observer, R: Threads + Sync>(
     ensures written { IfOk result (λ a. IsTrue a.exploration.complete
         → Alongside (λ need fault. fault ≡ None → AlwaysWritten need fresh)
         asked.outputs.items a.output_faults.items) }
-    ensures ways { IfOk result (λ a. AreAllWays again asked.wanted.items a.ways.items) }
+    ensures ways { IfOk result (λ a. AreAllWays fresh asked.wanted.items a.ways.items) }
     ensures reached { IfOk result (λ a.
         AreReached fresh asked.never.items a.exploration.reached.items) }
     ensures unreached { IfOk result (λ a. IsTrue a.exploration.complete

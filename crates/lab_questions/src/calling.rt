@@ -1,8 +1,9 @@
 //! Reading what is asked of calls.
-ghost use Rattle.std.specs.Prelude.{◌≡◌, ◌<◌, ◌≤◌, ◌++◌, ◌∷◌, [], IfOk, IfSome, IsTrue, OnOk, codes, flat_map, length, map};
-ghost use Rattle.ipc_traps.specs.Services.{service_name};
+ghost use Rattle.std.specs.Prelude.{◌≡◌, ◌<◌, ◌≤◌, ◌++◌, ◌∷◌, [], None, true, false, IfOk, IfSome, IsTrue, OnOk, codes, flat_map, length, map};
+ghost use Rattle.ipc_traps.specs.Services.{service_in, service_name};
+ghost use Rattle.ipc_traps.specs.declared.service.Service.{Service as Call};
 ghost use Rattle.lc3_word.specs.Blanks.{words_between};
-ghost use Rattle.lab_questions.specs.CallWords.{kind_words, without, Say, SayOf, Asks};
+ghost use Rattle.lab_questions.specs.CallWords.{call_count, kind_words, without, Say, SayOf, Asks, forbids};
 ghost use Rattle.lab_ways.specs.declared.wanted.Pattern.{Pattern as Calls};
 
 use crate::reading::process_in;
@@ -18,22 +19,36 @@ const MOST_CALLS: u32 = 1_000;
 /// The most semaphores of which it can be asked whether they are held at one time.
 const MOST_NAMES: usize = 8;
 
-#[tactic(auto, using(crate::proofs::ReadingLemmas::same_word))]
+#[tactic(auto, using(crate::proofs::ReadingLemmas::same_word, crate::proofs::ReadingLemmas::other_word))]
 fn is_word(name: &str, word: &[u8]) -> bool
     ensures same { IsTrue result → word.now ≡ name.now }
+    ensures other { result ≡ false → name.now ≡ word.now → ⊥ }
 {
     name.as_bytes() == word
 }
 
+/// The call with a vector, if this is its name.
+fn service_at(vector: u8, word: &[u8]) -> Option<Service>
+    ensures some { IfSome result (λ service. service_name service ≡ word.now) }
+    ensures none { result ≡ None
+        → IfSome (service_in vector) (λ s. service_name s ≡ word.now → ⊥) }
+{
+    let service = Service::of_vector(vector)?;
+    if is_word(service.name(), word) {
+        Some(service)
+    } else {
+        None
+    }
+}
+
 /// The call of this name.
-fn service_named(word: &[u8]) -> Option<Service>
-    ensures name { IfSome result (λ service. service_name service ≡ word.now) }
+pub fn service_named(word: &[u8]) -> Option<Service>
+    ensures some { IfSome result (λ service. service_name service ≡ word.now) }
+    ensures none { result ≡ None → (s : Call) → service_name s ≡ word.now → ⊥ }
 {
     for vector in 0x40..0x57_u8 {
-        if let Some(service) = Service::of_vector(vector) {
-            if is_word(service.name(), word) {
-                return Some(service);
-            }
+        if let Some(service) = service_at(vector, word) {
+            return Some(service);
         }
     }
     None
@@ -170,15 +185,26 @@ fn without<'a>(alloc: Global, name: &str, words: &[&'a [u8]]) -> Result<Vec<&'a 
     Ok(found)
 }
 
+/// How many calls a word says that there are at least, if that is a number that can be asked for: 1 to 1,000.
+pub fn call_count(word: &[u8]) -> Option<u32>
+    ensures count { result ≡ call_count word.now }
+{
+    let count = unsigned(10, word)?;
+    if 1 <= count && count <= MOST_CALLS {
+        Some(count)
+    } else {
+        None
+    }
+}
+
 /// So many calls of a kind, where the number is one that can be asked for.
 fn counted(kind: CallKind, number: &[u8]) -> Option<Pattern>
     ensures pattern { IfSome result (λ pattern.
         Say (codes "calls" ∷ kind_words kind ++ codes ">=" ∷ number.now ∷ []) pattern) }
+    ensures forbids { IfSome result (λ pattern. forbids pattern ≡ false) }
 {
-    match unsigned(10, number) {
-        Some(count) if 1 <= count && count <= MOST_CALLS => Some(Pattern::AtLeast(kind, count)),
-        _ => None,
-    }
+    let count = call_count(number)?;
+    Some(Pattern::AtLeast(kind, count))
 }
 
 /// The words before `>= N` at the end of some, and N.
@@ -197,6 +223,7 @@ fn count_behind<'a, 'b>(words: &'a [&'b [u8]]) -> Option<(&'a [&'b [u8]], &'b [u
 fn often(alloc: Global, words: &[&[u8]]) -> Result<Option<Pattern>, AllocError>
     ensures pattern { IfOk result (λ read. IfSome read (λ pattern.
         Say (codes "calls" ∷ map (λ word. word.now) words.now) pattern)) }
+    ensures forbids { IfOk result (λ read. IfSome read (λ pattern. forbids pattern ≡ false)) }
 {
     if let Some((call, number)) = count_behind(words) {
         return often_counted(alloc, call, number);
@@ -215,6 +242,7 @@ fn often_counted(
     ensures pattern { IfOk result (λ read. IfSome read (λ pattern.
         Say (codes "calls" ∷ map (λ word. word.now) call.now ++ codes ">=" ∷ number.now ∷ [])
         pattern)) }
+    ensures forbids { IfOk result (λ read. IfSome read (λ pattern. forbids pattern ≡ false)) }
 {
     match kind_in(alloc, call)? {
         Some(kind) => Ok(counted(kind, number)),
@@ -226,6 +254,7 @@ fn often_counted(
 fn together(alloc: Global, words: &[&[u8]]) -> Result<Option<Pattern>, AllocError>
     ensures pattern { IfOk result (λ read. IfSome read (λ pattern.
         Say (codes "holds" ∷ map (λ word. word.now) words.now) pattern)) }
+    ensures forbids { IfOk result (λ read. IfSome read (λ pattern. forbids pattern ≡ false)) }
 {
     let words = without(alloc, "and", words)?;
     if words.is_empty() || words.len() > MOST_NAMES {
@@ -240,6 +269,7 @@ fn together(alloc: Global, words: &[&[u8]]) -> Result<Option<Pattern>, AllocErro
 fn in_order(alloc: Global, words: &[&[u8]]) -> Result<Option<Pattern>, AllocError>
     ensures pattern { IfOk result (λ read. IfSome read (λ pattern.
         Say (codes "calls" ∷ codes "in" ∷ codes "order" ∷ map (λ word. word.now) words.now) pattern)) }
+    ensures forbids { IfOk result (λ read. IfSome read (λ pattern. forbids pattern ≡ false)) }
 {
     match some_kinds_in(alloc, words)? {
         Some(kinds) => Ok(Some(Pattern::InOrder(kinds))),
@@ -250,6 +280,7 @@ fn in_order(alloc: Global, words: &[&[u8]]) -> Result<Option<Pattern>, AllocErro
 fn none_but(alloc: Global, words: &[&[u8]]) -> Result<Option<Pattern>, AllocError>
     ensures pattern { IfOk result (λ read. IfSome read (λ pattern.
         Say (codes "calls" ∷ codes "other" ∷ codes "than" ∷ map (λ word. word.now) words.now) pattern)) }
+    ensures forbids { IfOk result (λ read. IfSome read (λ pattern. forbids pattern ≡ true)) }
 {
     match some_kinds_in(alloc, words)? {
         Some(kinds) => Ok(Some(Pattern::NoneBut(kinds))),
@@ -260,6 +291,7 @@ fn none_but(alloc: Global, words: &[&[u8]]) -> Result<Option<Pattern>, AllocErro
 fn none_of(alloc: Global, words: &[&[u8]]) -> Result<Option<Pattern>, AllocError>
     ensures pattern { IfOk result (λ read. IfSome read (λ pattern.
         Say (codes "calls" ∷ map (λ word. word.now) words.now) pattern)) }
+    ensures forbids { IfOk result (λ read. IfSome read (λ pattern. forbids pattern ≡ true)) }
 {
     let words = without(alloc, "or", words)?;
     match some_kinds_in(alloc, &words)? {
@@ -272,6 +304,7 @@ fn none_of(alloc: Global, words: &[&[u8]]) -> Result<Option<Pattern>, AllocError
 fn required_in(alloc: Global, words: &[&[u8]]) -> Result<Option<Pattern>, AllocError>
     ensures pattern { IfOk result (λ read. IfSome read (λ pattern.
         Say (map (λ word. word.now) words.now) pattern)) }
+    ensures forbids { IfOk result (λ read. IfSome read (λ pattern. forbids pattern ≡ false)) }
 {
     match words {
         [calls, first, second, kinds @ ..]
@@ -288,6 +321,7 @@ fn required_in(alloc: Global, words: &[&[u8]]) -> Result<Option<Pattern>, AllocE
 fn forbidden_in(alloc: Global, words: &[&[u8]]) -> Result<Option<Pattern>, AllocError>
     ensures pattern { IfOk result (λ read. IfSome read (λ pattern.
         Say (map (λ word. word.now) words.now) pattern)) }
+    ensures forbids { IfOk result (λ read. IfSome read (λ pattern. forbids pattern ≡ true)) }
 {
     match words {
         [calls, first, second, kinds @ ..]
@@ -303,6 +337,7 @@ fn forbidden_in(alloc: Global, words: &[&[u8]]) -> Result<Option<Pattern>, Alloc
 fn pattern_in(alloc: Global, never: bool, words: &[&[u8]]) -> Result<Option<Pattern>, AllocError>
     ensures pattern { IfOk result (λ read. IfSome read (λ pattern.
         Say (map (λ word. word.now) words.now) pattern)) }
+    ensures forbids { IfOk result (λ read. IfSome read (λ pattern. forbids pattern ≡ never)) }
 {
     if never {
         forbidden_in(alloc, words)
@@ -330,6 +365,8 @@ fn process_of<'a, 'b>(words: &'a [&'b [u8]]) -> (Option<usize>, &'a [&'b [u8]])
 /// all may stand a process.
 pub fn read_calls(alloc: Global, text: &str, never: bool) -> Result<Option<Wanted>, AllocError>
     ensures asks { IfOk result (λ read. IfSome read (λ wanted. Asks text.now wanted)) }
+    ensures forbids { IfOk result (λ read.
+        IfSome read (λ wanted. forbids wanted.pattern ≡ never)) }
 {
     let words = words_between(alloc, b" ,", text.as_bytes())?;
     let (process, rest) = process_of(&words);

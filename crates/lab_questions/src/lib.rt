@@ -30,7 +30,7 @@ pub use answers::{Answer, Answers};
 pub use asked::{Asked, Reach, Show, Waiter, Word};
 pub use asking::ask;
 pub use called::CallWord;
-pub use calling::read_calls;
+pub use calling::{call_count, read_calls, service_named};
 pub use failure::Failure;
 pub use json::answers_json;
 pub use limit::{LimitMet, Standing};

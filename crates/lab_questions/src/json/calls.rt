@@ -1,58 +1,75 @@
-//! What is asked of calls and isn't so.
-use crate::json::values::{push_comma, push_schedule, push_text};
-use crate::{Answers, CallWord};
+//! What is asked of calls and isn't so, as JSON.
+ghost use Rattle.std.specs.Prelude.{◌≡◌, ◌++◌, IfOk, OnOk, string_bytes};
+ghost use Rattle.lab_questions.specs.Findings.{call_json, call_told, calls_told};
+ghost use Rattle.lab_questions.specs.Private.Values.{value_behind, told_after, AddsValues};
+
+use crate::CallWord;
+use crate::json::faults::push_required;
+use crate::json::reached::push_never;
+use crate::json::values::push_comma;
 use lab_sched::Schedule;
 use lab_ways::Ways;
 use std::alloc::{AllocError, Global};
 
-/// Adds what calls must be made and aren't, with the schedule of a way, behind so many others.
-pub(crate) fn push_uncalled(
+/// Adds what is asked of calls and isn't so on a way.
+fn push_against(
     alloc: Global,
     text: &mut String,
-    answers: &Answers,
+    word: &CallWord,
+    schedule: &Schedule,
+) -> Result<(), AllocError>
+    ensures text { OnOk result (string_bytes text.new
+        ≡ string_bytes text.old ++ call_json word.now schedule.now) }
+{
+    let asked = word.text.as_bytes();
+    if word.never {
+        return push_never(alloc, text, asked, schedule);
+    }
+    push_required(alloc, text, asked, schedule)
+}
+
+/// Adds what is asked of calls, if a way shows that it isn't so and this is asked, behind a comma
+/// unless it is the first; and gives 1 once one is told.
+fn push_call(
+    alloc: Global,
+    text: &mut String,
+    word: &CallWord,
+    ways: &Ways,
+    never: bool,
+    told: usize,
+) -> Result<usize, AllocError>
+    ensures text { OnOk result (string_bytes text.new ≡ string_bytes text.old
+        ++ value_behind told (call_told never word.now ways.now)) }
+    ensures told { IfOk result (λ after.
+        after ≡ told_after told (call_told never word.now ways.now)) }
+{
+    let Ways::Without(schedule) = ways else {
+        return Ok(told);
+    };
+    if word.never != never {
+        return Ok(told);
+    }
+    push_comma(text, told)?;
+    push_against(alloc, text, word, schedule)?;
+    Ok(1)
+}
+
+/// Adds what calls must never be made and are, or what must be made and aren't, behind so many
+/// others.
+pub(crate) fn push_calls(
+    alloc: Global,
+    text: &mut String,
+    words: &[CallWord],
+    ways: &[Ways],
+    never: bool,
     before: usize,
-) -> Result<(), AllocError> {
+) -> Result<usize, AllocError>
+    ensures added { IfOk result (λ told. AddsValues before (string_bytes text.old)
+        (string_bytes text.new) told (calls_told never words.now ways.now)) }
+{
     let mut told = before;
-    for (word, ways) in answers.asked.call_words.iter().zip(answers.ways.iter()) {
-        if let Some(schedule) = against(word, ways, false) {
-            push_comma(text, told)?;
-            told = 1;
-            text.push_str("{\"require\":")?;
-            push_text(text, word.text.as_bytes())?;
-            text.push_str(",\"schedules\":[")?;
-            push_schedule(alloc, text, schedule)?;
-            text.push_str("]}")?;
-        }
+    for number in 0..words.len().min(ways.len()) {
+        told = push_call(alloc, text, &words[number], &ways[number], never, told)?;
     }
-    Ok(())
-}
-
-/// Adds what calls must never be made and are, with the schedule of a way, behind what was reached.
-pub(crate) fn push_never_called(
-    alloc: Global,
-    text: &mut String,
-    answers: &Answers,
-) -> Result<(), AllocError> {
-    let reached = &answers.exploration.reached;
-    let mut told = usize::from(reached.iter().any(|schedule| schedule.is_some()));
-    for (word, ways) in answers.asked.call_words.iter().zip(answers.ways.iter()) {
-        if let Some(schedule) = against(word, ways, true) {
-            push_comma(text, told)?;
-            told = 1;
-            text.push_str("{\"never\":")?;
-            push_text(text, word.text.as_bytes())?;
-            text.push_str(",\"schedule\":")?;
-            push_schedule(alloc, text, schedule)?;
-            text.push_str("}")?;
-        }
-    }
-    Ok(())
-}
-
-/// The schedule of the way on which what is asked isn't so, of what must never be so or of what must.
-fn against<'a>(word: &CallWord, ways: &'a Ways, never: bool) -> Option<&'a Schedule> {
-    match ways {
-        Ways::Without(schedule) if word.never == never => Some(schedule),
-        _ => None,
-    }
+    Ok(told)
 }

@@ -1,8 +1,8 @@
 //! The last members of the answers.
-ghost use Rattle.std.specs.Prelude.{◌≡◌, ◌++◌, OnOk, string_bytes};
-ghost use Rattle.lab_questions.specs.Members.{last_members, objects_json, lasso_json, holds_json, unopened_member, endless_members, holds_member};
+ghost use Rattle.std.specs.Prelude.{◌≡◌, ◌++◌, OnOk, codes, string_bytes};
+ghost use Rattle.lab_questions.specs.Members.{last_members, objects_told, cycle_json, lasso_json, holds_json};
 ghost use Rattle.lab_questions.specs.Private.Values.{first_comma};
-ghost use Rattle.lab_questions.specs.Values.{text_json};
+ghost use Rattle.lab_questions.specs.Values.{text_json, truth_json, array_json, further_json, member, values_json};
 ghost use Rattle.lab_questions.specs.Objects.{object_text};
 
 use crate::json::values::{push_comma, push_schedule, push_text, truth_name};
@@ -27,12 +27,25 @@ fn push_object(
 
 /// Adds objects, with commas between them.
 fn push_objects(alloc: Global, text: &mut String, objects: &[Object]) -> Result<(), AllocError>
-    ensures text { OnOk result
-        (string_bytes text.new ≡ string_bytes text.old ++ objects_json objects.now) }
+    ensures text { OnOk result (string_bytes text.new
+        ≡ string_bytes text.old ++ values_json (objects_told objects.now)) }
 {
     for (at, object) in objects.iter().enumerate() {
         push_object(alloc, text, at, object)?;
     }
+    Ok(())
+}
+
+#[tactic(auto, using(crate::proofs::MemberLemmas::cycle_told))]
+fn push_cycle(alloc: Global, text: &mut String, lasso: &Lasso) -> Result<(), AllocError>
+    ensures text { OnOk result
+        (string_bytes text.new ≡ string_bytes text.old ++ cycle_json lasso.now) }
+{
+    text.push_str("{\"schedule\":")?;
+    push_schedule(alloc, text, &lasso.schedule)?;
+    text.push_str(",\"round\":")?;
+    push_schedule(alloc, text, &lasso.steps)?;
+    text.push_str("}")?;
     Ok(())
 }
 
@@ -41,14 +54,10 @@ fn push_lasso(alloc: Global, text: &mut String, lasso: &Option<Lasso>) -> Result
     ensures text { OnOk result
         (string_bytes text.new ≡ string_bytes text.old ++ lasso_json lasso.now) }
 {
-    let Some(lasso) = lasso else {
-        return text.push_str("null");
-    };
-    text.push_str("{\"schedule\":")?;
-    push_schedule(alloc, text, &lasso.schedule)?;
-    text.push_str(",\"round\":")?;
-    push_schedule(alloc, text, &lasso.steps)?;
-    text.push_str("}")
+    match lasso {
+        Some(lasso) => push_cycle(alloc, text, lasso),
+        None => text.push_str("null"),
+    }
 }
 
 /// Whether all is as it has to be, where something has to be so and that is known.
@@ -69,55 +78,55 @@ fn holds_name(judged: bool, failure: Option<Failure>) -> &'static str
     }
 }
 
-#[tactic(auto, unfolding(crate::specs::Members::unopened_member))]
 fn push_unopened(alloc: Global, text: &mut String, objects: &[Object]) -> Result<(), AllocError>
-    ensures text { OnOk result
-        (string_bytes text.new ≡ string_bytes text.old ++ unopened_member objects.now) }
+    ensures text { OnOk result (string_bytes text.new ≡ string_bytes text.old
+        ++ (codes "," ++ member (codes "unopened") (array_json (objects_told objects.now)))) }
 {
     text.push_str(",\"unopened\":[")?;
     push_objects(alloc, text, objects)?;
     text.push_str("]")
 }
 
-/// Adds the members for whether only fair lassos are told, and for a lasso.
-#[tactic(auto, unfolding(crate::specs::Members::endless_members))]
-fn push_endless(
-    alloc: Global,
-    text: &mut String,
-    fair: bool,
-    lasso: &Option<Lasso>,
-) -> Result<(), AllocError>
-    ensures text { OnOk result
-        (string_bytes text.new ≡ string_bytes text.old ++ endless_members fair lasso.now) }
+fn push_fair(text: &mut String, fair: bool) -> Result<(), AllocError>
+    ensures text { OnOk result (string_bytes text.new ≡ string_bytes text.old
+        ++ (codes "," ++ member (codes "fair") (truth_json fair))) }
 {
     text.push_str(",\"fair\":")?;
-    text.push_str(truth_name(fair))?;
-    text.push_str(",\"endless\":")?;
-    push_lasso(alloc, text, lasso)
+    text.push_str(truth_name(fair))
 }
 
-#[tactic(auto, unfolding(crate::specs::Members::holds_member))]
+fn push_endless(alloc: Global, text: &mut String, lasso: &Option<Lasso>) -> Result<(), AllocError>
+    ensures text { OnOk result (string_bytes text.new ≡ string_bytes text.old
+        ++ (codes "," ++ member (codes "endless") (lasso_json lasso.now))) }
+{
+    text.push_str(",\"endless\":")?;
+    push_lasso(alloc, text, lasso)?;
+    Ok(())
+}
+
 fn push_holds(text: &mut String, judged: bool, failure: Option<Failure>) -> Result<(), AllocError>
-    ensures text { OnOk result
-        (string_bytes text.new ≡ string_bytes text.old ++ holds_member judged failure) }
+    ensures text { OnOk result (string_bytes text.new ≡ string_bytes text.old
+        ++ (codes "," ++ member (codes "holds") (holds_json judged failure))) }
 {
     text.push_str(",\"holds\":")?;
     text.push_str(holds_name(judged, failure))
 }
 
 /// Adds the last members, and the end of the line.
-#[tactic(auto, unfolding(crate::specs::Members::last_members))]
+#[tactic(auto, using(crate::proofs::MemberLemmas::last_told))]
 pub(crate) fn push_last(
     alloc: Global,
     text: &mut String,
     answers: &Answers,
 ) -> Result<(), AllocError>
-    ensures text { OnOk result
-        (string_bytes text.new ≡ string_bytes text.old ++ last_members answers.now) }
+    ensures text { OnOk result (string_bytes text.new
+        ≡ string_bytes text.old ++ further_json (last_members answers.now) ++ codes "}\n") }
 {
     let found = &answers.exploration;
     push_unopened(alloc, text, &answers.unopened)?;
-    push_endless(alloc, text, found.fair, &found.lasso)?;
+    push_fair(text, found.fair)?;
+    push_endless(alloc, text, &found.lasso)?;
     push_holds(text, answers.asked.judges(), answers.failure)?;
-    text.push_str("}\n")
+    text.push_str("}\n")?;
+    Ok(())
 }

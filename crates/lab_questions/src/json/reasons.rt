@@ -1,17 +1,25 @@
 //! Why an exploration isn't complete.
+ghost use Rattle.std.specs.Prelude.{◌≡◌, ◌++◌, IfOk, OnOk, codes, map, string_bytes};
+ghost use Rattle.lab_questions.specs.Findings.{stops_named, walk_limits, search_limits, limits_met};
+ghost use Rattle.lab_questions.specs.Values.{array_json, member, name_json, values_json};
+
 use crate::Reach;
 use crate::json::values::push_comma;
 use lab_worlds::{Exploration, Limits};
 use std::alloc::{AllocError, Global};
 use std::fmt::Write;
 
-/// The names of the limits that walks met: so many were to be taken, or, where something was found, no more.
+/// The names of the limits that walks met: so many were to be taken, or, where something was found,
+/// no more.
 fn limits_of_walks(
     alloc: Global,
     found: &Exploration,
     count: u32,
     first: bool,
-) -> Result<Vec<&'static str>, AllocError> {
+) -> Result<Vec<&'static str>, AllocError>
+    ensures names { IfOk result (λ met.
+        map (λ name. name.now) met.items ≡ walk_limits found.now count first) }
+{
     let mut met = Vec::new(alloc);
     if found.refused {
         met.push("memory")?;
@@ -24,23 +32,22 @@ fn limits_of_walks(
     Ok(met)
 }
 
-/// The names of the limits that a search met, if it didn't visit everything: where something was found it was to visit no more
-/// worlds than so many.
-fn limits_of_worlds(
+/// The names of the limits that a search met that isn't complete: whether it visited as many worlds
+/// as it was to, and whether memory was refused.
+fn stops_of(
     alloc: Global,
-    found: &Exploration,
-    limits: Limits,
+    is_full: bool,
+    refused: bool,
     first: bool,
-) -> Result<Vec<&'static str>, AllocError> {
+) -> Result<Vec<&'static str>, AllocError>
+    ensures names { IfOk result (λ met.
+        map (λ name. name.now) met.items ≡ stops_named is_full refused first) }
+{
     let mut met = Vec::new(alloc);
-    if found.complete {
-        return Ok(met);
-    }
-    let is_full = found.worlds >= limits.worlds;
     if is_full && !first {
         met.push("worlds")?;
     }
-    if found.refused {
+    if refused {
         met.push("memory")?;
     }
     if is_full && first {
@@ -52,20 +59,75 @@ fn limits_of_worlds(
     Ok(met)
 }
 
-/// Adds the names of the limits that were met, where not everything was visited, with commas between them.
+/// The names of the limits that a search met, if it didn't visit everything: where something was
+/// found it was to visit no more worlds than so many.
+fn limits_of_worlds(
+    alloc: Global,
+    found: &Exploration,
+    limits: Limits,
+    first: bool,
+) -> Result<Vec<&'static str>, AllocError>
+    ensures names { IfOk result (λ met.
+        map (λ name. name.now) met.items ≡ search_limits found.now limits first) }
+{
+    if found.complete {
+        return Ok(Vec::new(alloc));
+    }
+    stops_of(alloc, found.worlds >= limits.worlds, found.refused, first)
+}
+
+/// The names of the limits that were met.
+fn limits_of(
+    alloc: Global,
+    found: &Exploration,
+    reach: Reach,
+) -> Result<Vec<&'static str>, AllocError>
+    ensures names { IfOk result (λ met. map (λ name. name.now) met.items
+        ≡ limits_met found.now reach.limits reach.is_stage reach.walks) }
+{
+    match reach.walks {
+        Some(walks) => limits_of_walks(alloc, found, walks.count, reach.is_stage),
+        None => limits_of_worlds(alloc, found, reach.limits, reach.is_stage),
+    }
+}
+
+fn push_name(text: &mut String, name: &str) -> Result<(), AllocError>
+    ensures text { OnOk result (string_bytes text.new
+        ≡ string_bytes text.old ++ name_json name.now) }
+{
+    match write!(text, "\"{name}\"") {
+        Ok(()) => Ok(()),
+        Err(error) => Err(error),
+    }
+}
+
+fn push_names(text: &mut String, names: &[&str]) -> Result<(), AllocError>
+    ensures text { OnOk result (string_bytes text.new ≡ string_bytes text.old
+        ++ values_json (map (λ name. name_json name.now) names.now)) }
+{
+    for (at, name) in names.iter().enumerate() {
+        push_comma(text, at)?;
+        push_name(text, name)?;
+    }
+    Ok(())
+}
+
+/// Adds the names of the limits that were met, where not everything was visited, with commas
+/// between them.
+#[tactic(auto, using(crate::proofs::MemberLemmas::names_told))]
 pub(crate) fn push_limits(
     alloc: Global,
     text: &mut String,
     found: &Exploration,
     reach: Reach,
-) -> Result<(), AllocError> {
-    let names = match reach.walks {
-        Some(walks) => limits_of_walks(alloc, found, walks.count, reach.is_stage)?,
-        None => limits_of_worlds(alloc, found, reach.limits, reach.is_stage)?,
-    };
-    for (at, name) in names.iter().enumerate() {
-        push_comma(text, at)?;
-        write!(text, "\"{name}\"")?;
-    }
+) -> Result<(), AllocError>
+    ensures text { OnOk result (string_bytes text.new ≡ string_bytes text.old
+        ++ (codes "," ++ member (codes "limits") (array_json (map name_json
+        (limits_met found.now reach.limits reach.is_stage reach.walks))))) }
+{
+    let names = limits_of(alloc, found, reach)?;
+    text.push_str(",\"limits\":[")?;
+    push_names(text, &names)?;
+    text.push_str("]")?;
     Ok(())
 }

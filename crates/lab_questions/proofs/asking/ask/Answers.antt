@@ -1,4 +1,4 @@
-use Rattle.std.proofs.Common.{string_bytes, IfSome, subst, sym}
+use Rattle.std.proofs.Common.{string_bytes, IfSome, rules, subst, sym}
 use Rattle.lab_questions.specs.Called.{AreAlways, IsFailureOfAll}
 use Rattle.lab_questions.specs.declared.asked.Asked.{Asked}
 use Rattle.lab_questions.proofs.AnswerLemmas.{all_refuted, all_met}
@@ -101,6 +101,9 @@ returns-clause-says_bounded g c unfair says quiet =
     let text = string_bytes c.in_ok-said.said.text in
     let is = c.in_ok-said.ensures.text in
     c.in_ok-found.ensures.bounded unfair (is_complete asked found answers faults ways text is says) (has_no_lasso asked found answers faults ways text is quiet)
+
+pub returns-clause-ways : goal.returns-clause-ways
+returns-clause-ways g c = rw (← c.requires.same) (search rules)
 
 pub returns-clause-passes : goal.returns-clause-passes
 returns-clause-passes g c = (
