@@ -1,5 +1,5 @@
 -- What is asked of conditions, and of calls.
-use Rattle.std.proofs.Common.{◌≡◌, ℕ, ◌+◌, ◌<◌, ◌≤◌, true, false, List, [], ◌∷◌, ◌++◌, Some, None, Bor, length, take, get_or, map, ap, sym, subst, ◌∙◌, All, Any, arith}
+use Rattle.std.proofs.Common.{◌≡◌, ℕ, Bool, ◌+◌, ◌<◌, ◌≤◌, true, false, List, [], ◌∷◌, ◌++◌, Some, None, Bor, length, take, get_or, map, ap, sym, subst, ◌∙◌, All, Any, arith}
 use Rattle.std.proofs.lemmas.List.{take_more, take_all, map-append}
 use Rattle.std.proofs.lemmas.Grind.{common_steps}
 use Rattle.std.proofs.lemmas.List.Elements.{All-push}
@@ -8,8 +8,7 @@ use Rattle.lab_conditions.specs.declared.never.Never.{Never}
 use Rattle.lab_conditions.specs.declared.never.Never.TheVariants.{Holds, Lost, Refused}
 use Rattle.lab_conditions.specs.Written.{words, condition_in, are_lost, refusal_in, Writes}
 use Rattle.lab_ways.specs.declared.wanted.Wanted.{Wanted}
-use Rattle.lab_questions.specs.CallWords.{Asks}
-use Rattle.lab_commands.specs.Private.Inquiries.{IsAsked, IsAskedOfCalls}
+use Rattle.lab_commands.specs.Private.Inquiries.{IsAsked, AsksSo, IsAskedOfCalls}
 
 -- what is among some is among them with others behind
 any_with : {A : Type 0} (P : A → Type 0) (xs ys : List A) → Any P xs → Any P (xs ++ ys)
@@ -59,30 +58,30 @@ pub asked_all : (nevers : List Never) (words : List (Bor (List ℕ))) (i : ℕ) 
 asked_all nevers words i done all = subst (λ (ws : List (Bor (List ℕ))). All (IsAsked nevers) (map (λ word. word.now) ws)) (take_all i words done) all
 
 -- what is asked of calls stays asked, where more is
-called_with : (wanted more : List Wanted) (text : List ℕ) → IsAskedOfCalls wanted text → IsAskedOfCalls (wanted ++ more) text
-called_with wanted more text asked w = any_with (Asks text) wanted more (asked w)
+called_with : (never : Bool) (wanted more : List Wanted) (text : List ℕ) → IsAskedOfCalls never wanted text → IsAskedOfCalls never (wanted ++ more) text
+called_with never wanted more text asked w = any_with (AsksSo never text) wanted more (asked w)
 
 -- it is asked where it stands behind others
-pub called_last : (wanted : List Wanted) (one : Wanted) (text : List ℕ) → Asks text one → IsAskedOfCalls (wanted ++ one ∷ []) text
-called_last wanted one text asks w = Any-push (Asks text) wanted one asks
+pub called_last : (never : Bool) (wanted : List Wanted) (one : Wanted) (text : List ℕ) → AsksSo never text one → IsAskedOfCalls never (wanted ++ one ∷ []) text
+called_last never wanted one text asks w = Any-push (AsksSo never text) wanted one asks
 
 -- of all these words it stays asked
-pub called_still : (wanted more next : List Wanted) (texts : List (List ℕ)) → next ≡ wanted ++ more → All (IsAskedOfCalls wanted) texts → All (IsAskedOfCalls next) texts
-called_still wanted more next texts is all k d within =
-    subst (λ ws. IsAskedOfCalls ws (get_or texts k d)) (sym is) (called_with wanted more (get_or texts k d) (all k d within))
+pub called_still : (never : Bool) (wanted more next : List Wanted) (texts : List (List ℕ)) → next ≡ wanted ++ more → All (IsAskedOfCalls never wanted) texts → All (IsAskedOfCalls never next) texts
+called_still never wanted more next texts is all k d within =
+    subst (λ ws. IsAskedOfCalls never ws (get_or texts k d)) (sym is) (called_with never wanted more (get_or texts k d) (all k d within))
 
 -- the words so far with one more, of which it is asked
-pub called_next : (wanted more next : List Wanted) (words : List (Bor (List ℕ))) (i : ℕ) (d : Bor (List ℕ)) → i < length words → next ≡ wanted ++ more
-    → All (IsAskedOfCalls wanted) (map (λ word. word.now) (take i words)) → IsAskedOfCalls next (get_or words i d).now
-    → All (IsAskedOfCalls next) (map (λ word. word.now) (take (i + 1) words))
-called_next wanted more next words i d within is all last =
+pub called_next : (never : Bool) (wanted more next : List Wanted) (words : List (Bor (List ℕ))) (i : ℕ) (d : Bor (List ℕ)) → i < length words → next ≡ wanted ++ more
+    → All (IsAskedOfCalls never wanted) (map (λ word. word.now) (take i words)) → IsAskedOfCalls never next (get_or words i d).now
+    → All (IsAskedOfCalls never next) (map (λ word. word.now) (take (i + 1) words))
+called_next never wanted more next words i d within is all last =
     let seen : Bor (List ℕ) → List ℕ = λ word. word.now in
     let split : map seen (take (i + 1) words) ≡ map seen (take i words) ++ (get_or words i d).now ∷ [] =
     ap (map seen) (take_more words i d within) ∙ map-append seen (take i words) (get_or words i d ∷ []) in
-    subst (λ texts. All (IsAskedOfCalls next) texts) (sym split)
-    (All-push (IsAskedOfCalls next) (map seen (take i words)) (get_or words i d).now (called_still wanted more next (map seen (take i words)) is all) last)
+    subst (λ texts. All (IsAskedOfCalls never next) texts) (sym split)
+    (All-push (IsAskedOfCalls never next) (map seen (take i words)) (get_or words i d).now (called_still never wanted more next (map seen (take i words)) is all) last)
 
 -- all words, where there are no more
-pub called_all : (wanted : List Wanted) (words : List (Bor (List ℕ))) (i : ℕ) → length words ≤ i → All (IsAskedOfCalls wanted) (map (λ word. word.now) (take i words))
-    → All (IsAskedOfCalls wanted) (map (λ word. word.now) words)
-called_all wanted words i done all = subst (λ (ws : List (Bor (List ℕ))). All (IsAskedOfCalls wanted) (map (λ word. word.now) ws)) (take_all i words done) all
+pub called_all : (never : Bool) (wanted : List Wanted) (words : List (Bor (List ℕ))) (i : ℕ) → length words ≤ i → All (IsAskedOfCalls never wanted) (map (λ word. word.now) (take i words))
+    → All (IsAskedOfCalls never wanted) (map (λ word. word.now) words)
+called_all never wanted words i done all = subst (λ (ws : List (Bor (List ℕ))). All (IsAskedOfCalls never wanted) (map (λ word. word.now) ws)) (take_all i words done) all

@@ -1,5 +1,5 @@
 -- What tells answers is always there, and what shows a failure.
-use Rattle.std.proofs.Common.{◌≡◌, ℕ, ◌++◌, List, [], Option, Some, None, Bool, true, false, refl, sym, ap, IfSome, string_bytes}
+use Rattle.std.proofs.Common.{◌≡◌, ℕ, List, [], Option, Some, None, refl, sym, ap, IfSome, string_bytes}
 use Rattle.std.specs.Option.{option_map}
 use Rattle.std.specs.declared.string.String.{String}
 use Rattle.std.specs.declared.alloc.Global.{Global}
@@ -16,10 +16,9 @@ use Rattle.lab_questions.specs.declared.failure.Failure.{Failure}
 use Rattle.lab_questions.specs.declared.failure.Failure.TheVariants.{Not, Output, Reached, Endless, Call, Incomplete}
 use Rattle.lab_questions.specs.Called.{ShowsWay}
 use Rattle.lab_questions.specs.Texts.{ShowsFault, ShowsOutput, ShowsReached, ShowsLasso}
-use Rattle.lab_questions.specs.Members.{last_members}
-use Rattle.lab_places.specs.Placed.{SourceSeen, placed}
+use Rattle.lab_places.specs.Placed.{SourceSeen}
 use Rattle.lab_commands.specs.declared.explore.Search.{Search}
-use Rattle.lab_commands.specs.Told.{ShowsFailure, numbered_end, IsChosen, line_or_none, TellsChosen, EndsAsJson, TellsAll, Tells, HasTold, HasBegun}
+use Rattle.lab_commands.specs.Told.{ShowsFailure, numbered_end, IsChosen, line_or_none, TellsChosen, all_told, Tells, HasTold, HasBegun}
 
 -- what the schedule of a failure shows, failure by failure
 pub shows_failure : (a : Answers) (f : Option Failure) (s : Option (String Global)) → a.failure ≡ f
@@ -54,13 +53,9 @@ shows_none a (Some (Reached i)) = tt
 shows_none a (Some Endless) = tt
 shows_none a (Some (Call k)) = tt
 
-all_told : (sources : List (Option SourceSeen)) (a : Answers) (json : Bool) → (text : List ℕ) × TellsAll sources a json text
-all_told sources a true = (last_members a, record { front = []; members = refl })
-all_told sources a false = (placed sources (string_bytes a.text), refl)
-
 -- there is a text that tells what was found
 some_told : (sources : List (Option SourceSeen)) (s : Search) (choice : Option Choice) → (text : List ℕ) × Tells sources s choice text
-some_told sources s None = all_told sources s.answers s.inquiry.json
+some_told sources s None = (all_told sources s s.inquiry.json, refl)
 some_told sources s (Some Bad) = ([], record { shown = None; chosen = shows_none s.answers s.answers.failure; line = refl })
 some_told sources s (Some (End n)) =
     let shown = option_map (λ e. schedule_text e.schedule) (numbered_end s.answers n) in
@@ -91,7 +86,3 @@ has_begun sources s old new text tells begun = record { text = text; tells = tel
 pub tells_chosen : (a : Answers) (choice : Choice) (text : List ℕ) (shown : Option (List ℕ)) → IsChosen a choice shown → text ≡ line_or_none shown
     → TellsChosen a choice text
 tells_chosen a choice text shown chosen line = record { shown = shown; chosen = chosen; line = line }
-
--- the bytes of JSON
-pub ends_as_json : (a : Answers) (text : List ℕ) (found : (front : List ℕ) × (text ≡ front ++ last_members a)) → EndsAsJson a text
-ends_as_json a text found = record { front = found.0; members = found.1 }

@@ -1,3 +1,5 @@
+pub mod Complaints
+pub mod Found
 pub mod Plain
 pub mod Runs
 pub mod Told

@@ -15,7 +15,7 @@ use Rattle.lab_questions.specs.declared.limit.LimitMet.{LimitMet}
 use Rattle.lab_questions.specs.declared.limit.LimitMet.TheVariants.{Worlds}
 use Rattle.lab_questions.specs.EndTexts.{told_end}
 use Rattle.lab_questions.specs.Texts.{ShowsFault, ShowsOutput, ShowsReached, ShowsLasso}
-use Rattle.lab_questions.specs.Members.{last_members}
+use Rattle.lab_questions.specs.Findings.{answers_line}
 use Rattle.lab_places.specs.Placed.{SourceSeen, placed}
 use Rattle.lab_commands.specs.declared.explore.Search.{Search}
 
@@ -49,19 +49,14 @@ pub record TellsChosen (a : Answers) (choice : Choice) (text : List ℕ) : Type 
   pub chosen : IsChosen a choice shown
   pub line : text ≡ line_or_none shown
 
--- a text ends as the JSON of answers does
-pub record EndsAsJson (a : Answers) (text : List ℕ) : Type 0 where
-  pub front : List ℕ
-  pub members : text ≡ front ++ last_members a
-
--- a text tells all answers: as JSON, or as lines, with where processes stand in these sources
-abbrev pub TellsAll : List (Option SourceSeen) → Answers → Bool → List ℕ → Type 0
-TellsAll sources a true text = EndsAsJson a text
-TellsAll sources a false text = text ≡ placed sources (string_bytes a.text)
+-- all that is told of a search: as JSON, or as lines, with where processes stand in these sources
+abbrev pub all_told : List (Option SourceSeen) → Search → Bool → List ℕ
+all_told sources s true = answers_line s.answers s.inquiry.reach s.limit
+all_told sources s false = placed sources (string_bytes s.answers.text)
 
 -- a text tells what was found: the schedule that is chosen, or all answers
 abbrev pub Tells : List (Option SourceSeen) → Search → Option Choice → List ℕ → Type 0
-Tells sources s None text = TellsAll sources s.answers s.inquiry.json text
+Tells sources s None text = text ≡ all_told sources s s.inquiry.json
 Tells sources s (Some choice) text = TellsChosen s.answers choice text
 
 -- a text was appended that tells what was found

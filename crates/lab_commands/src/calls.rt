@@ -1,15 +1,13 @@
 //! What is asked of calls, read from words.
-ghost use Rattle.std.specs.Prelude.{◌≡◌, ◌++◌, List, map, All, IfOk, OnOk};
+ghost use Rattle.std.specs.Prelude.{◌≡◌, ◌++◌, List, true, false, map, All, IfOk, OnOk};
 ghost use Rattle.lab_ways.specs.declared.wanted.Wanted.{Wanted as Asked};
-ghost use Rattle.lab_questions.specs.CallWords.{Asks};
-ghost use Rattle.lab_commands.specs.Private.Inquiries.{IsAskedOfCalls};
+ghost use Rattle.lab_commands.specs.Private.Inquiries.{AsksSo, IsAskedOfCalls};
 
 use crate::advice::words_of;
 use crate::complaint::{Complaint, Misuse};
 use crate::outputs::unknown;
-use ipc_traps::Service;
 use lab_arguments::is_of_calls;
-use lab_questions::{CallWord, read_calls};
+use lab_questions::{CallWord, call_count, read_calls, service_named};
 use lab_ways::Wanted;
 use lc3_word::unsigned;
 use std::alloc::{AllocError, Global};
@@ -30,9 +28,9 @@ pub(crate) fn calls_of<'a>(
     count: usize,
 ) -> Result<Calls, Complaint<'a>>
     ensures required { IfOk result (λ calls.
-        All (IsAskedOfCalls calls.wanted.items) (map (λ word. word.now) required.now)) }
+        All (IsAskedOfCalls false calls.wanted.items) (map (λ word. word.now) required.now)) }
     ensures never { IfOk result (λ calls.
-        All (IsAskedOfCalls calls.wanted.items) (map (λ word. word.now) never.now)) }
+        All (IsAskedOfCalls true calls.wanted.items) (map (λ word. word.now) never.now)) }
 {
     let mut calls = Calls {
         words: Vec::new(alloc),
@@ -54,7 +52,7 @@ fn push_calls<'a>(
     ensures more { OnOk result ((more : List Asked)
         × (calls.new.wanted.items ≡ calls.old.wanted.items ++ more)) }
     ensures each { OnOk result (
-        All (IsAskedOfCalls calls.new.wanted.items) (map (λ word. word.now) words.now)) }
+        All (IsAskedOfCalls never calls.new.wanted.items) (map (λ word. word.now) words.now)) }
 {
     for word in words {
         push_call(alloc, calls, word, never, count)?;
@@ -73,7 +71,7 @@ fn push_call<'a>(
 ) -> Result<(), Complaint<'a>>
     ensures more { OnOk result ((more : List Asked)
         × (calls.new.wanted.items ≡ calls.old.wanted.items ++ more)) }
-    ensures asked { OnOk result (IsAskedOfCalls calls.new.wanted.items word.now) }
+    ensures asked { OnOk result (IsAskedOfCalls never calls.new.wanted.items word.now) }
 {
     if !is_of_calls(word) {
         return Ok(());
@@ -91,7 +89,7 @@ pub(crate) fn wanted_in<'a>(
     never: bool,
     count: usize,
 ) -> Result<Wanted, Complaint<'a>>
-    ensures asks { IfOk result (λ wanted. Asks word.now wanted) }
+    ensures asks { IfOk result (λ wanted. AsksSo never word.now wanted) }
 {
     match read_calls(alloc, word, never)? {
         Some(wanted) if is_of_run(&wanted, count) => Ok(wanted),
@@ -194,13 +192,6 @@ impl Place {
     }
 }
 
-fn is_call(word: &str) -> bool {
-    (0x40..0x57_u8).any(|vector| match Service::of_vector(vector) {
-        Some(service) => service.name() == word,
-        None => false,
-    })
-}
-
 fn is_name(word: &str) -> bool {
     match word.strip_prefix('/') {
         Some(rest) => !rest.is_empty() && !rest.contains('/'),
@@ -208,11 +199,12 @@ fn is_name(word: &str) -> bool {
     }
 }
 
+fn is_call(word: &str) -> bool {
+    service_named(word.as_bytes()).is_some()
+}
+
 fn is_number(word: &str) -> bool {
-    match unsigned(10, word.as_bytes()) {
-        Some(number) => 1 <= number && number <= 1_000,
-        None => false,
-    }
+    call_count(word.as_bytes()).is_some()
 }
 
 /// The line that says why a word asks nothing of calls, where memory allows it.

@@ -3,9 +3,7 @@ ghost use Rattle.std.specs.Prelude.{◌≡◌, false};
 
 use crate::complaint::{At, Complaint, Reason};
 use crate::job::Job;
-use crate::programs::{Programs, fault_of, read_programs};
-use crate::progress::Progress;
-use lab_arguments::Setup;
+use crate::programs::{Programs, fault_of};
 use lab_debug::{Session, session_over};
 use lab_io::{Input, Output};
 use lab_sched::Schedule;
@@ -13,7 +11,6 @@ use lab_sources::{Listing, Source};
 use lc3_table::Profile;
 use std::alloc::{AllocError, Global};
 use std::io::{Read, Write};
-use std::rt::Files;
 
 /// The listings of the sources that programs were given as.
 fn listings_of(
@@ -71,21 +68,6 @@ impl Debugged {
         }
         Ok(Schedule::read(alloc, &text).ok())
     }
-}
-
-/// Reads the files of the programs, makes their laboratory, and carries out the commands that come from the input.
-pub fn debug_programs<'a, T: Files, R: Read, W: Write, P: Progress>(
-    job: &Job<'_, T, P>,
-    setup: &Setup<'a>,
-    input: &mut Input<R>,
-    output: &mut Output<W>,
-) -> Result<(), Complaint<'a>>
-    requires input_healthy { input.old.failed ≡ false }
-    requires output_healthy { output.old.failed ≡ false }
-{
-    let given = read_programs(job, setup.programs.as_slice())?;
-    debug_given(job, given, setup.profile, input, output)?;
-    Ok(())
 }
 
 /// Makes the laboratory of programs, and carries out the commands that come from the input.

@@ -1,5 +1,7 @@
 //! The command `explore`.
-ghost use Rattle.std.specs.Prelude.{◌≡◌, IfSome};
+ghost use Rattle.std.specs.Prelude.{◌≡◌, IfOk, IfSome};
+ghost use Rattle.lab_sched.specs.Starts.{fresh};
+ghost use Rattle.lab_commands.specs.Found.{AreWalked, IsFound, IsFoundBy, IsSearched};
 
 use crate::complaint::{At, Complaint};
 use crate::cost::SearchCost;
@@ -34,7 +36,9 @@ pub fn find_ends<'a, T: Threads + Sync, P: Progress>(
     given: &Programs,
     profile: Profile,
     question: &Question<'a>,
-) -> Result<Search, Complaint<'a>> {
+) -> Result<Search, Complaint<'a>>
+    ensures found { IfOk result (λ s. IsFound (fresh profile given.now.programs.items) s) }
+{
     let inquiry = inquiry_of(question);
     if question.first {
         let stages = stages_of(job.alloc, &inquiry)?;
@@ -52,7 +56,10 @@ fn find_early<'a, T: Threads + Sync, P: Progress>(
     profile: Profile,
     question: &Question<'a>,
     stages: &[Inquiry],
-) -> Result<Option<Search>, Complaint<'a>> {
+) -> Result<Option<Search>, Complaint<'a>>
+    ensures found { IfOk result (λ s.
+        IfSome s (IsFound (fresh profile given.now.programs.items))) }
+{
     for stage in stages {
         let search = searched(job, given, profile, question, *stage)?;
         if !has_more(&search) {
@@ -69,7 +76,9 @@ fn searched<'a, T: Threads + Sync, P: Progress>(
     profile: Profile,
     question: &Question<'a>,
     inquiry: Inquiry,
-) -> Result<Search, Complaint<'a>> {
+) -> Result<Search, Complaint<'a>>
+    ensures found { IfOk result (λ s. IsFound (fresh profile given.now.programs.items) s) }
+{
     let asked = asked_of(job.alloc, question, given.sources.as_slice())?;
     let fresh = laboratory(job.alloc, given.programs.as_slice(), profile)?;
     let again = laboratory(job.alloc, given.programs.as_slice(), profile)?;
@@ -90,7 +99,10 @@ fn explore<T: Threads + Sync, P: Progress>(
     again: Fresh,
     inquiry: &Inquiry,
     asked: Asked,
-) -> Result<Answers, ExploreFault> {
+) -> Result<Answers, ExploreFault>
+    requires same { again ≡ fresh }
+    ensures found { IfOk result (λ a. IsFoundBy inquiry.now.reach.walks fresh a) }
+{
     match inquiry.reach.walks {
         Some(walks) => take_walks(job, fresh, inquiry.reach.limits, walks, asked),
         None => visit_all(job, fresh, again, inquiry, asked),
@@ -98,13 +110,16 @@ fn explore<T: Threads + Sync, P: Progress>(
 }
 
 /// Takes walks through the interleavings of the programs of a laboratory, and judges what is asked.
+#[tactic(auto, using(crate::proofs::FoundLemmas::are_walked))]
 fn take_walks<T, P: Progress>(
     job: &Job<'_, T, P>,
     fresh: Fresh,
     limits: Limits,
     walks: Walks,
     asked: Asked,
-) -> Result<Answers, ExploreFault> {
+) -> Result<Answers, ExploreFault>
+    ensures found { IfOk result (λ a. AreWalked fresh a) }
+{
     let mut count = SearchCount::new(job.alloc, job.progress, WALKS);
     let outcome = ask_walks(job.alloc, fresh, limits, walks, asked, &mut count);
     count.clear();
@@ -131,7 +146,10 @@ fn visit_all<T: Threads + Sync, P: Progress>(
     again: Fresh,
     inquiry: &Inquiry,
     asked: Asked,
-) -> Result<Answers, ExploreFault> {
+) -> Result<Answers, ExploreFault>
+    requires same { again ≡ fresh }
+    ensures found { IfOk result (λ a. IsSearched fresh a) }
+{
     let mut count = SearchCount::new(job.alloc, job.progress, WORLDS);
     let workers = Workers::new(job.rt, thread_count(job.rt, inquiry.threads));
     let outcome = ask(

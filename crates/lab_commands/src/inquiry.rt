@@ -1,5 +1,5 @@
 //! What is asked of an exploration, read from words.
-ghost use Rattle.std.specs.Prelude.{◌≡◌, ◌++◌, List, map, length, All, IfOk, OnOk};
+ghost use Rattle.std.specs.Prelude.{◌≡◌, ◌++◌, List, true, false, map, length, All, IfOk, OnOk};
 ghost use Rattle.lab_conditions.specs.declared.never.Never.{Never as Condemned};
 ghost use Rattle.lab_commands.specs.Private.Inquiries.{required_words, IsAsked, IsAskedOfCalls};
 
@@ -69,9 +69,9 @@ pub fn asked_of<'a>(
         length asked.waiters.items ≡ length question.now.waiters.items) }
     ensures never { IfOk result (λ asked.
         All (IsAsked asked.never.items) (map (λ word. word.now) question.now.never.items)) }
-    ensures calls { IfOk result (λ asked. All (IsAskedOfCalls asked.wanted.items)
+    ensures calls { IfOk result (λ asked. All (IsAskedOfCalls false asked.wanted.items)
         (map (λ word. word.now) question.now.outputs.items)) }
-    ensures never_called { IfOk result (λ asked. All (IsAskedOfCalls asked.wanted.items)
+    ensures never_called { IfOk result (λ asked. All (IsAskedOfCalls true asked.wanted.items)
         (map (λ word. word.now) question.now.never.items)) }
     ensures fair { IfOk result (λ asked. asked.fair ≡ question.now.fair) }
     ensures out { IfOk result (λ asked. asked.show.out ≡ question.now.out) }

@@ -34,7 +34,7 @@ pub use asm::{Assembly, assemble_file};
 pub use check::{check_sources, messages_if};
 pub use complaint::{At, Complaint, Misuse, Reason};
 pub use cost::SearchCost;
-pub use debug::{Debugged, debug_given, debug_programs};
+pub use debug::{Debugged, debug_given};
 pub use dis::disassemble_file;
 pub use explore::{Search, find_ends};
 pub use files::{
@@ -46,6 +46,6 @@ pub use job::{Job, Texts};
 pub use limits::{limit_met, standing_at};
 pub use programs::{Programs, laboratory, read_programs, read_with_input};
 pub use progress::Progress;
-pub use run::{run_fresh, run_programs, tell_run};
-pub use step::{read_schedule, report_on, step_programs};
+pub use run::run_given;
+pub use step::{read_schedule, report_given};
 pub use telling::{chosen_schedule, tell_ends};

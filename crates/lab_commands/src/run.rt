@@ -10,49 +10,30 @@ use crate::complaint::{At, Complaint};
 use crate::files::write_bytes;
 use crate::job::Job;
 use crate::plain::plain_output;
-use crate::programs::{Programs, laboratory, read_with_input};
+use crate::programs::{Programs, laboratory};
 use crate::progress::{CallCount, Progress};
-use lab_arguments::{MOST_STEPS_EACH, Manner, Setup};
-use lab_io::{Input, Output};
+use lab_arguments::{MOST_STEPS_EACH, Manner};
+use lab_io::Output;
 use lab_places::{Numbered, placed};
 use lab_sched::Fresh;
 use lab_texts::report_text;
 use lab_threads::{Gate, NoGate, PausingGate, Report, RunFault, run_threads};
 use lc3_table::Profile;
 use std::alloc::{AllocError, Global};
-use std::io::{Read, Write};
-use std::rt::Files;
+use std::io::Write;
 use std::sync::Wait;
 use std::thread::Threads;
 use std::time::Clock;
 
-/// Reads the files of the programs, and standard input where a process takes it, runs them on threads, and writes the report
-/// and the schedule of an interleaving that leads to it, with where processes stand in their sources.
-pub fn run_programs<'a, T: Files + Threads + Wait + Clock + Sync, R: Read, W: Write, P: Progress>(
-    job: &Job<'_, T, P>,
-    setup: &Setup<'a>,
-    manner: Manner<'a>,
-    input: &mut Input<R>,
-    output: &mut Output<W>,
-) -> Result<(), Complaint<'a>>
-    requires input_healthy { input.old.failed ≡ false }
-    requires output_healthy { output.old.failed ≡ false }
-    ensures told { OnOk result ((bytes : List ℕ)
-        × IsToldRun setup.now.profile manner.entry.plain bytes
-        × Appends (W.contents output.old.device) (W.contents output.new.device) bytes) }
-{
-    let given = read_with_input(job, setup.programs.as_slice(), input)?;
-    run_given(job, &given, setup.profile, manner, output)
-}
-
-/// Runs programs that were given, and writes what is told of the run.
-fn run_given<T: Threads + Wait + Clock + Sync, W: Write, P: Progress>(
+/// Runs programs that were given on threads, and writes the report and the schedule of an interleaving that leads to it, with where
+/// processes stand in their sources; gives both.
+pub fn run_given<T: Threads + Wait + Clock + Sync, W: Write, P: Progress>(
     job: &Job<'_, T, P>,
     given: &Programs,
     profile: Profile,
     manner: Manner<'_>,
     output: &mut Output<W>,
-) -> Result<(), Complaint<'static>>
+) -> Result<Report, Complaint<'static>>
     requires output_healthy { output.old.failed ≡ false }
     ensures told { OnOk result ((bytes : List ℕ)
         × IsToldRun profile manner.entry.plain bytes
@@ -61,12 +42,13 @@ fn run_given<T: Threads + Wait + Clock + Sync, W: Write, P: Progress>(
     let fresh = laboratory(job.alloc, given.programs.as_slice(), profile)?;
     let report = run_fresh(job, fresh, manner)?;
     let sources = given.numbered(job.alloc)?;
-    tell_run(job.alloc, &sources, &report, manner.plain, output)
+    tell_run(job.alloc, &sources, &report, manner.plain, output)?;
+    Ok(report)
 }
 
 /// Runs the programs of a laboratory on threads, each for [`MOST_STEPS_EACH`] steps at most. With a seed, workers pause before
 /// calls.
-pub fn run_fresh<T: Threads + Wait + Clock + Sync, P: Progress>(
+fn run_fresh<T: Threads + Wait + Clock + Sync, P: Progress>(
     job: &Job<'_, T, P>,
     fresh: Fresh,
     manner: Manner<'_>,
@@ -83,7 +65,7 @@ pub fn run_fresh<T: Threads + Wait + Clock + Sync, P: Progress>(
 
 /// Writes the report on a run, with where processes stand in these sources, and a line with its schedule; and, where that is
 /// `plain`, behind these what the processes have written, as it is.
-pub fn tell_run<W: Write>(
+fn tell_run<W: Write>(
     alloc: Global,
     sources: &[Option<Numbered<'_>>],
     report: &Report,

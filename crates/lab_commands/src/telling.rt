@@ -1,8 +1,10 @@
 //! What `explore` writes of answers, and what it complains of.
-ghost use Rattle.std.specs.Prelude.{◌≡◌, false, IfOk, OnOk, OnErr, string_bytes};
+ghost use Rattle.std.specs.Prelude.{◌≡◌, true, false, IfOk, OnOk, OnErr, string_bytes};
 ghost use Rattle.std.specs.Option.{option_map, option_copied};
 ghost use Rattle.lab_sched.specs.ScheduleTexts.{schedule_text};
-ghost use Rattle.lab_commands.specs.Told.{ShowsFailure, numbered_end, IsChosen, line_or_none, TellsChosen, EndsAsJson, TellsAll, Tells, HasTold, HasBegun};
+ghost use Rattle.lab_commands.specs.Complaints.{asks_verdict_alone, failure_of, complains};
+ghost use Rattle.lab_commands.specs.Told.{ShowsFailure, numbered_end, IsChosen, line_or_none, TellsChosen, all_told, Tells, HasTold, HasBegun};
+ghost use Rattle.lab_questions.specs.Findings.{answers_line};
 
 use crate::complaint::{Complaint, Reason};
 use crate::explore::Search;
@@ -31,6 +33,7 @@ pub fn tell_ends<T, W: Write, P: Progress>(
         (W.contents output.old.device) (W.contents output.new.device)) }
     ensures prefix { OnErr result (HasBegun sources.now search.now
         (W.contents output.old.device) (W.contents output.new.device)) }
+    ensures passes { OnOk result (complains search.now ≡ false) }
 {
     write_told(job.alloc, sources, search, output)?;
     tell_unopened(job, &search.answers.unopened)?;
@@ -84,7 +87,7 @@ fn all_told(
     search: &Search,
 ) -> Result<Vec<u8>, AllocError>
     ensures told { IfOk result (λ bytes.
-        TellsAll sources.now search.now.answers search.now.inquiry.json bytes.items) }
+        bytes.items ≡ all_told sources.now search.now search.now.inquiry.json) }
 {
     if search.inquiry.json {
         let line = json_line(alloc, search)?;
@@ -94,9 +97,9 @@ fn all_told(
     }
 }
 
-#[tactic(auto, using(crate::proofs::TellingLemmas::ends_as_json))]
 fn json_line(alloc: Global, search: &Search) -> Result<String, AllocError>
-    ensures told { IfOk result (λ line. EndsAsJson search.now.answers (string_bytes line)) }
+    ensures told { IfOk result (λ line. string_bytes line
+        ≡ answers_line search.now.answers search.now.inquiry.reach search.now.limit) }
 {
     answers_json(
         alloc,
@@ -197,7 +200,9 @@ fn tell_unopened<T, P: Progress>(
 }
 
 /// Whether no more is required than that each end has one verdict, be what is told of the ends as it may.
-fn is_of_verdict(search: &Search) -> bool {
+fn is_of_verdict(search: &Search) -> bool
+    ensures alone { result ≡ asks_verdict_alone search.now }
+{
     let asked = &search.answers.asked;
     search.inquiry.reach.walks.is_none()
         && asked.outputs.is_empty()
@@ -209,7 +214,9 @@ fn is_of_verdict(search: &Search) -> bool {
 
 /// Why not all is shown to be as it is required. Of a verdict alone what wasn't visited counts first, and then what never ends;
 /// but a search that ended with what it found was to visit no more.
-fn failure_of(search: &Search) -> Option<Failure> {
+fn failure_of(search: &Search) -> Option<Failure>
+    ensures failure { result ≡ failure_of search.now }
+{
     let found = &search.answers.exploration;
     if !is_of_verdict(search) {
         return search.answers.failure;
@@ -256,7 +263,10 @@ fn uncalled(alloc: Global, asked: &Asked, number: usize) -> Complaint<'static> {
 }
 
 /// Complains where something has to be so and isn't, or where memory was refused on the way.
-fn complain(alloc: Global, search: &Search) -> Result<(), Complaint<'static>> {
+fn complain(alloc: Global, search: &Search) -> Result<(), Complaint<'static>>
+    ensures none { OnOk result (complains search.now ≡ false) }
+    ensures some { OnErr result (complains search.now ≡ true) }
+{
     let found = &search.answers;
     let refused = found.exploration.refused;
     let judges = found.asked.judges();

@@ -1,5 +1,5 @@
 -- What is asked, by the words of the command line.
-use Rattle.std.specs.Prelude.{ℕ, cond, Option, Some, None, List, [], ◌∷◌, ◌++◌, Any, IsTrue}
+use Rattle.std.specs.Prelude.{ℕ, ◌≡◌, Bool, cond, Option, Some, None, List, [], ◌∷◌, ◌++◌, Any, IsTrue}
 use Rattle.lab_arguments.specs.Pieces.{is_of_calls}
 use Rattle.lab_arguments.specs.declared.requirements.Requirements.{Requirements}
 use Rattle.lab_arguments.specs.declared.requirements.Rest.{Rest}
@@ -7,7 +7,7 @@ use Rattle.lab_arguments.specs.declared.requirements.Rest.TheVariants as rest
 use Rattle.lab_conditions.specs.declared.never.Never.{Never}
 use Rattle.lab_conditions.specs.Written.{Writes}
 use Rattle.lab_ways.specs.declared.wanted.Wanted.{Wanted}
-use Rattle.lab_questions.specs.CallWords.{Asks}
+use Rattle.lab_questions.specs.CallWords.{Asks, forbids}
 use Rattle.lab_questions.specs.declared.asked.Word.{Word}
 use Rattle.lab_questions.specs.declared.asked.Word.TheVariants as word
 
@@ -26,6 +26,10 @@ required_words r = rest_words r.rest ++ cond r.empty (word.Empty ∷ []) [] ++ c
 abbrev pub IsAsked : List Never → List ℕ → Type 0
 IsAsked nevers text = (n : Never) → Writes text n → Any (Writes text) nevers
 
--- one of these is what the text asks, if it is of calls
-abbrev pub IsAskedOfCalls : List Wanted → List ℕ → Type 0
-IsAskedOfCalls wanted text = IsTrue (is_of_calls text) → Any (Asks text) wanted
+-- the text asks for this, as what must never be so or as what must be
+abbrev pub AsksSo : Bool → List ℕ → Wanted → Type 0
+AsksSo never text wanted = Asks text wanted × (forbids wanted.pattern ≡ never)
+
+-- one of these is what the text asks so, if it is of calls
+abbrev pub IsAskedOfCalls : Bool → List Wanted → List ℕ → Type 0
+IsAskedOfCalls never wanted text = IsTrue (is_of_calls text) → Any (AsksSo never text) wanted

@@ -7,4 +7,4 @@ use Rattle.lab_commands.proofs.calls.push_calls.Given as goal
 abbrev pub invariant-loop-word : goal.invariant-loop-word
 invariant-loop-word l =
     ((more : List Wanted) × (l.calls.wanted.items ≡ l.initial.calls.wanted.items ++ more))
-    × All (IsAskedOfCalls l.calls.wanted.items) (map (λ word. word.now) (take l.word-index l.words))
+    × All (IsAskedOfCalls l.never l.calls.wanted.items) (map (λ word. word.now) (take l.word-index l.words))
