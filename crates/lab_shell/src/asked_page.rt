@@ -1,32 +1,35 @@
 //! What was asked, on the page of ends, and the runs that show what isn't so.
-ghost use Rattle.std.specs.Prelude.{◌≡◌, ◌↔◌, IfOk, IsTrue, is_some};
+ghost use Rattle.std.specs.Prelude.{◌≡◌, ◌↔◌, IfOk, IsTrue, OnOk, is_some};
+ghost use Rattle.lab_page.specs.Ends.{with_end};
 ghost use Rattle.lab_questions.specs.Programs.{AsksRest};
-ghost use Rattle.lab_shell.specs.Private.Shown.{IsUnmet};
+ghost use Rattle.lab_shell.specs.Private.Runs.{run_json, start_of};
+ghost use Rattle.lab_shell.specs.Private.Shown.{IsUnmet, is_against};
 
 use crate::page::Paged;
 use lab_commands::{Complaint, Search};
 use lab_page::{Asked, EndList, ShownRun};
-use lab_questions::{Answer, OutputNeed, Word};
+use lab_questions::{Answer, CallWord, OutputNeed, Word};
 use lab_sched::{SchedFault, Schedule, World};
 use lab_ways::Ways;
 use lab_worlds::{Exploration, Lasso};
 use std::alloc::{AllocError, Global};
 
-/// The runs to ends, what was asked, the runs beside those to ends, and which of these goes through the round, if there is one.
+/// How many runs to ends there are, what was asked, the runs beside those to ends, and which of these goes through the round, if
+/// there is one.
 #[derive(Drop)]
 pub struct Told {
-    pub ends: EndList,
+    ends: usize,
     pub asked: Vec<Asked>,
     pub others: EndList,
     pub round: Option<usize>,
 }
 
-/// What was asked of an exploration, where the page has these runs to ends.
+/// What was asked of an exploration, where the page has so many runs to ends.
 pub fn told_of<'a>(
     alloc: Global,
     paged: &Paged<'_, 'a>,
     search: &Search,
-    ends: EndList,
+    ends: usize,
 ) -> Result<Told, Complaint<'a>> {
     let mut told = Told {
         ends,
@@ -44,13 +47,17 @@ pub fn told_of<'a>(
 }
 
 /// Adds the run of the programs by a schedule to a list, with a number; tells its number there, if there was room for it.
+#[tactic(auto, using(crate::proofs::RunLemmas::full_stays))]
 pub fn add_run<'a>(
     alloc: Global,
     paged: &Paged<'_, 'a>,
     schedule: &Schedule,
     number: u32,
     list: &mut EndList,
-) -> Result<Option<usize>, Complaint<'a>> {
+) -> Result<Option<usize>, Complaint<'a>>
+    ensures list { OnOk result (list.new ≡ with_end list.old
+        (run_json (start_of paged.now) paged.now.sources.items schedule.now number)) }
+{
     if list.is_full() {
         return Ok(None);
     }
@@ -220,7 +227,7 @@ fn push_end<'a>(
     told: &mut Told,
     runs: &mut Vec<ShownRun>,
 ) -> Result<(), Complaint<'a>> {
-    if let Some(at) = shown_at(search.answers.told.as_slice(), number, told.ends.count()) {
+    if let Some(at) = shown_at(search.answers.told.as_slice(), number, told.ends) {
         runs.push(ShownRun::End(at))?;
         return Ok(());
     }
@@ -284,7 +291,7 @@ fn never_asked<'a>(
     })
 }
 
-/// Adds what is asked of calls, with the run that shows that it isn't so; nothing of what isn't known though all else is.
+/// Adds what is asked of calls; nothing of what isn't known though all else is.
 fn add_calls<'a>(
     alloc: Global,
     paged: &Paged<'_, 'a>,
@@ -293,22 +300,35 @@ fn add_calls<'a>(
 ) -> Result<(), Complaint<'a>> {
     let answers = &search.answers;
     for (word, ways) in answers.asked.call_words.iter().zip(answers.ways.iter()) {
-        if matches!(ways, Ways::Unknown) && answers.exploration.complete {
-            continue;
+        if !matches!(ways, Ways::Unknown) || !answers.exploration.complete {
+            let one = call_asked(alloc, paged, word, ways, told)?;
+            told.asked.push(one)?;
         }
-        let mut runs = Vec::new(alloc);
-        if let Ways::Without(schedule) = ways {
-            push_other(alloc, paged, schedule, told, &mut runs)?;
-        }
-        let option = if word.never { "--never" } else { "--require" };
-        let text = word.text.as_str();
-        told.asked.push(Asked {
-            text: format!(in alloc; "{option} {text}")?,
-            failed: matches!(ways, Ways::Without(_)),
-            runs,
-        })?;
     }
     Ok(())
+}
+
+/// What is asked of calls, with the run that shows that it isn't so, if there is one.
+fn call_asked<'a>(
+    alloc: Global,
+    paged: &Paged<'_, 'a>,
+    word: &CallWord,
+    ways: &Ways,
+    told: &mut Told,
+) -> Result<Asked, Complaint<'a>>
+    ensures failed { IfOk result (λ a. a.failed ≡ is_against ways.now) }
+{
+    let mut runs = Vec::new(alloc);
+    if let Ways::Without(schedule) = ways {
+        push_other(alloc, paged, schedule, told, &mut runs)?;
+    }
+    let option = if word.never { "--never" } else { "--require" };
+    let text = word.text.as_str();
+    Ok(Asked {
+        text: format!(in alloc; "{option} {text}")?,
+        failed: matches!(ways, Ways::Without(_)),
+        runs,
+    })
 }
 
 /// Adds that no fair run goes on for ever, where that is asked.

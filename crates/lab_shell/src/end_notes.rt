@@ -1,4 +1,8 @@
 //! The notes of `explore`.
+ghost use Rattle.std.specs.Prelude.{IfOk};
+ghost use Rattle.lab_sched.specs.Starts.{fresh};
+ghost use Rattle.lab_commands.specs.Found.{IsFound};
+
 use crate::notes::{Notes, sources_of};
 use lab_arguments::{Choice, Question, Setup};
 use lab_commands::{
@@ -18,7 +22,9 @@ pub fn search_ends<'a, T: Files + Threads + Clock + Sync, P: Progress>(
     setup: &Setup<'_>,
     given: &Programs,
     question: &Question<'a>,
-) -> Result<Search, Complaint<'a>> {
+) -> Result<Search, Complaint<'a>>
+    ensures found { IfOk result (IsFound (fresh setup.now.profile given.now.programs.items)) }
+{
     let began = Instant::now(job.rt).ok();
     let mut search = find_ends(job, given, setup.profile, question)?;
     search.cost = cost_since(job, began);
