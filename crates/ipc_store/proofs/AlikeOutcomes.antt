@@ -1,7 +1,7 @@
 -- Outcomes of one call over two kernels that are alike.
-use Rattle.std.proofs.Common.{◌≡◌, ℕ, ◌==◌, ◌<◌, Bool, true, false, cond, List, length, set, Option, Some, None, option_and_then, refl, sym, ap, subst, ◌∙◌, inl, inr, position, arith}
+use Rattle.std.proofs.Common.{◌≡◌, ℕ, ◌==◌, ◌<◌, Bool, true, false, cond, List, length, set, Option, Some, None, option_and_then, refl, sym, ap, subst, ◌∙◌, position, arith}
 use Rattle.std.specs.Option.{option_map}
-use Rattle.std.proofs.lemmas.Bool.Decides.{eqb_tells}
+use Rattle.std.proofs.lemmas.Bool.{ne_eqb}
 use Rattle.std.proofs.lemmas.Option.{unwrap_or-slice_get}
 use Rattle.std.proofs.lemmas.List.Quantifiers.{position-Some}
 use Rattle.ipc_names.specs.declared.errno.Errno.{Errno}
@@ -244,7 +244,7 @@ by_room f g k j t x y none some = go (position is_empty k.places) (position is_e
 
 -- a place that isn't empty isn't one that is
 pub other_place : (ps : List Place) (a i : ℕ) → (place_at ps a ≡ Empty → ⊥) → place_at ps i ≡ Empty → (a == i) ≡ false
-other_place ps a i filled e = elim (eqb_tells a i) [ inl same ↦ absurd (filled (ap (place_at ps) same.1 ∙ e)) | inr apart ↦ apart.0 ]
+other_place ps a i filled e = ne_eqb a i (λ same. filled (ap (place_at ps) same ∙ e))
 
 -- an object is made in an empty place of each
 pub twin_made : (f g : ℕ → ℕ) (k j : KernelState) → IsTwin f g k j → (a b : ℕ) → HaveRoom k j a b → (x : Place) → (x ≡ Empty → ⊥) → IsFree queue_name k.places a x → IsFree semaphore_name k.places a x

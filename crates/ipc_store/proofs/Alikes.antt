@@ -1,8 +1,8 @@
 -- Kernels of which the one is the other with its places renamed, and what each change makes of both.
-use Rattle.std.proofs.Common.{◌≡◌, ◌≢◌, ◌↔◌, ℕ, ◌==◌, ◌<◌, ◌≤◌, Bool, true, false, cond, ◌||◌, List, [], ◌∷◌, length, map, set, length-set, Option, Some, None, refl, sym, ap, subst, ◌∙◌, inl, inr, arith, if◌then◌else◌}
+use Rattle.std.proofs.Common.{◌≡◌, ◌≢◌, ◌↔◌, ℕ, ◌==◌, ◌<◌, ◌≤◌, Bool, false, cond, ◌||◌, List, [], ◌∷◌, length, map, set, length-set, Option, Some, None, refl, sym, ap, subst, ◌∙◌, inl, inr, arith, if◌then◌else◌}
 use Rattle.std.specs.Option.{option_map}
 use Rattle.std.specs.List.{list_any}
-use Rattle.std.proofs.lemmas.Bool.{cases_lt, eq-eqb}
+use Rattle.std.proofs.lemmas.Bool.{cases_lt, eq-eqb, or_parts}
 use Rattle.std.proofs.lemmas.Bool.Decides.{eqb_tells}
 use Rattle.std.proofs.lemmas.Option.{unwrap_or-slice_get}
 use Rattle.ipc_kernel.specs.declared.place.Place.{Place}
@@ -17,7 +17,7 @@ use Rattle.ipc_kernel.specs.Alike.{renamed_descriptor, renamed_slot, renamed_pro
 use Rattle.ipc_kernel.proofs.PlaceLemmas.{get_or-emptied, length-emptied}
 use Rattle.ipc_kernel.proofs.KernelLemmas.{kept-Empty}
 use Rattle.ipc_kernel.proofs.IndexLemmas.{place_at-set_same, place_at-set_other, place_at-past}
-use Rattle.ipc_store.proofs.Renamings.{renamed_twice, with_descriptor-renamed, with_slot-renamed, closed-renamed, is_referred-renamed}
+use Rattle.ipc_store.proofs.Renamings.{tables, renamed_twice, with_descriptor-renamed, with_slot-renamed, closed-renamed, is_referred-renamed}
 
 -- what a place holds once each without a name and a reference is emptied
 pub place_at-emptied : (processes : List OpenTables) (ps : List Place) (i : ℕ) → place_at (places_or_empty processes ps) i ≡ place_or_empty processes i (place_at ps i)
@@ -117,9 +117,6 @@ option_id : {A : Type 0} (h : A → A) → ((x : A) → h x ≡ x) → (o : Opti
 option_id h same None = refl
 option_id h same (Some x) = ap (λ y. Some y) (same x)
 
-abbrev tables : List (Option Descriptor) → List (Option Slot) → OpenTables
-tables descriptors slots = record { descriptors = descriptors; slots = slots }
-
 -- a kernel is alike itself
 pub alike_itself : (k : KernelState) → IsAlike k k
 alike_itself k = (
@@ -213,16 +210,12 @@ swap_permutes x y h d = record {
   within = λ i. by_swap (λ n m. (m < 64) ↔ (n < 64)) x y i (λ e. (λ _. omega arith, λ _. d)) (λ e. (λ _. omega arith, λ _. h)) (λ e. e, λ e. e);
 }
 
-or_false : (a b : Bool) → (a || b) ≡ false → (a ≡ false) × (b ≡ false)
-or_false true b e = cc
-or_false false b e = (refl, e)
-
 -- elements that pass neither test stay
 map_unless : {A : Type 0} (q r : A → Bool) (h : A → A) → ((x : A) → q x ≡ false → r x ≡ false → h x ≡ x) → (xs : List A) → list_any q xs ≡ false → list_any r xs ≡ false → map h xs ≡ xs
 map_unless q r h same [] e d = refl
 map_unless q r h same (x ∷ xs) e d =
-    let first = or_false (q x) (list_any q xs) e in
-    let second = or_false (r x) (list_any r xs) d in
+    let first = or_parts (q x) (list_any q xs) e in
+    let second = or_parts (r x) (list_any r xs) d in
     rw (same x first.0 second.0, map_unless q r h same xs first.1 second.1) refl
 
 descriptor_stays : (x y : ℕ) (o : Option Descriptor) → descriptor_refers x o ≡ false → descriptor_refers y o ≡ false → option_map (renamed_descriptor (swap x y)) o ≡ o
@@ -235,8 +228,8 @@ slot_stays x y (Some held) e d = ap (λ n. Some (record held { place = n })) (sw
 
 process_stays : (x y : ℕ) (p : OpenTables) → process_refers x p ≡ false → process_refers y p ≡ false → renamed_process (swap x y) p ≡ p
 process_stays x y p e d =
-    let first = or_false (list_any (descriptor_refers x) p.descriptors) (list_any (slot_refers x) p.slots) e in
-    let second = or_false (list_any (descriptor_refers y) p.descriptors) (list_any (slot_refers y) p.slots) d in
+    let first = or_parts (list_any (descriptor_refers x) p.descriptors) (list_any (slot_refers x) p.slots) e in
+    let second = or_parts (list_any (descriptor_refers y) p.descriptors) (list_any (slot_refers y) p.slots) d in
     ap (λ ds. tables ds (map (option_map (renamed_slot (swap x y))) p.slots)) (map_unless (descriptor_refers x) (descriptor_refers y) (option_map (renamed_descriptor (swap x y))) (descriptor_stays x y) p.descriptors first.0 second.0)
     ∙ ap (tables p.descriptors) (map_unless (slot_refers x) (slot_refers y) (option_map (renamed_slot (swap x y))) (slot_stays x y) p.slots first.1 second.1)
 

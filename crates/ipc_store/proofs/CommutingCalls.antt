@@ -1,5 +1,5 @@
 -- A process's own calls commute with the calls of other processes that take no name away.
-use Rattle.std.proofs.Common.{◌≡◌, ℕ, Bool, true, false, List, [], ◌∷◌, zero, suc, replicate, set, Option, Some, None, is_some, refl, sym, ap, ◌∙◌}
+use Rattle.std.proofs.Common.{◌≡◌, ℕ, Bool, true, false, List, [], ◌∷◌, zero, suc, set, Option, Some, None, is_some, refl, sym, ap, ◌∙◌}
 use Rattle.std.specs.Option.{option_map}
 use Rattle.std.proofs.lemmas.List.{set_comm}
 use Rattle.ipc_names.specs.Flags.{flags_read}
@@ -24,6 +24,7 @@ use Rattle.ipc_store.proofs.AlikeOutcomes.{found_named}
 use Rattle.ipc_store.proofs.NamedPlaces.{is_named, KeepNames, names_kept, all_at, all_by}
 use Rattle.ipc_store.proofs.TableCalls.{ChangesTables, tables_same, tables_exit, tables_mq_close, tables_sem_close, tables_mq_open, tables_sem_open}
 use Rattle.ipc_store.proofs.NamedCalls.{of_call}
+use Rattle.ipc_store.proofs.OperandRows.{none_behind}
 
 -- what is there
 there : {A : Type 0} (o : Option A) → is_some o ≡ true → (x : A) × (o ≡ Some x)
@@ -89,12 +90,8 @@ own_calls_commute k p q c d other named own keeps =
       own = ap (λ (o : Outcome). is_own o.1.places c) theirs_first ∙ own_kept k.places theirs.places c theirs.keeps own;
     }
 
-empty_named : (m : ℕ) → are_named (replicate m Empty) ≡ true
-empty_named zero = refl
-empty_named (suc m) = empty_named m
-
 pub start_named : StartNamed
-start_named n = empty_named 64
+start_named n = none_behind 64
 
 pub stay_named : StayNamed
 stay_named k p c named keeps =

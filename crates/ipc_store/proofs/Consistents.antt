@@ -1,7 +1,7 @@
 -- Consistent kernels, and what each change makes of one.
 use Rattle.std.proofs.Common.{◌≡◌, ◌≢◌, ℕ, Bool, true, false, cond, ◌||◌, List, [], ◌∷◌, length, set, length-set, Option, Some, None, unwrap_or, slice_get, zero, suc, replicate, refl, sym, ap, subst, ◌∙◌, ◌⊎◌, inl, inr, arith}
 use Rattle.std.specs.List.{list_any}
-use Rattle.std.proofs.lemmas.Bool.{cases_lt}
+use Rattle.std.proofs.lemmas.Bool.{cases_lt, or_parts}
 use Rattle.std.proofs.lemmas.Bool.Decides.{eqb_tells}
 use Rattle.std.proofs.lemmas.Option.{unwrap_or-slice_get}
 use Rattle.std.proofs.lemmas.List.{get_or-replicate, get_or_past, length-replicate}
@@ -18,19 +18,15 @@ use Rattle.ipc_kernel.proofs.PlaceLemmas.{length-emptied}
 use Rattle.ipc_kernel.proofs.IndexLemmas.{place_at-set_same, place_at-set_other, place_at-past}
 use Rattle.ipc_store.proofs.Alikes.{done, place_at-emptied}
 
-or_false : (a b : Bool) → (a || b) ≡ false → (a ≡ false) × (b ≡ false)
-or_false true b e = cc
-or_false false b e = (refl, e)
-
 none_at : {A : Type 0} (q : A → Bool) (d : A) → q d ≡ false → (xs : List A) (i : ℕ) → list_any q xs ≡ false → q (unwrap_or (slice_get xs i) d) ≡ false
 none_at q d is [] i e = is
-none_at q d is (x ∷ xs) zero e = (or_false (q x) (list_any q xs) e).0
-none_at q d is (x ∷ xs) (suc i) e = none_at q d is xs i (or_false (q x) (list_any q xs) e).1
+none_at q d is (x ∷ xs) zero e = (or_parts (q x) (list_any q xs) e).0
+none_at q d is (x ∷ xs) (suc i) e = none_at q d is xs i (or_parts (q x) (list_any q xs) e).1
 
 none_set : {A : Type 0} (q : A → Bool) (xs : List A) (i : ℕ) (y : A) → list_any q xs ≡ false → q y ≡ false → list_any q (set xs i y) ≡ false
 none_set q [] i y e d = refl
-none_set q (x ∷ xs) zero y e d = rw d (or_false (q x) (list_any q xs) e).1
-none_set q (x ∷ xs) (suc i) y e d = let first = or_false (q x) (list_any q xs) e in rw first.0 (none_set q xs i y first.1 d)
+none_set q (x ∷ xs) zero y e d = rw d (or_parts (q x) (list_any q xs) e).1
+none_set q (x ∷ xs) (suc i) y e d = let first = or_parts (q x) (list_any q xs) e in rw first.0 (none_set q xs i y first.1 d)
 
 abbrev nobody : OpenTables
 nobody = record { descriptors = []; slots = [] }
@@ -38,7 +34,7 @@ nobody = record { descriptors = []; slots = [] }
 -- the tables of one process, where none refers to a place
 tables_unreferred : (ps : List OpenTables) (p i : ℕ) → is_referred ps i ≡ false
     → (list_any (descriptor_refers i) (process_at ps p).descriptors ≡ false) × (list_any (slot_refers i) (process_at ps p).slots ≡ false)
-tables_unreferred ps p i e = or_false _ _ (none_at (process_refers i) nobody refl ps p e)
+tables_unreferred ps p i e = or_parts _ _ (none_at (process_refers i) nobody refl ps p e)
 
 pub descriptor_unreferred : (ps : List OpenTables) (p d i : ℕ) → is_referred ps i ≡ false → descriptor_refers i (descriptor_of ps p d) ≡ false
 descriptor_unreferred ps p d i e = none_at (descriptor_refers i) None refl (process_at ps p).descriptors d (tables_unreferred ps p i e).0

@@ -1,5 +1,6 @@
 -- A permutation that takes each place with a name or a reference where a renaming of a kernel does is a renaming of that kernel.
 use Rattle.std.proofs.Common.{◌≡◌, ℕ, ◌<◌, Bool, true, false, cond, ◌||◌, List, [], ◌∷◌, map, Option, Some, None, refl, sym, ap, ◌∙◌, eq-eqb}
+use Rattle.std.proofs.lemmas.Bool.{or_left, or_right}
 use Rattle.std.specs.Option.{option_map}
 use Rattle.std.specs.List.{list_any}
 use Rattle.ipc_kernel.specs.declared.place.Place.TheVariants.{Empty}
@@ -13,15 +14,8 @@ use Rattle.ipc_kernel.specs.Kernel.{KernelState, IsSettled}
 use Rattle.ipc_kernel.specs.Alike.{renamed_descriptor, renamed_slot, renamed_process, IsPermutation, IsRenaming, IsAlike}
 use Rattle.ipc_store.specs.Private.Renamings.{renamed_by, Permutes}
 use Rattle.ipc_store.specs.Private.Renamings.{Follows}
+use Rattle.ipc_store.proofs.Renamings.{tables}
 use Rattle.ipc_store.proofs.Alikes.{place_at-emptied}
-
-or_left : (a b : Bool) → a ≡ true → (a || b) ≡ true
-or_left true b e = refl
-or_left false b e = cc
-
-or_right : (a b : Bool) → b ≡ true → (a || b) ≡ true
-or_right true b e = refl
-or_right false b e = e
 
 -- maps that agree on each element by the places to which it refers
 map_where : {A B : Type 0} (refers : ℕ → A → Bool) (P : ℕ → Type 0) (u v : A → B) → ((x : A) → ((n : ℕ) → refers n x ≡ true → P n) → u x ≡ v x)
@@ -40,9 +34,6 @@ descriptor_where f h (Some d) each = ap (λ n. Some (record d { place = n })) (s
 slot_where : (f h : ℕ → ℕ) (o : Option Slot) → ((n : ℕ) → slot_refers n o ≡ true → h n ≡ f n) → option_map (renamed_slot f) o ≡ option_map (renamed_slot h) o
 slot_where f h None each = refl
 slot_where f h (Some s) each = ap (λ n. Some (record s { place = n })) (sym (each s.place (eq-eqb s.place s.place refl)))
-
-abbrev tables : List (Option Descriptor) → List (Option Slot) → OpenTables
-tables descriptors slots = record { descriptors = descriptors; slots = slots }
 
 process_where : (f h : ℕ → ℕ) (p : OpenTables) → ((n : ℕ) → process_refers n p ≡ true → h n ≡ f n) → renamed_process f p ≡ renamed_process h p
 process_where f h p each =

@@ -1,6 +1,6 @@
 -- Renamings in two lists, and exchanges of where they take two places.
-use Rattle.std.proofs.Common.{◌≡◌, ◌≢◌, ◌↔◌, ℕ, ◌==◌, ◌<◌, ◌≤◌, ◌⊎◌, false, List, length, length-set, set, get_or, get_or-set_other, get_or-set_same, refl, sym, ap, subst, ◌∙◌, inl, inr, arith}
-use Rattle.std.proofs.lemmas.Bool.{cases_lt}
+use Rattle.std.proofs.Common.{◌≡◌, ◌≢◌, ◌↔◌, ℕ, ◌<◌, ◌≤◌, ◌⊎◌, List, length, length-set, set, get_or, get_or-set_other, get_or-set_same, refl, sym, ap, subst, ◌∙◌, inl, inr, arith}
+use Rattle.std.proofs.lemmas.Bool.{cases_lt, ne_eqb}
 use Rattle.std.proofs.lemmas.Bool.Decides.{eqb_tells}
 use Rattle.std.proofs.lemmas.List.{get_or_default, get_or_past}
 use Rattle.std.proofs.lemmas.Option.{unwrap_or-slice_get}
@@ -38,9 +38,6 @@ identity_permutes to each = permutation_along (λ n. n) (λ n. n) (renamed_by to
     stays : (n : ℕ) → renamed_by to n ≡ n
     stays n = elim (cases_lt n (length to)) [ inl less ↦ each n less | inr past ↦ renamed_by-past to n past ]
 
-test_apart : (m n : ℕ) → (m ≡ n → ⊥) → (m == n) ≡ false
-test_apart m n apart = elim (eqb_tells m n) [ inl same ↦ absurd (apart same.1) | inr different ↦ different.0 ]
-
 -- where the lists take a place once place a is taken to b
 pub exchanged_to : (to from : List ℕ) (a b there back : ℕ) → length to ≡ 64 → IsPermutation (renamed_by to) (renamed_by from) → a < 64 → b < 64 → there ≡ renamed_by to a → back ≡ renamed_by from b
     → (n : ℕ) → renamed_by (set (set to a b) back there) n ≡ swap b there (renamed_by to n)
@@ -53,8 +50,8 @@ exchanged_to to from a b there back count p ha hb is_there is_back n =
       | inr apart ↦ renamed_by-set_other (set to a b) n back there apart.1 ∙ elim (eqb_tells n a) [
         | inl met ↦ ap (renamed_by (set to a b)) met.1 ∙ renamed_by-set_same to a b (omega (arith, count, ha)) ∙ sym (swap_second b there (renamed_by to n) (ap (renamed_by to) met.1 ∙ sym is_there))
         | inr different ↦ renamed_by-set_other to n a b different.1
-            ∙ sym (swap_other b there (renamed_by to n) (test_apart _ _ (λ e. apart.1 (sym (p.undone n) ∙ ap (renamed_by from) e ∙ sym is_back)))
-            (test_apart _ _ (λ e. different.1 (sym (p.undone n) ∙ ap (renamed_by from) (e ∙ is_there) ∙ p.undone a))))
+            ∙ sym (swap_other b there (renamed_by to n) (ne_eqb _ _ (λ e. apart.1 (sym (p.undone n) ∙ ap (renamed_by from) e ∙ sym is_back)))
+            (ne_eqb _ _ (λ e. different.1 (sym (p.undone n) ∙ ap (renamed_by from) (e ∙ is_there) ∙ p.undone a))))
       ]
     ]
 
@@ -84,8 +81,8 @@ exchanged_follows earlier later f g a b there p h is is_there exchanged = record
   kept = λ i e. elim (eqb_tells i a) [
     | inl same ↦ here i same.1
     | inr apart ↦ exchanged i ∙ swap_other b there (renamed_by earlier.to i)
-        (test_apart _ _ (λ d. apart.1 (sym (h.undone i) ∙ ap g (sym e ∙ d ∙ sym is) ∙ h.undone a)))
-        (test_apart _ _ (λ d. apart.1 (sym (p.undone i) ∙ ap (renamed_by earlier.from) (d ∙ is_there) ∙ p.undone a))) ∙ e
+        (ne_eqb _ _ (λ d. apart.1 (sym (h.undone i) ∙ ap g (sym e ∙ d ∙ sym is) ∙ h.undone a)))
+        (ne_eqb _ _ (λ d. apart.1 (sym (p.undone i) ∙ ap (renamed_by earlier.from) (d ∙ is_there) ∙ p.undone a))) ∙ e
   ];
   taken = λ i less same. here i same;
 }

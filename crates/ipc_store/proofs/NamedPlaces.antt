@@ -1,12 +1,14 @@
 -- Places where each object has a name: what is written into one leaves them so, and leaves each name where it was.
-use Rattle.std.proofs.Common.{◌≡◌, ℕ, ◌+◌, Bool, true, false, cond, not, ◌||◌, ◌&&◌, List, [], ◌∷◌, zero, suc, length-set, set, Option, Some, None, unwrap_or, slice_get, position, refl, sym, ap, ◌∙◌}
-use Rattle.std.specs.List.{list_all, position_or_len}
+use Rattle.std.proofs.Common.{◌≡◌, ℕ, Bool, true, false, ◌||◌, ◌&&◌, List, [], ◌∷◌, zero, suc, length-set, set, Option, Some, None, unwrap_or, slice_get, position, refl, sym, ap, ◌∙◌}
+use Rattle.std.specs.List.{list_all}
 use Rattle.ipc_objects.specs.Queue.{QueueState}
 use Rattle.ipc_kernel.specs.declared.place.Place.{Place}
 use Rattle.ipc_kernel.specs.declared.place.Place.TheVariants.{Empty, Mq, Sem}
 use Rattle.ipc_kernel.specs.Places.{place_at, is_empty, has_name, is_name, queue_name, semaphore_name, place_named, queue_named, semaphore_named, with_queue, with_value, with_queue_in, with_value_in}
 use Rattle.ipc_kernel.specs.Operands.{are_named}
-use Rattle.ipc_store.proofs.SettledTables.{and_first, and_rest}
+use Rattle.std.proofs.lemmas.Bool.{and_parts}
+use Rattle.std.proofs.lemmas.List.Folds.{position_or_len-set}
+use Rattle.std.proofs.lemmas.Option.{unwrap_or-slice_get}
 use Rattle.ipc_kernel.proofs.IndexLemmas.{is_name-true, queue_name-with_queue, semaphore_name-with_queue, queue_name-with_value, semaphore_name-with_value}
 
 -- whether what is in a place is nothing, or has a name
@@ -25,8 +27,8 @@ names_kept ps named = record { named = named; queues = λ n i e. e; semaphores =
 -- what all pass, one of them passes
 pub all_at : {A : Type 0} (test : A → Bool) (xs : List A) (i : ℕ) (d : A) → test d ≡ true → list_all test xs ≡ true → test (unwrap_or (slice_get xs i) d) ≡ true
 all_at test [] i d past e = past
-all_at test (x ∷ xs) zero d past e = and_first (test x) (list_all test xs) e
-all_at test (x ∷ xs) (suc i) d past e = all_at test xs i d past (and_rest (test x) (list_all test xs) e)
+all_at test (x ∷ xs) zero d past e = (and_parts (test x) (list_all test xs) e).0
+all_at test (x ∷ xs) (suc i) d past e = all_at test xs i d past (and_parts (test x) (list_all test xs) e).1
 
 -- what each passes, all pass
 pub all_by : {A : Type 0} (test : A → Bool) (xs : List A) (d : A) → ((i : ℕ) → test (unwrap_or (slice_get xs i) d) ≡ true) → list_all test xs ≡ true
@@ -35,18 +37,13 @@ all_by test (x ∷ xs) d each = ap (λ b. b && list_all test xs) (each 0) ∙ al
 
 all_set : {A : Type 0} (test : A → Bool) (xs : List A) (i : ℕ) (y : A) → test y ≡ true → list_all test xs ≡ true → list_all test (set xs i y) ≡ true
 all_set test [] i y new e = refl
-all_set test (x ∷ xs) zero y new e = ap (λ b. b && list_all test xs) new ∙ and_rest (test x) (list_all test xs) e
+all_set test (x ∷ xs) zero y new e = ap (λ b. b && list_all test xs) new ∙ (and_parts (test x) (list_all test xs) e).1
 all_set test (x ∷ xs) (suc i) y new e =
-    ap (λ b. b && list_all test (set xs i y)) (and_first (test x) (list_all test xs) e) ∙ all_set test xs i y new (and_rest (test x) (list_all test xs) e)
+    let parts = and_parts (test x) (list_all test xs) e in ap (λ b. b && list_all test (set xs i y)) parts.0 ∙ all_set test xs i y new parts.1
 
 -- the first that passes a test stays it, where what is written passes as what was there did
-first_set : {A : Type 0} (test : A → Bool) (xs : List A) (i : ℕ) (y d : A) → test y ≡ test (unwrap_or (slice_get xs i) d) → position_or_len test (set xs i y) ≡ position_or_len test xs
-first_set test [] i y d same = refl
-first_set test (x ∷ xs) zero y d same = ap (λ b. cond (not b) (1 + position_or_len test xs) 0) same
-first_set test (x ∷ xs) (suc i) y d same = ap (λ n. cond (not (test x)) (1 + n) 0) (first_set test xs i y d same)
-
 position_set : {A : Type 0} (test : A → Bool) (xs : List A) (i : ℕ) (y d : A) → test y ≡ test (unwrap_or (slice_get xs i) d) → position test (set xs i y) ≡ position test xs
-position_set test xs i y d same = rw (first_set test xs i y d same, length-set xs i y) refl
+position_set test xs i y d same = rw (position_or_len-set test xs i y d (same ∙ ap test (unwrap_or-slice_get xs i d)), length-set xs i y) refl
 
 -- names stay where they are, where what is written has those of what was there, as far as they are found
 keeps_written : (ps : List Place) (i : ℕ) (y : Place) → are_named ps ≡ true → is_named y ≡ true

@@ -1,9 +1,9 @@
 -- Opens, and closes of objects that have a name: what they depend on, and what they change.
-use Rattle.std.proofs.Common.{◌≡◌, ℕ, ◌-◌, ◌+◌, ◌==◌, Bool, true, false, cond, ◌||◌, ◌&&◌, not, nat_lt, List, set, Option, Some, None, Result, Ok, Err, is_none, position, slice_get, refl, sym, ap, ◌∙◌, inl, inr}
+use Rattle.std.proofs.Common.{◌≡◌, ℕ, ◌-◌, ◌+◌, ◌==◌, Bool, true, false, cond, ◌||◌, ◌&&◌, not, nat_lt, List, set, Option, Some, None, Result, Ok, Err, is_none, position, slice_get, refl, sym, ap, ◌∙◌}
 use Rattle.std.specs.List.{list_any}
 use Rattle.std.specs.Option.{option_map}
+use Rattle.std.proofs.lemmas.Bool.{ne_eqb}
 use Rattle.std.proofs.lemmas.Option.{slice_get_within}
-use Rattle.std.proofs.lemmas.Bool.Decides.{eqb_tells}
 use Rattle.ipc_names.specs.declared.errno.Errno.{Errno}
 use Rattle.ipc_names.specs.declared.errno.Errno.TheVariants.{BadDescriptor, Exists, Invalid, NoEntry, TooManyOpen}
 use Rattle.ipc_names.specs.declared.flags.Flags.{Flags}
@@ -234,7 +234,7 @@ local_sem_open_new name flags value i t o =
 
 -- another place isn't the one that is referred to
 other_place : (place i n : ℕ) → place ≡ i → (n ≡ i → ⊥) → (place == n) ≡ false
-other_place place i n e other = elim (eqb_tells place n) [ inl same ↦ absurd (other (sym same.1 ∙ e)) | inr differs ↦ differs.0 ]
+other_place place i n e other = ne_eqb place n (λ same. other (sym same ∙ e))
 
 -- a descriptor is closed
 closed_at : (i : ℕ) (t : OpenTables) (o : Place) (d : ℕ) (x : Option Descriptor) → held_by d t ≡ x → ((h : Descriptor) → x ≡ Some h → h.place ≡ i) → has_name o ≡ true → IsLocal i t o (λ k p. mq_close k p d x)

@@ -1,10 +1,8 @@
 -- The places of objects with a name, and empty ones, in kernels that are kept as rows.
-use Rattle.std.proofs.Common.{◌≡◌, ℕ, ◌<◌, ◌≤◌, ◌+◌, ◌-◌, Bool, true, false, cond, not, nat_lt, ◌||◌, ◌&&◌, List, [], ◌∷◌, ◌++◌, zero, suc, length, map, replicate, position, slice_get, Option, Some, None, unwrap_or, option_and_then, refl, sym, ap, ◌∙◌, arith}
+use Rattle.std.proofs.Common.{◌≡◌, ℕ, ◌<◌, ◌≤◌, ◌+◌, ◌-◌, Bool, true, false, cond, not, nat_lt, ◌||◌, ◌&&◌, List, [], ◌∷◌, ◌++◌, zero, suc, length, map, replicate, position, slice_get, Option, Some, None, option_and_then, refl, sym, ap, ◌∙◌, arith}
 use Rattle.std.specs.List.{list_all, position_or_len}
 use Rattle.std.specs.Option.{option_or}
 use Rattle.std.proofs.lemmas.List.{length-map, length-append, length-replicate}
-use Rattle.std.specs.Option.{option_map}
-use Rattle.std.proofs.lemmas.Option.{slice_get-map}
 use Rattle.std.proofs.lemmas.Bool.{le-ltb, ltb-false}
 use Rattle.std.proofs.lemmas.Bool.Decides.{Decides-ltb}
 use Rattle.ipc_kernel.specs.declared.place.Place.{Place}
@@ -15,19 +13,16 @@ use Rattle.ipc_kernel.specs.declared.call.Call.TheVariants.{MqOpen, MqClose, MqU
 use Rattle.ipc_kernel.specs.declared.call.Handle.{Handle}
 use Rattle.ipc_kernel.specs.Kernel.{KernelState}
 use Rattle.ipc_kernel.specs.Places.{place_at, is_empty, has_name, is_name, place_named, padded}
-use Rattle.ipc_kernel.specs.Operands.{handle_of, place_of, if_named, are_named, operand_in}
+use Rattle.ipc_kernel.specs.Operands.{handle_of, place_of, are_named, operand_in}
 use Rattle.ipc_store.specs.Rows.{KernelRow, kernel_of}
-use Rattle.ipc_store.proofs.SettledTables.{and_first, and_rest}
+use Rattle.std.proofs.lemmas.List.Folds.{list_all-append, list_all-map}
+use Rattle.ipc_store.proofs.Renamings.{position-map}
 use Rattle.ipc_store.proofs.RowLemmas.{row}
 use Rattle.ipc_store.proofs.KeptLemmas.{kernel_of_row}
 
-first_of_map : {A B : Type 0} (p : B → Bool) (f : A → B) (xs : List A) → position_or_len p (map f xs) ≡ position_or_len (λ x. p (f x)) xs
-first_of_map p f [] = refl
-first_of_map p f (x ∷ xs) = ap (λ n. cond (not (p (f x))) (1 + n) 0) (first_of_map p f xs)
-
 -- a test of numbers is one of what they stand for
 position_of_map : {A B : Type 0} (p : B → Bool) (f : A → B) (xs : List A) → position p (map f xs) ≡ position (λ x. p (f x)) xs
-position_of_map p f xs = rw (first_of_map p f xs, length-map xs f) refl
+position_of_map p f xs = position-map p (λ x. p (f x)) f (λ x. refl) xs
 
 first_before : {A : Type 0} (p : A → Bool) (xs ys : List A) → position_or_len p xs < length xs → position_or_len p (xs ++ ys) ≡ position_or_len p xs
 first_before p [] ys h = absurd (omega arith)
@@ -126,12 +121,6 @@ empty_behind_row os ns e h =
 pub full_row : (os : List Place) (ns : List ℕ) → None ≡ position (λ n. is_empty (place_at os n)) ns → 64 ≤ length ns → None ≡ position is_empty (padded 64 (map (place_at os) ns))
 full_row os ns e h = sym (padded_full 64 (map (place_at os) ns) (position_of_map is_empty (place_at os) ns ∙ sym e) (omega (arith, h, length-map ns (place_at os))))
 
--- where there is no row there is no kernel
-pub no_kernel : (os : List Place) (ts : List OpenTables) (rows : List KernelRow) (kernel : ℕ) (k : KernelState) → slice_get rows kernel ≡ None → slice_get (map (kernel_of os ts) rows) kernel ≡ Some k → ⊥
-no_kernel os ts rows kernel k none is =
-    let gone : slice_get (map (kernel_of os ts) rows) kernel ≡ None = slice_get-map (kernel_of os ts) rows kernel ∙ ap (option_map (kernel_of os ts)) none in
-    absurd (cc)
-
 -- the place of a name in a kernel that is kept
 pub named_there : (name_of : Place → Option (List ℕ)) (os : List Place) (ts : List OpenTables) (rows : List KernelRow) (kernel : ℕ) (ns ms n : List ℕ) (k : KernelState) (named : Option ℕ)
     → name_of Empty ≡ None → slice_get rows kernel ≡ Some (row ns ms) → slice_get (map (kernel_of os ts) rows) kernel ≡ Some k
@@ -150,30 +139,22 @@ opened_there name_of os ts rows kernel ns ms n k named i none at_kernel is found
     ∙ ap (λ (x : KernelState). option_or named (position is_empty x.places)) (sym (kernel_of_row os ts rows kernel (row ns ms) k at_kernel is))
     ∙ sym place
 
-none_behind : (m : ℕ) → are_named (replicate m Empty) ≡ true
+pub none_behind : (m : ℕ) → are_named (replicate m Empty) ≡ true
 none_behind zero = refl
 none_behind (suc m) = none_behind m
 
-all_in_row : (os : List Place) (ns : List ℕ) (m : ℕ) → list_all (λ n. is_empty (place_at os n) || has_name (place_at os n)) ns ≡ true → are_named (map (place_at os) ns ++ replicate m Empty) ≡ true
-all_in_row os [] m e = none_behind m
-all_in_row os (n ∷ ns) m e =
-    let head = and_first (is_empty (place_at os n) || has_name (place_at os n)) (list_all (λ x. is_empty (place_at os x) || has_name (place_at os x)) ns) e in
-    let tail = all_in_row os ns m (and_rest (is_empty (place_at os n) || has_name (place_at os n)) (list_all (λ x. is_empty (place_at os x) || has_name (place_at os x)) ns) e) in
-    ap (λ b. b && are_named (map (place_at os) ns ++ replicate m Empty)) head ∙ tail
-
 padded_named : (os : List Place) (ns : List ℕ) → list_all (λ n. is_empty (place_at os n) || has_name (place_at os n)) ns ≡ true → are_named (padded 64 (map (place_at os) ns)) ≡ true
 unfolding padded
-padded_named os ns e = all_in_row os ns (64 - length (map (place_at os) ns)) e
+padded_named os ns e =
+    let test : Place → Bool = λ p. is_empty p || has_name p in
+    let m = 64 - length (map (place_at os) ns) in
+    list_all-append test (map (place_at os) ns) (replicate m Empty) ∙ ap (λ b. b && list_all test (replicate m Empty)) (list_all-map test (place_at os) ns ∙ e) ∙ none_behind m
 
 -- each object of a kernel that is kept has a name
 pub all_there : (os : List Place) (ts : List OpenTables) (rows : List KernelRow) (kernel : ℕ) (ns ms : List ℕ) (k : KernelState) → slice_get rows kernel ≡ Some (row ns ms)
     → slice_get (map (kernel_of os ts) rows) kernel ≡ Some k → list_all (λ n. is_empty (place_at os n) || has_name (place_at os n)) ns ≡ true → are_named k.places ≡ true
 all_there os ts rows kernel ns ms k at_kernel is e =
     ap (λ (x : KernelState). are_named x.places) (sym (kernel_of_row os ts rows kernel (row ns ms) k at_kernel is)) ∙ padded_named os ns e
-
--- a place whose object has a name
-pub named_place : (ps : List Place) (i : ℕ) (o : Place) → slice_get ps i ≡ Some o → has_name o ≡ true → if_named ps i ≡ Some i
-named_place ps i o e named = ap (λ x. cond (has_name (unwrap_or x Empty)) (Some i) None) e ∙ ap (λ b. cond b (Some i) None) named
 
 -- a call on an open object works on that to which its descriptor or slot refers
 pub operand_by_handle : (k : KernelState) (t : OpenTables) (c : Call) (h : Handle) (i : ℕ) → Some h ≡ handle_of c → place_of t h ≡ Some i → operand_in k t c ≡ Some i

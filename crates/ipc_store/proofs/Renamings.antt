@@ -1,19 +1,33 @@
 -- Kernels whose places are renamed, and what a change of each does.
-use Rattle.std.proofs.Common.{◌≡◌, ℕ, ◌==◌, Bool, List, [], ◌∷◌, map, set, Option, Some, None, unwrap_or, slice_get, refl, sym, ap, ◌∙◌, inl, inr, position, is_none}
+use Rattle.std.proofs.Common.{◌≡◌, ℕ, ◌+◌, ◌<◌, ◌≤◌, ◌==◌, Bool, List, [], ◌∷◌, ◌++◌, length, take, drop, get_or, map, set, arith, Option, Some, None, unwrap_or, slice_get, refl, sym, ap, ◌∙◌, inl, inr, position, is_none}
 use Rattle.std.specs.Option.{option_map}
 use Rattle.std.specs.List.{list_any, position_or_len}
 use Rattle.std.proofs.lemmas.Bool.{eq-eqb}
 use Rattle.std.proofs.lemmas.Bool.Decides.{eqb_tells}
 use Rattle.std.proofs.lemmas.Option.{slice_get-map}
-use Rattle.std.proofs.lemmas.List.{map-set, length-map}
+use Rattle.std.proofs.lemmas.List.{map-set, length-map, append-nil, append_assoc, drop_all, drop_more, length-take-le, map_more, set_at, take_all}
 use Rattle.ipc_kernel.specs.declared.process.OpenTables.{OpenTables}
 use Rattle.ipc_kernel.specs.declared.process.Slot.{Slot}
 use Rattle.ipc_kernel.specs.declared.process.Descriptor.{Descriptor}
 use Rattle.ipc_kernel.specs.Processes.{process_at, descriptor_of, slot_of, free_descriptor_of, free_slot_of, slot_for, slot_refers, descriptor_refers, process_refers, is_referred, with_descriptor, with_slot, closed_process}
 use Rattle.ipc_kernel.specs.Alike.{renamed_descriptor, renamed_slot, renamed_process, IsPermutation}
 
-abbrev tables : List (Option Descriptor) → List (Option Slot) → OpenTables
+abbrev pub tables : List (Option Descriptor) → List (Option Slot) → OpenTables
 tables descriptors slots = record { descriptors = descriptors; slots = slots }
+
+-- as many descriptors and slots as a process can have
+abbrev pub HasOpenMax : OpenTables → Type 0
+HasOpenMax p = (length p.descriptors ≡ 16) × (length p.slots ≡ 16)
+
+-- one element more is mapped in its place, and all are
+pub renamed_more : {X : Type 0} (f : X → X) (xs ys : List X) (i : ℕ) (d : X) → i < length xs → ys ≡ map f (take i xs) ++ drop i xs → set ys i (f (get_or xs i d)) ≡ map f (take (i + 1) xs) ++ drop (i + 1) xs
+renamed_more f xs ys i d h e =
+    ap (λ zs. set zs i (f (get_or xs i d))) (e ∙ ap (λ zs. map f (take i xs) ++ zs) (drop_more xs i d h))
+    ∙ set_at (map f (take i xs)) (get_or xs i d) (drop (i + 1) xs) (f (get_or xs i d)) i (length-map (take i xs) f ∙ length-take-le i xs (omega arith))
+    ∙ sym (ap (λ zs. zs ++ drop (i + 1) xs) (map_more f xs i d h) ∙ append_assoc (map f (take i xs)) (f (get_or xs i d) ∷ []) (drop (i + 1) xs))
+
+pub renamed_all : {X : Type 0} (f : X → X) (xs : List X) (i : ℕ) → length xs ≤ i → map f (take i xs) ++ drop i xs ≡ map f xs
+renamed_all f xs i h = ap (λ zs. map f zs ++ drop i xs) (take_all i xs h) ∙ ap (λ zs. map f xs ++ zs) (drop_all i xs h) ∙ append-nil (map f xs)
 
 -- a map after a map
 pub map_twice : {A B C : Type 0} (h : B → C) (i : A → B) (j : A → C) → ((x : A) → h (i x) ≡ j x) → (xs : List A) → map h (map i xs) ≡ map j xs
@@ -83,7 +97,7 @@ prefix-map : {A B : Type 0} (q : B → Bool) (r : A → Bool) (h : A → B) → 
 prefix-map q r h same [] = refl
 prefix-map q r h same (x ∷ xs) = rw (same x, prefix-map q r h same xs) refl
 
-position-map : {A B : Type 0} (q : B → Bool) (r : A → Bool) (h : A → B) → ((x : A) → q (h x) ≡ r x) → (xs : List A) → position q (map h xs) ≡ position r xs
+pub position-map : {A B : Type 0} (q : B → Bool) (r : A → Bool) (h : A → B) → ((x : A) → q (h x) ≡ r x) → (xs : List A) → position q (map h xs) ≡ position r xs
 position-map q r h same xs = rw (prefix-map q r h same xs, length-map xs h) refl
 
 none_is_none : {A B : Type 0} (h : A → B) (o : Option A) → is_none (option_map h o) ≡ is_none o

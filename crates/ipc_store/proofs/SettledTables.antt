@@ -1,9 +1,10 @@
 -- Kernels in which other tables of a process leave each place as it was.
-use Rattle.std.proofs.Common.{◌≡◌, ℕ, ◌<◌, Bool, true, false, cond, ◌||◌, ◌&&◌, List, [], ◌∷◌, zero, suc, length, get_or, set, arith, Option, Some, None, is_none, position, slice_get, refl, sym, ap, ◌∙◌, inl, inr}
+use Rattle.std.proofs.Common.{◌≡◌, ℕ, ◌<◌, Bool, true, false, cond, ◌||◌, List, [], ◌∷◌, zero, suc, length, get_or, set, arith, Option, Some, None, is_none, position, slice_get, refl, sym, ap, ◌∙◌, inl, inr}
 use Rattle.std.specs.List.{list_any, list_all}
-use Rattle.std.proofs.lemmas.List.{ext_get_or}
+use Rattle.std.proofs.lemmas.Bool.{and_parts}
+use Rattle.std.proofs.lemmas.List.{ext_get_or, set-get_or}
 use Rattle.std.proofs.lemmas.List.Quantifiers.{position-Some}
-use Rattle.std.proofs.lemmas.Option.{unwrap_or-slice_get}
+use Rattle.std.proofs.lemmas.Option.{unwrap_or-slice_get, get_or_from_slice_get}
 use Rattle.ipc_kernel.specs.declared.place.Place.{Place}
 use Rattle.ipc_kernel.specs.declared.place.Place.TheVariants.{Empty, Mq, Sem}
 use Rattle.ipc_kernel.specs.declared.process.OpenTables.{OpenTables}
@@ -15,9 +16,7 @@ use Rattle.ipc_kernel.proofs.KernelLemmas.{kept-Empty, settled_by, settled_at, s
 
 -- an element that is written back changes nothing
 pub set_back : {A : Type 0} (xs : List A) (i : ℕ) (x : A) → slice_get xs i ≡ Some x → set xs i x ≡ xs
-set_back [] i x e = refl
-set_back (y ∷ xs) zero x e = let same : y ≡ x = cc in ap (λ z. z ∷ xs) (sym same)
-set_back (y ∷ xs) (suc i) x e = ap (λ zs. y ∷ zs) (set_back xs i x e)
+set_back xs i x e = ap (set xs i) (sym (get_or_from_slice_get xs i x x e)) ∙ set-get_or xs i x
 
 -- an element that was written is read
 pub get_set : {A : Type 0} (xs : List A) (i : ℕ) (x y : A) → slice_get xs i ≡ Some x → slice_get (set xs i y) i ≡ Some y
@@ -88,18 +87,10 @@ settled_but ps qs places i named same s = settled_by qs places (λ n h. elim (sa
 ])
 
 -- where each object has a name, each place is left as it was, whatever refers to it
-pub and_first : (b c : Bool) → (b && c) ≡ true → b ≡ true
-and_first true c e = refl
-and_first false c e = e
-
-pub and_rest : (b c : Bool) → (b && c) ≡ true → c ≡ true
-and_rest true c e = e
-and_rest false c e = absurd (cc)
-
 each_passes : {A : Type 0} (test : A → Bool) (xs : List A) (n : ℕ) (d : A) → n < length xs → list_all test xs ≡ true → test (get_or xs n d) ≡ true
 each_passes test [] n d h e = absurd (omega arith)
-each_passes test (x ∷ xs) zero d h e = and_first (test x) (list_all test xs) e
-each_passes test (x ∷ xs) (suc n) d h e = each_passes test xs n d (omega arith) (and_rest (test x) (list_all test xs) e)
+each_passes test (x ∷ xs) zero d h e = (and_parts (test x) (list_all test xs) e).0
+each_passes test (x ∷ xs) (suc n) d h e = each_passes test xs n d (omega arith) (and_parts (test x) (list_all test xs) e).1
 
 place_kept : (ps : List OpenTables) (n : ℕ) (x : Place) → (is_empty x || has_name x) ≡ true → place_or_empty ps n x ≡ x
 place_kept ps n Empty e = kept-Empty ps n

@@ -1,5 +1,5 @@
 //! Isomorphism up to renaming: whether two kernels are alike, equal but for the numbers of the places.
-ghost use Rattle.std.specs.Prelude.{◌≡◌, ◌↔◌, IsTrue};
+ghost use Rattle.std.specs.Prelude.{◌↔◌, IsTrue};
 ghost use Rattle.ipc_kernel.specs.Alike.{IsAlike, IsRenaming};
 ghost use Rattle.ipc_store.specs.Private.Renamings.{Permutes, renamed_by};
 
@@ -9,7 +9,6 @@ mod tables;
 use crate::renaming::Renaming;
 use ipc_kernel::Kernel;
 use places::{are_renamed_places, take_names};
-pub(crate) use tables::is_renamed_process;
 use tables::{are_renamed_tables, take_open};
 
 /// The renaming that takes each place with a name to the place of that name, and what a process
@@ -31,8 +30,8 @@ pub(crate) fn is_renamed(kernel: &Kernel, other: &Kernel, renaming: &Renaming) -
     ensures renamed { IsTrue result ↔ IsRenaming (renamed_by renaming.now.to)
         (renamed_by renaming.now.from) kernel.now other.now }
 {
-    are_renamed_places(kernel, other, &renaming.to)
-        && are_renamed_tables(kernel, other, &renaming.to)
+    are_renamed_places(kernel.places(), other.places(), &renaming.to)
+        && are_renamed_tables(kernel.tables(), other.tables(), &renaming.to)
 }
 
 /// Whether another kernel is this one, or this one with its places renamed. Then no answer tells

@@ -11,7 +11,6 @@ use crate::alike::is_renamed;
 use crate::arrangement::Arrangement;
 use ipc_kernel::Kernel;
 use std::alloc::{AllocError, Global};
-pub(crate) use tables::renamed_process;
 
 /// The kernel with its places renamed, so that its named objects stand first, in the order of
 /// their kinds and names, and then the others in the order in which processes have them open;
@@ -19,22 +18,13 @@ pub(crate) use tables::renamed_process;
 pub fn arranged(alloc: Global, kernel: &Kernel) -> Result<Option<Kernel>, AllocError>
     ensures alike { IfOk result (λ found. IfSome found (λ k. IsAlike kernel.now k)) }
 {
-    let arrangement = arrangement_of(kernel);
-    if arrangement.is_none() {
-        return Ok(None);
-    }
-    let arranged = renamed(alloc, kernel, &arrangement)?;
-    Ok(arranged)
-}
-
-/// The order of the objects by their kinds and names, and then in which processes have them open.
-fn arrangement_of(kernel: &Kernel) -> Arrangement
-    ensures permutation { Permutes result.renaming }
-{
     let mut arrangement = Arrangement::new();
     places::arrange(kernel.objects(), &mut arrangement);
     tables::arrange(kernel.tables(), &mut arrangement);
-    arrangement
+    if arrangement.is_none() {
+        return Ok(None);
+    }
+    renamed(alloc, kernel, &arrangement)
 }
 
 /// The kernel in an order of its objects, if it is this one with its places renamed.

@@ -1,22 +1,6 @@
 //! Rows of numbers that are compared.
 ghost use Rattle.std.specs.Prelude.{◌≡◌, ◌<◌, length, slice_index, slice_set, IsTrue};
 
-/// Whether these are the same numbers.
-pub(crate) fn are_same(numbers: &[u32], others: &[u32]) -> bool
-    ensures same { IsTrue result → numbers.now ≡ others.now }
-    ensures other { numbers.now ≡ others.now → IsTrue result }
-{
-    if numbers.len() != others.len() {
-        return false;
-    }
-    for (at, number) in numbers.iter().enumerate() {
-        if *number != others[at] {
-            return false;
-        }
-    }
-    true
-}
-
 /// The number that stands at a place among numbers with another one at a place.
 #[inline(always)]
 fn changed_at(numbers: &[u32], at: usize, place: usize, number: u32) -> u32

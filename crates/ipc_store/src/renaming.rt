@@ -1,9 +1,10 @@
 //! Renamings of the object places.
 ghost use Rattle.std.specs.Prelude.{◌≡◌, ℕ};
-ghost use Rattle.ipc_kernel.specs.Alike.{IsPermutation};
+ghost use Rattle.std.specs.Option.{option_map};
+ghost use Rattle.ipc_kernel.specs.Alike.{IsPermutation, renamed_descriptor, renamed_slot, renamed_process};
 ghost use Rattle.ipc_store.specs.Private.Renamings.{Follows, Permutes, renamed_by};
 
-use ipc_kernel::OBJECT_PLACES;
+use ipc_kernel::{Descriptor, OBJECT_PLACES, OPEN_MAX, OpenTables, Slot};
 
 /// Where a list of numbers takes a place; one behind its end stays.
 #[inline(always)]
@@ -14,6 +15,34 @@ pub(crate) fn renamed_by(to: &[u8], place: u8) -> u8
         Some(other) => *other,
         None => place,
     }
+}
+
+fn renamed_descriptor(held: Option<Descriptor>, to: &[u8]) -> Option<Descriptor>
+    ensures renamed { result ≡ option_map (renamed_descriptor (renamed_by to.now)) held }
+{
+    let held = held?;
+    let place = renamed_by(to, held.place);
+    Some(Descriptor { place, ..held })
+}
+
+fn renamed_slot(held: Option<Slot>, to: &[u8]) -> Option<Slot>
+    ensures renamed { result ≡ option_map (renamed_slot (renamed_by to.now)) held }
+{
+    let held = held?;
+    let place = renamed_by(to, held.place);
+    Some(Slot { place, ..held })
+}
+
+/// The tables of a process with each place where a list takes it.
+pub(crate) fn renamed_process(process: &OpenTables, to: &[u8]) -> OpenTables
+    ensures renamed { result ≡ renamed_process (renamed_by to.now) process.now }
+{
+    let mut renamed = *process;
+    for at in 0..OPEN_MAX {
+        renamed.descriptors[at] = renamed_descriptor(process.descriptors[at], to);
+        renamed.slots[at] = renamed_slot(process.slots[at], to);
+    }
+    renamed
 }
 
 /// A renaming of the object places: where each is taken, and back.

@@ -20,7 +20,8 @@ fn is_same_at(places: &[Place], at: u8, others: &[Place], other: u8) -> bool
     }
 }
 
-fn are_renamed(places: &[Place], others: &[Place], to: &[u8]) -> bool
+/// Whether places hold the same where a list takes those of others.
+pub(crate) fn are_renamed_places(places: &[Place], others: &[Place], to: &[u8]) -> bool
     ensures renamed { IsTrue result ↔ ((i : ℕ) → i < object_places
         → place_at others.now (renamed_by to.now i) ≡ place_at places.now i) }
 {
@@ -32,37 +33,17 @@ fn are_renamed(places: &[Place], others: &[Place], to: &[u8]) -> bool
     true
 }
 
-/// Whether another kernel holds in its places the same where a list takes those of this one.
-pub(crate) fn are_renamed_places(kernel: &Kernel, other: &Kernel, to: &[u8]) -> bool
-    ensures first { length kernel.now.places ≡ object_places }
-    ensures second { length other.now.places ≡ object_places }
-    ensures renamed { IsTrue result ↔ ((i : ℕ) → i < object_places
-        → place_at other.now.places (renamed_by to.now i) ≡ place_at kernel.now.places i) }
-{
-    are_renamed(kernel.places(), other.places(), to)
-}
-
 /// The place of another kernel with the name that a place has.
 fn place_of_name(places: &[Place], at: u8, other: &Kernel) -> Option<u8>
     ensures named { (i : ℕ) → has_name (place_at places.now at) ≡ true
         → place_at other.now.places i ≡ place_at places.now at → result ≡ Some i }
     ensures nameless { has_name (place_at places.now at) ≡ false → result ≡ None }
 {
-    match places.get(at as usize) {
-        Some(
-            Place::Mq {
-                name: Some(name),
-                ..
-            },
-        ) => other.queue_named(name),
-        Some(
-            Place::Sem {
-                name: Some(name),
-                ..
-            },
-        ) => other.semaphore_named(name),
-        _ => None,
+    let place = places.get(at as usize)?;
+    if let Some(name) = place.queue_name() {
+        return other.queue_named(name);
     }
+    other.semaphore_named(place.semaphore_name()?)
 }
 
 /// Takes each place with a name to the place of that name.

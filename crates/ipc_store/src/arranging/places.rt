@@ -7,25 +7,18 @@ use std::alloc::{AllocError, Global};
 
 /// The first by kind and name of the objects with a name that aren't taken.
 fn first_left(places: &[Place], arrangement: &Arrangement) -> Option<u8> {
-    let mut first: Option<u8> = None;
-    for (at, place) in places.iter().enumerate() {
-        let Ok(number) = u8::try_from(at) else {
-            return first;
+    let mut first: Option<(u8, &Place)> = None;
+    for at in 0..places.len().min(OBJECT_PLACES) as u8 {
+        let place = &places[at as usize];
+        let is_first = match first {
+            Some((_, other)) => place.is_before(other),
+            None => true,
         };
-        if place.has_name() && !arrangement.has(number) {
-            let is_first = match first {
-                Some(other) => match places.get(other as usize) {
-                    Some(other) => place.is_before(other),
-                    None => true,
-                },
-                None => true,
-            };
-            if is_first {
-                first = Some(number);
-            }
+        if is_first && place.has_name() && !arrangement.has(at) {
+            first = Some((at, place));
         }
     }
-    first
+    first.map(|(at, _)| at)
 }
 
 /// Takes each object with a name, first the queues and then the semaphores, each in the order of

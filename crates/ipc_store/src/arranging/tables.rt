@@ -2,7 +2,7 @@
 ghost use Rattle.ipc_store.specs.Private.Renamings.{Permutes};
 
 use crate::arrangement::Arrangement;
-use crate::renaming::renamed_by;
+use crate::renaming::renamed_process;
 use ipc_kernel::{Descriptor, OpenTables, Slot};
 use std::alloc::{AllocError, Global};
 
@@ -40,34 +40,6 @@ pub(crate) fn arrange(processes: &[OpenTables], arrangement: &mut Arrangement)
         arrange_descriptors(&process.descriptors, arrangement);
         arrange_slots(&process.slots, arrangement);
     }
-}
-
-/// Renames the places of descriptors.
-fn rename_descriptors(descriptors: &mut [Option<Descriptor>], to: &[u8]) {
-    for at in 0..descriptors.len() {
-        if let Some(held) = descriptors[at] {
-            let place = renamed_by(to, held.place);
-            descriptors[at] = Some(Descriptor { place, ..held });
-        }
-    }
-}
-
-/// Renames the places of slots.
-fn rename_slots(slots: &mut [Option<Slot>], to: &[u8]) {
-    for at in 0..slots.len() {
-        if let Some(held) = slots[at] {
-            let place = renamed_by(to, held.place);
-            slots[at] = Some(Slot { place, ..held });
-        }
-    }
-}
-
-/// The tables of a process with the places renamed.
-pub(crate) fn renamed_process(process: &OpenTables, to: &[u8]) -> OpenTables {
-    let mut renamed = *process;
-    rename_descriptors(&mut renamed.descriptors, to);
-    rename_slots(&mut renamed.slots, to);
-    renamed
 }
 
 /// The tables of each process with the places renamed.

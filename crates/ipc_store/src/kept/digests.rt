@@ -1,5 +1,4 @@
 //! The digests of rows, and what finds rows by them. Nothing that is proved rests on what stands here.
-ghost use Rattle.std.specs.Prelude.{◌<◌};
 
 use crate::index::Index;
 use std::alloc::{AllocError, Global};
@@ -9,7 +8,7 @@ use std::mem::size_of;
 #[derive(Drop)]
 pub(crate) struct Digests {
     digests: Vec<u64>,
-    index: Index,
+    pub(crate) index: Index,
 }
 
 impl Digests {
@@ -17,18 +16,10 @@ impl Digests {
     pub(crate) const ENTRY: usize = size_of::<u64>() + Index::ENTRY;
 
     /// No row.
-    pub(crate) fn new(alloc: Global) -> Result<Digests, AllocError> {
-        Ok(Digests {
-            digests: Vec::new(alloc),
-            index: Index::new(alloc)?,
-        })
-    }
-
-    /// No row, and no room for any.
-    pub(crate) fn none(alloc: Global) -> Digests {
+    pub(crate) fn new(alloc: Global, index: Index) -> Digests {
         Digests {
             digests: Vec::new(alloc),
-            index: Index::none(alloc),
+            index,
         }
     }
 
@@ -38,18 +29,6 @@ impl Digests {
             Some(digest) => *digest,
             None => 0,
         }
-    }
-
-    /// The number after that of the newest row that may have a digest, or 0.
-    pub(crate) fn newest(&self, digest: u64) -> usize {
-        self.index.newest(digest)
-    }
-
-    /// The number after that of the next older such row, or 0.
-    pub(crate) fn older(&self, number: usize) -> usize
-        ensures less { 0 < number → result < number }
-    {
-        self.index.older(number)
     }
 
     /// Adds the digest of the next row. Where memory is refused none is added.

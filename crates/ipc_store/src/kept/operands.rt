@@ -80,12 +80,8 @@ impl Kernels {
 
     /// Whether a queue has a name in a kernel.
     fn has_queue(&self, kernel: u32, name: &Name) -> bool
-        ensures yes { IsTrue result → (k : KernelState)
-            → slice_get self.now.kernels kernel ≡ Some k
-            → IsTrue (is_some (queue_named k.places name.now)) }
-        ensures no { result ≡ false → (k : KernelState)
-            → slice_get self.now.kernels kernel ≡ Some k
-            → is_some (queue_named k.places name.now) ≡ false }
+        ensures named { (k : KernelState) → slice_get self.now.kernels kernel ≡ Some k
+            → result ≡ is_some (queue_named k.places name.now) }
     {
         match self.rows.row(kernel) {
             Some((objects, _)) => self.objects.queue_named(objects, name).is_some(),
@@ -95,12 +91,8 @@ impl Kernels {
 
     /// Whether a semaphore has a name in a kernel.
     fn has_semaphore(&self, kernel: u32, name: &Name) -> bool
-        ensures yes { IsTrue result → (k : KernelState)
-            → slice_get self.now.kernels kernel ≡ Some k
-            → IsTrue (is_some (semaphore_named k.places name.now)) }
-        ensures no { result ≡ false → (k : KernelState)
-            → slice_get self.now.kernels kernel ≡ Some k
-            → is_some (semaphore_named k.places name.now) ≡ false }
+        ensures named { (k : KernelState) → slice_get self.now.kernels kernel ≡ Some k
+            → result ≡ is_some (semaphore_named k.places name.now) }
     {
         match self.rows.row(kernel) {
             Some((objects, _)) => self.objects.semaphore_named(objects, name).is_some(),

@@ -40,18 +40,10 @@ pub(crate) struct Renames {
 
 impl Renames {
     /// No hint.
-    pub(crate) fn new(alloc: Global) -> Result<Renames, AllocError> {
-        Ok(Renames {
-            hints: Vec::new(alloc),
-            index: Index::new(alloc)?,
-        })
-    }
-
-    /// No hint, and no room for any.
-    pub(crate) fn none(alloc: Global) -> Renames {
+    pub(crate) fn new(alloc: Global, index: Index) -> Renames {
         Renames {
             hints: Vec::new(alloc),
-            index: Index::none(alloc),
+            index,
         }
     }
 

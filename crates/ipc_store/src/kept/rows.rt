@@ -5,7 +5,7 @@ ghost use Rattle.ipc_store.specs.Private.KeptRows.{row_of};
 
 use super::changes::{Change, digest_from};
 use super::digests::Digests;
-use crate::numbers::are_same;
+use crate::index::Index;
 use ipc_kernel::OBJECT_PLACES;
 use std::alloc::{AllocError, Global};
 use std::marker::Model;
@@ -68,7 +68,7 @@ impl Rows {
         Ok(Rows {
             numbers: Vec::new(alloc),
             spans: Vec::new(alloc),
-            digests: Digests::new(alloc)?,
+            digests: Digests::new(alloc, Index::new(alloc)?),
         })
     }
 
@@ -89,14 +89,14 @@ impl Rows {
         ensures found { IfSome result (λ i. slice_get self.now i
             ≡ Some (record { objects = objects.now; tables = tables.now })) }
     {
-        let mut number = self.digests.newest(digest);
+        let mut number = self.digests.index.newest(digest);
         while number > 0 {
             if let Ok(at) = u32::try_from(number - 1) {
                 if self.is_at(at, objects, tables) {
                     return Some(at);
                 }
             }
-            number = self.digests.older(number);
+            number = self.digests.index.older(number);
         }
         None
     }
@@ -107,7 +107,7 @@ impl Rows {
             ≡ Some (record { objects = objects.now; tables = tables.now }) }
     {
         match self.row(number) {
-            Some(row) => are_same(row.0, objects) && are_same(row.1, tables),
+            Some(row) => row.0 == objects && row.1 == tables,
             None => false,
         }
     }
@@ -126,16 +126,15 @@ impl Rows {
         ensures range { IfSome result (λ i. objects.now.at < length objects.now.numbers.now) }
     {
         let growth = objects.growth(0).wrapping_add(tables.growth(TABLES));
-        let mut number = self
-            .digests
-            .newest(self.digests.get(row).wrapping_add(growth));
+        let digest = self.digests.get(row).wrapping_add(growth);
+        let mut number = self.digests.index.newest(digest);
         while number > 0 {
             if let Ok(at) = u32::try_from(number - 1) {
                 if self.is_changed(at, objects, tables) {
                     return Some(at);
                 }
             }
-            number = self.digests.older(number);
+            number = self.digests.index.older(number);
         }
         None
     }
@@ -224,7 +223,7 @@ impl Rows {
     pub(crate) fn forget(&mut self, alloc: Global)
         ensures same { self.new ≡ self.old }
     {
-        self.digests = Digests::none(alloc);
+        self.digests = Digests::new(alloc, Index::none(alloc));
     }
 }
 
@@ -232,18 +231,12 @@ impl Rows {
 pub(crate) fn number_of(at: usize) -> Result<u32, AllocError>
     ensures value { IfOk result (λ number. number ≡ at) }
 {
-    match u32::try_from(at) {
-        Ok(number) => Ok(number),
-        Err(_) => Err(AllocError),
-    }
+    u32::try_from(at).map_err(|_| AllocError)
 }
 
 /// A count of the parts of a row, if it is small enough.
 fn count_of(count: usize) -> Result<u8, AllocError>
     ensures value { IfOk result (λ kept. kept ≡ count) }
 {
-    match u8::try_from(count) {
-        Ok(kept) => Ok(kept),
-        Err(_) => Err(AllocError),
-    }
+    u8::try_from(count).map_err(|_| AllocError)
 }

@@ -8,9 +8,8 @@ ghost use Rattle.ipc_store.specs.Private.Renamings.{renamed_by};
 
 use super::renames::{Renames, Taken};
 use super::rows::number_of;
-use crate::alike::is_renamed_process;
-use crate::arranging::renamed_process;
 use crate::index::Index;
+use crate::renaming::renamed_process;
 use ipc_kernel::OpenTables;
 use std::alloc::{AllocError, Global};
 use std::marker::Model;
@@ -41,7 +40,7 @@ impl Tables {
         Ok(Tables {
             tables: Vec::new(alloc),
             index: Index::new(alloc)?,
-            renames: Renames::new(alloc)?,
+            renames: Renames::new(alloc, Index::new(alloc)?),
         })
     }
 
@@ -111,7 +110,8 @@ impl Tables {
             ≡ Some (renamed_process (renamed_by to.now) (process_at self.now number))) }
     {
         let renamed = self.renames.find(number, taken)?;
-        if is_renamed_process(self.get(number)?, self.get(renamed)?, to) {
+        let made = renamed_process(self.get(number)?, to);
+        if self.get(renamed)?.is_same(&made) {
             return Some(renamed);
         }
         None
@@ -137,9 +137,6 @@ impl Tables {
             return Ok(None);
         };
         let renamed = renamed_process(tables, to);
-        if !is_renamed_process(tables, &renamed, to) {
-            return Ok(None);
-        }
         let kept = self.keep(&renamed)?;
         self.renames.add(number, taken, kept)?;
         Ok(Some(kept))
@@ -206,6 +203,6 @@ impl Tables {
         ensures same { self.new ≡ self.old }
     {
         self.index = Index::none(alloc);
-        self.renames = Renames::none(alloc);
+        self.renames = Renames::new(alloc, Index::none(alloc));
     }
 }

@@ -1,22 +1,17 @@
 use Rattle.std.proofs.Common.{refl, sym, ap, ◌∙◌, is_some}
 use Rattle.ipc_kernel.specs.Places.{queue_name}
-use Rattle.ipc_store.proofs.OperandRows.{named_there, no_kernel}
+use Rattle.ipc_store.proofs.OperandRows.{named_there}
+use Rattle.ipc_store.proofs.KeptLemmas.{no_kernel}
 use Rattle.ipc_store.proofs.kept.Kernels.has_queue.Goals as goal
 
 pub returns-in-Some : goal.returns-in-Some
 returns-in-Some c = record {
-  yes = λ yes. rw (← c.self.view_is) (λ k at_kernel.
-      ap is_some (named_there queue_name c.self.inside.objects c.self.inside.tables c.self.inside.rows c.args.kernel c.in-Some.objects.now c.in-Some.field-0-1.now c.args.name.now k
-      c.queue_named.result refl c.in-Some.ensures.row at_kernel c.queue_named.ensures.found)
-      ∙ sym c.is_some.ensures ∙ yes);
-  no = λ no. rw (← c.self.view_is) (λ k at_kernel.
-      ap is_some (named_there queue_name c.self.inside.objects c.self.inside.tables c.self.inside.rows c.args.kernel c.in-Some.objects.now c.in-Some.field-0-1.now c.args.name.now k
-      c.queue_named.result refl c.in-Some.ensures.row at_kernel c.queue_named.ensures.found)
-      ∙ sym c.is_some.ensures ∙ no);
+  named = rw (← c.self.view_is) (λ k at_kernel. c.is_some.ensures
+      ∙ sym (ap is_some (named_there queue_name c.self.inside.objects c.self.inside.tables c.self.inside.rows c.args.kernel c.in-Some.objects.now c.in-Some.field-0-1.now c.args.name.now k
+      c.queue_named.result refl c.in-Some.ensures.row at_kernel c.queue_named.ensures.found)));
 }
 
 pub returns-in-None : goal.returns-in-None
 returns-in-None c = record {
-  yes = λ yes. absurd (cc);
-  no = λ no. rw (← c.self.view_is) (λ k at_kernel. absurd (no_kernel c.self.inside.objects c.self.inside.tables c.self.inside.rows c.args.kernel k c.in-None.ensures.none at_kernel));
+  named = rw (← c.self.view_is) (λ k at_kernel. absurd (no_kernel c.self.inside.objects c.self.inside.tables c.self.inside.rows c.args.kernel k c.in-None.ensures.none at_kernel));
 }
