@@ -1,8 +1,7 @@
 -- Kernels of which the one is the other with its places renamed, and what each change makes of both.
-use Rattle.std.proofs.Common.{◌≡◌, ◌≢◌, ◌↔◌, ℕ, ◌==◌, ◌<◌, ◌≤◌, Bool, false, cond, ◌||◌, List, [], ◌∷◌, length, map, set, length-set, Option, Some, None, refl, sym, ap, subst, ◌∙◌, inl, inr, arith, if◌then◌else◌}
+use Rattle.std.proofs.Common.{◌≡◌, ◌≢◌, ◌↔◌, ℕ, ◌==◌, ◌<◌, ◌≤◌, true, false, cond, ◌||◌, List, length, map, set, length-set, Option, refl, sym, ap, subst, ◌∙◌, inl, inr, arith, if◌then◌else◌}
 use Rattle.std.specs.Option.{option_map}
-use Rattle.std.specs.List.{list_any}
-use Rattle.std.proofs.lemmas.Bool.{cases_lt, eq-eqb, or_parts}
+use Rattle.std.proofs.lemmas.Bool.{cases_lt, eq-eqb, ne_eqb}
 use Rattle.std.proofs.lemmas.Bool.Decides.{eqb_tells}
 use Rattle.std.proofs.lemmas.Option.{unwrap_or-slice_get}
 use Rattle.ipc_kernel.specs.declared.place.Place.{Place}
@@ -10,14 +9,14 @@ use Rattle.ipc_kernel.specs.declared.place.Place.TheVariants.{Empty}
 use Rattle.ipc_kernel.specs.declared.process.OpenTables.{OpenTables}
 use Rattle.ipc_kernel.specs.declared.process.Slot.{Slot}
 use Rattle.ipc_kernel.specs.declared.process.Descriptor.{Descriptor}
-use Rattle.ipc_kernel.specs.Processes.{slot_refers, descriptor_refers, process_refers, is_referred, with_descriptor, with_slot, closed_process}
+use Rattle.ipc_kernel.specs.Processes.{is_referred, with_descriptor, with_slot, closed_process}
 use Rattle.ipc_kernel.specs.Places.{place_at, has_name, place_or_empty, places_or_empty}
 use Rattle.ipc_kernel.specs.Kernel.{KernelState}
 use Rattle.ipc_kernel.specs.Alike.{renamed_descriptor, renamed_slot, renamed_process, IsPermutation, IsRenaming, IsAlike, IsConsistent}
 use Rattle.ipc_kernel.proofs.PlaceLemmas.{get_or-emptied, length-emptied}
 use Rattle.ipc_kernel.proofs.KernelLemmas.{kept-Empty}
 use Rattle.ipc_kernel.proofs.IndexLemmas.{place_at-set_same, place_at-set_other, place_at-past}
-use Rattle.ipc_store.proofs.Renamings.{tables, renamed_twice, with_descriptor-renamed, with_slot-renamed, closed-renamed, is_referred-renamed}
+use Rattle.ipc_store.proofs.Renamings.{processes_stay, renamed_twice, with_descriptor-renamed, with_slot-renamed, closed-renamed, is_referred-renamed}
 
 -- what a place holds once each without a name and a reference is emptied
 pub place_at-emptied : (processes : List OpenTables) (ps : List Place) (i : ℕ) → place_at (places_or_empty processes ps) i ≡ place_or_empty processes i (place_at ps i)
@@ -109,14 +108,6 @@ renaming_then f g h i k j l r q = record {
 pub alike_then : (k j l : KernelState) → IsAlike k j → IsAlike j l → IsAlike k l
 alike_then k j l a b = (λ n. b.0 (a.0 n), λ n. a.1 (b.1 n), renaming_then a.0 a.1 b.0 b.1 k j l a.2 b.2)
 
-map_id : {A : Type 0} (h : A → A) → ((x : A) → h x ≡ x) → (xs : List A) → map h xs ≡ xs
-map_id h same [] = refl
-map_id h same (x ∷ xs) = rw (same x, map_id h same xs) refl
-
-option_id : {A : Type 0} (h : A → A) → ((x : A) → h x ≡ x) → (o : Option A) → option_map h o ≡ o
-option_id h same None = refl
-option_id h same (Some x) = ap (λ y. Some y) (same x)
-
 -- a kernel is alike itself
 pub alike_itself : (k : KernelState) → IsAlike k k
 alike_itself k = (
@@ -126,9 +117,7 @@ alike_itself k = (
     permutation = record { undone = λ i. refl; redone = λ i. refl; within = λ i. (λ e. e, λ e. e) };
     count = refl;
     places = λ i. refl;
-    processes = sym (map_id (renamed_process (λ i. i)) (λ p.
-        ap (λ ds. tables ds (map (option_map (renamed_slot (λ i. i))) p.slots)) (map_id (option_map (renamed_descriptor (λ i. i))) (option_id (renamed_descriptor (λ i. i)) (λ d. refl)) p.descriptors)
-        ∙ ap (tables p.descriptors) (map_id (option_map (renamed_slot (λ i. i))) (option_id (renamed_slot (λ i. i)) (λ s. refl)) p.slots)) k.processes);
+    processes = sym (processes_stay (λ i. i) k.processes (λ n e. refl));
   },
 )
 
@@ -145,7 +134,7 @@ alike_back k j a = (
     };
     count = sym r.count;
     places = λ i. sym (r.places (g i)) ∙ ap (place_at j.places) (h.redone i);
-    processes = sym (ap (map (renamed_process g)) r.processes ∙ renamed_twice f g k.processes ∙ map_id (renamed_process (λ i. g (f i))) process_back k.processes);
+    processes = sym (ap (map (renamed_process g)) r.processes ∙ renamed_twice f g k.processes ∙ processes_stay (λ i. g (f i)) k.processes (λ n e. h.undone n));
   },
 )
   where
@@ -160,12 +149,6 @@ alike_back k j a = (
 
     h : IsPermutation f g
     h = r.permutation
-
-    process_back : (p : OpenTables) → renamed_process (λ i. g (f i)) p ≡ p
-    process_back p =
-        ap (λ ds. tables ds (map (option_map (renamed_slot (λ i. g (f i)))) p.slots))
-        (map_id (option_map (renamed_descriptor (λ i. g (f i)))) (option_id (renamed_descriptor (λ i. g (f i))) (λ d. ap (λ n. record d { place = n }) (h.undone d.place))) p.descriptors)
-        ∙ ap (tables p.descriptors) (map_id (option_map (renamed_slot (λ i. g (f i)))) (option_id (renamed_slot (λ i. g (f i))) (λ s. ap (λ n. record s { place = n }) (h.undone s.place))) p.slots)
 
 -- and so is an equal one
 pub alike_same : (k j : KernelState) → k ≡ j → IsAlike k j
@@ -210,29 +193,6 @@ swap_permutes x y h d = record {
   within = λ i. by_swap (λ n m. (m < 64) ↔ (n < 64)) x y i (λ e. (λ _. omega arith, λ _. d)) (λ e. (λ _. omega arith, λ _. h)) (λ e. e, λ e. e);
 }
 
--- elements that pass neither test stay
-map_unless : {A : Type 0} (q r : A → Bool) (h : A → A) → ((x : A) → q x ≡ false → r x ≡ false → h x ≡ x) → (xs : List A) → list_any q xs ≡ false → list_any r xs ≡ false → map h xs ≡ xs
-map_unless q r h same [] e d = refl
-map_unless q r h same (x ∷ xs) e d =
-    let first = or_parts (q x) (list_any q xs) e in
-    let second = or_parts (r x) (list_any r xs) d in
-    rw (same x first.0 second.0, map_unless q r h same xs first.1 second.1) refl
-
-descriptor_stays : (x y : ℕ) (o : Option Descriptor) → descriptor_refers x o ≡ false → descriptor_refers y o ≡ false → option_map (renamed_descriptor (swap x y)) o ≡ o
-descriptor_stays x y None e d = refl
-descriptor_stays x y (Some held) e d = ap (λ n. Some (record held { place = n })) (swap_other x y held.place e d)
-
-slot_stays : (x y : ℕ) (o : Option Slot) → slot_refers x o ≡ false → slot_refers y o ≡ false → option_map (renamed_slot (swap x y)) o ≡ o
-slot_stays x y None e d = refl
-slot_stays x y (Some held) e d = ap (λ n. Some (record held { place = n })) (swap_other x y held.place e d)
-
-process_stays : (x y : ℕ) (p : OpenTables) → process_refers x p ≡ false → process_refers y p ≡ false → renamed_process (swap x y) p ≡ p
-process_stays x y p e d =
-    let first = or_parts (list_any (descriptor_refers x) p.descriptors) (list_any (slot_refers x) p.slots) e in
-    let second = or_parts (list_any (descriptor_refers y) p.descriptors) (list_any (slot_refers y) p.slots) d in
-    ap (λ ds. tables ds (map (option_map (renamed_slot (swap x y))) p.slots)) (map_unless (descriptor_refers x) (descriptor_refers y) (option_map (renamed_descriptor (swap x y))) (descriptor_stays x y) p.descriptors first.0 second.0)
-    ∙ ap (tables p.descriptors) (map_unless (slot_refers x) (slot_refers y) (option_map (renamed_slot (swap x y))) (slot_stays x y) p.slots first.1 second.1)
-
 -- two empty places of a kernel can be exchanged
 renaming_swap : (k : KernelState) (x y : ℕ) → IsConsistent k → x < 64 → y < 64 → place_at k.places x ≡ Empty → place_at k.places y ≡ Empty → IsRenaming (swap x y) (swap x y) k k
 renaming_swap k x y s h d e f = record {
@@ -240,8 +200,11 @@ renaming_swap k x y s h d e f = record {
   count = refl;
   places = λ i. by_swap (λ n m. place_at k.places m ≡ place_at k.places n) x y i
       (λ same. f ∙ sym (ap (place_at k.places) same ∙ e)) (λ same. e ∙ sym (ap (place_at k.places) same ∙ f)) refl;
-  processes = sym (map_unless (process_refers x) (process_refers y) (renamed_process (swap x y)) (process_stays x y) k.processes (s.referred x e) (s.referred y f));
+  processes = sym (processes_stay (swap x y) k.processes (λ n here. swap_other x y n (apart n x here (s.referred x e)) (apart n y here (s.referred y f))));
 }
+  where
+    apart : (n z : ℕ) → is_referred k.processes n ≡ true → is_referred k.processes z ≡ false → (n == z) ≡ false
+    apart n z here none = ne_eqb n z (λ same. let f = sym here ∙ ap (is_referred k.processes) same ∙ none in cc)
 
 -- a renaming of a kernel with an empty place a that takes it to an empty place b
 pub renaming_to : (f g : ℕ → ℕ) (k j : KernelState) (a b : ℕ) → IsConsistent k → IsRenaming f g k j → a < 64 → b < 64 → place_at k.places a ≡ Empty → place_at j.places b ≡ Empty

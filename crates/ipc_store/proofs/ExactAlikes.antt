@@ -1,46 +1,16 @@
 -- A permutation that takes each place with a name or a reference where a renaming of a kernel does is a renaming of that kernel.
-use Rattle.std.proofs.Common.{◌≡◌, ℕ, ◌<◌, Bool, true, false, cond, ◌||◌, List, [], ◌∷◌, map, Option, Some, None, refl, sym, ap, ◌∙◌, eq-eqb}
-use Rattle.std.proofs.lemmas.Bool.{or_left, or_right}
-use Rattle.std.specs.Option.{option_map}
-use Rattle.std.specs.List.{list_any}
+use Rattle.std.proofs.Common.{◌≡◌, ℕ, ◌<◌, Bool, true, false, cond, ◌||◌, map, refl, sym, ap, ◌∙◌}
+use Rattle.std.proofs.lemmas.Bool.{or_right}
 use Rattle.ipc_kernel.specs.declared.place.Place.TheVariants.{Empty}
-use Rattle.ipc_kernel.specs.declared.process.OpenTables.{OpenTables}
-use Rattle.ipc_kernel.specs.declared.process.Slot.{Slot}
-use Rattle.ipc_kernel.specs.declared.process.Descriptor.{Descriptor}
 use Rattle.ipc_store.specs.declared.renaming.Renaming.{Renaming}
-use Rattle.ipc_kernel.specs.Processes.{slot_refers, descriptor_refers, process_refers, is_referred}
+use Rattle.ipc_kernel.specs.Processes.{process_refers, is_referred}
 use Rattle.ipc_kernel.specs.Places.{place_at, has_name}
 use Rattle.ipc_kernel.specs.Kernel.{KernelState, IsSettled}
-use Rattle.ipc_kernel.specs.Alike.{renamed_descriptor, renamed_slot, renamed_process, IsPermutation, IsRenaming, IsAlike}
+use Rattle.ipc_kernel.specs.Alike.{renamed_process, IsPermutation, IsRenaming, IsAlike}
 use Rattle.ipc_store.specs.Private.Renamings.{renamed_by, Permutes}
 use Rattle.ipc_store.specs.Private.Renamings.{Follows}
-use Rattle.ipc_store.proofs.Renamings.{tables}
+use Rattle.ipc_store.proofs.Renamings.{map_where, process_where}
 use Rattle.ipc_store.proofs.Alikes.{place_at-emptied}
-
--- maps that agree on each element by the places to which it refers
-map_where : {A B : Type 0} (refers : ℕ → A → Bool) (P : ℕ → Type 0) (u v : A → B) → ((x : A) → ((n : ℕ) → refers n x ≡ true → P n) → u x ≡ v x)
-    → (xs : List A) → ((n : ℕ) → list_any (refers n) xs ≡ true → P n) → map u xs ≡ map v xs
-map_where refers P u v same [] each = refl
-map_where refers P u v same (x ∷ xs) each =
-    rw (
-      same x (λ n e. each n (or_left (refers n x) (list_any (refers n) xs) e)),
-      map_where refers P u v same xs (λ n e. each n (or_right (refers n x) (list_any (refers n) xs) e)),
-    ) refl
-
-descriptor_where : (f h : ℕ → ℕ) (o : Option Descriptor) → ((n : ℕ) → descriptor_refers n o ≡ true → h n ≡ f n) → option_map (renamed_descriptor f) o ≡ option_map (renamed_descriptor h) o
-descriptor_where f h None each = refl
-descriptor_where f h (Some d) each = ap (λ n. Some (record d { place = n })) (sym (each d.place (eq-eqb d.place d.place refl)))
-
-slot_where : (f h : ℕ → ℕ) (o : Option Slot) → ((n : ℕ) → slot_refers n o ≡ true → h n ≡ f n) → option_map (renamed_slot f) o ≡ option_map (renamed_slot h) o
-slot_where f h None each = refl
-slot_where f h (Some s) each = ap (λ n. Some (record s { place = n })) (sym (each s.place (eq-eqb s.place s.place refl)))
-
-process_where : (f h : ℕ → ℕ) (p : OpenTables) → ((n : ℕ) → process_refers n p ≡ true → h n ≡ f n) → renamed_process f p ≡ renamed_process h p
-process_where f h p each =
-    ap (λ ds. tables ds (map (option_map (renamed_slot f)) p.slots))
-    (map_where descriptor_refers (λ n. h n ≡ f n) _ _ (descriptor_where f h) p.descriptors (λ n e. each n (or_left _ _ e)))
-    ∙ ap (tables (map (option_map (renamed_descriptor h)) p.descriptors))
-    (map_where slot_refers (λ n. h n ≡ f n) _ _ (slot_where f h) p.slots (λ n e. each n (or_right (list_any (descriptor_refers n) p.descriptors) _ e)))
 
 -- whether a place has a name or a reference
 abbrev is_kept : KernelState → ℕ → Bool

@@ -1,8 +1,9 @@
 -- Kernels whose places are renamed, and what a change of each does.
-use Rattle.std.proofs.Common.{◌≡◌, ℕ, ◌+◌, ◌<◌, ◌≤◌, ◌==◌, Bool, List, [], ◌∷◌, ◌++◌, length, take, drop, get_or, map, set, arith, Option, Some, None, unwrap_or, slice_get, refl, sym, ap, ◌∙◌, inl, inr, position, is_none}
+use Rattle.std.proofs.Common.{◌≡◌, ℕ, ◌+◌, ◌<◌, ◌≤◌, ◌==◌, Bool, true, List, [], ◌∷◌, ◌++◌, length, take, drop, get_or, map, set, arith, Option, Some, None, unwrap_or, slice_get, refl, sym, ap, ◌∙◌, inl, inr, position, is_none}
 use Rattle.std.specs.Option.{option_map}
 use Rattle.std.specs.List.{list_any, position_or_len}
-use Rattle.std.proofs.lemmas.Bool.{eq-eqb}
+use Rattle.std.proofs.lemmas.Bool.{eq-eqb, or_left, or_right}
+use Rattle.std.proofs.lemmas.Iterator.Adapters.{option_map_id}
 use Rattle.std.proofs.lemmas.Bool.Decides.{eqb_tells}
 use Rattle.std.proofs.lemmas.Option.{slice_get-map}
 use Rattle.std.proofs.lemmas.List.{map-set, length-map, append-nil, append_assoc, drop_all, drop_more, length-take-le, map_more, set_at, take_all}
@@ -143,3 +144,41 @@ is_referred-renamed f g h ps i = list_any-map (process_refers (f i)) (process_re
       list_any-map (descriptor_refers (f i)) (descriptor_refers i) (option_map (renamed_descriptor f)) (descriptor_refers-renamed f g h i) p.descriptors,
       list_any-map (slot_refers (f i)) (slot_refers i) (option_map (renamed_slot f)) (slot_refers-renamed f g h i) p.slots,
     ) refl) ps
+
+-- maps that agree on each element by the places to which it refers
+pub map_where : {A B : Type 0} (refers : ℕ → A → Bool) (P : ℕ → Type 0) (u v : A → B) → ((x : A) → ((n : ℕ) → refers n x ≡ true → P n) → u x ≡ v x)
+    → (xs : List A) → ((n : ℕ) → list_any (refers n) xs ≡ true → P n) → map u xs ≡ map v xs
+map_where refers P u v same [] each = refl
+map_where refers P u v same (x ∷ xs) each =
+    rw (
+      same x (λ n e. each n (or_left (refers n x) (list_any (refers n) xs) e)),
+      map_where refers P u v same xs (λ n e. each n (or_right (refers n x) (list_any (refers n) xs) e)),
+    ) refl
+
+descriptor_where : (f h : ℕ → ℕ) (o : Option Descriptor) → ((n : ℕ) → descriptor_refers n o ≡ true → h n ≡ f n) → option_map (renamed_descriptor f) o ≡ option_map (renamed_descriptor h) o
+descriptor_where f h None each = refl
+descriptor_where f h (Some d) each = ap (λ n. Some (record d { place = n })) (sym (each d.place (eq-eqb d.place d.place refl)))
+
+slot_where : (f h : ℕ → ℕ) (o : Option Slot) → ((n : ℕ) → slot_refers n o ≡ true → h n ≡ f n) → option_map (renamed_slot f) o ≡ option_map (renamed_slot h) o
+slot_where f h None each = refl
+slot_where f h (Some s) each = ap (λ n. Some (record s { place = n })) (sym (each s.place (eq-eqb s.place s.place refl)))
+
+pub process_where : (f h : ℕ → ℕ) (p : OpenTables) → ((n : ℕ) → process_refers n p ≡ true → h n ≡ f n) → renamed_process f p ≡ renamed_process h p
+process_where f h p each =
+    ap (λ ds. tables ds (map (option_map (renamed_slot f)) p.slots))
+    (map_where descriptor_refers (λ n. h n ≡ f n) _ _ (descriptor_where f h) p.descriptors (λ n e. each n (or_left _ _ e)))
+    ∙ ap (tables (map (option_map (renamed_descriptor h)) p.descriptors))
+    (map_where slot_refers (λ n. h n ≡ f n) _ _ (slot_where f h) p.slots (λ n e. each n (or_right (list_any (descriptor_refers n) p.descriptors) _ e)))
+
+map_id : {A : Type 0} (h : A → A) → ((x : A) → h x ≡ x) → (xs : List A) → map h xs ≡ xs
+map_id h same [] = refl
+map_id h same (x ∷ xs) = rw (same x, map_id h same xs) refl
+
+process_id : (p : OpenTables) → renamed_process (λ i. i) p ≡ p
+process_id p =
+    ap (λ ds. tables ds (map (option_map (renamed_slot (λ i. i))) p.slots)) (map_id (option_map (renamed_descriptor (λ i. i))) option_map_id p.descriptors)
+    ∙ ap (tables p.descriptors) (map_id (option_map (renamed_slot (λ i. i))) option_map_id p.slots)
+
+-- where each place that is referred to stays, the tables do
+pub processes_stay : (f : ℕ → ℕ) (ps : List OpenTables) → ((n : ℕ) → is_referred ps n ≡ true → f n ≡ n) → map (renamed_process f) ps ≡ ps
+processes_stay f ps each = map_where process_refers (λ n. n ≡ f n) _ _ (process_where f (λ n. n)) ps (λ n e. sym (each n e)) ∙ map_id (renamed_process (λ n. n)) process_id ps
