@@ -15,6 +15,9 @@ use Rattle.ipc_kernel.specs.Kernel.{KernelState}
 use Rattle.ipc_kernel.specs.Places.{place_at, is_empty, has_name, is_name, place_named, padded}
 use Rattle.ipc_kernel.specs.Operands.{handle_of, place_of, are_named, operand_in}
 use Rattle.ipc_store.specs.Rows.{KernelRow, kernel_of}
+use Rattle.ipc_store.specs.declared.kept.objects.Kind.{Kind}
+use Rattle.ipc_store.specs.declared.kept.objects.Kind.TheVariants.{Queue, Semaphore}
+use Rattle.ipc_store.specs.Private.Kinds.{name_of}
 use Rattle.std.proofs.lemmas.List.Folds.{list_all-append, list_all-map}
 use Rattle.ipc_store.proofs.Renamings.{position-map}
 use Rattle.ipc_store.proofs.RowLemmas.{row}
@@ -120,6 +123,10 @@ empty_behind_row os ns e h =
 
 pub full_row : (os : List Place) (ns : List ℕ) → None ≡ position (λ n. is_empty (place_at os n)) ns → 64 ≤ length ns → None ≡ position is_empty (padded 64 (map (place_at os) ns))
 full_row os ns e h = sym (padded_full 64 (map (place_at os) ns) (position_of_map is_empty (place_at os) ns ∙ sym e) (omega (arith, h, length-map ns (place_at os))))
+
+pub nameless : (kind : Kind) → name_of kind Empty ≡ None
+nameless Queue = refl
+nameless Semaphore = refl
 
 -- the place of a name in a kernel that is kept
 pub named_there : (name_of : Place → Option (List ℕ)) (os : List Place) (ts : List OpenTables) (rows : List KernelRow) (kernel : ℕ) (ns ms n : List ℕ) (k : KernelState) (named : Option ℕ)

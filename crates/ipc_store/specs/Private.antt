@@ -1,3 +1,4 @@
 -- Definitions that only contracts inside the crate cite.
 pub mod KeptRows
+pub mod Kinds
 pub mod Renamings

@@ -12,7 +12,6 @@ pub(crate) struct Arrangement {
 }
 
 impl Arrangement {
-    /// No place is taken.
     pub(crate) fn new() -> Arrangement
         ensures permutation { Permutes result.renaming }
     {
@@ -43,11 +42,7 @@ impl Arrangement {
 
     /// Whether each place stays where it is.
     pub(crate) fn is_none(&self) -> bool {
-        for (place, to) in self.renaming.to.iter().enumerate() {
-            if place != *to as usize {
-                return false;
-            }
-        }
-        true
+        let mut taken = self.renaming.to.iter().enumerate();
+        taken.all(|(place, to)| place == *to as usize)
     }
 }

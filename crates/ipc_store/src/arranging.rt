@@ -9,6 +9,7 @@ mod tables;
 
 use crate::alike::is_renamed;
 use crate::arrangement::Arrangement;
+use crate::renaming::renamed_process;
 use ipc_kernel::Kernel;
 use std::alloc::{AllocError, Global};
 
@@ -37,7 +38,11 @@ fn renamed(
     ensures alike { IfOk result (λ found. IfSome found (λ k. IsAlike kernel.now k)) }
 {
     let objects = places::renamed(alloc, kernel.places(), arrangement)?;
-    let tables = tables::renamed(alloc, kernel.tables(), &arrangement.renaming.to)?;
+    let to = &arrangement.renaming.to;
+    let tables = kernel.tables().iter();
+    let tables = tables
+        .map(|process| renamed_process(process, to))
+        .collect(alloc)?;
     match Kernel::assemble(alloc, objects, tables)? {
         Some(other) if is_renamed(kernel, &other, &arrangement.renaming) => Ok(Some(other)),
         _ => Ok(None),

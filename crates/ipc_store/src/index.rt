@@ -1,5 +1,5 @@
 //! A hash table: numbers by digests. Nothing that is proved rests on what stands here.
-ghost use Rattle.std.specs.Prelude.{◌<◌};
+ghost use Rattle.std.specs.Prelude.{◌<◌, IfSome, true};
 
 use std::alloc::{AllocError, Global};
 
@@ -42,12 +42,27 @@ impl Index {
         }
     }
 
+    /// The newest of the numbers of a hash that, less one, passes a test; less one.
+    pub(crate) fn find<F: Fn(u32) -> bool>(&self, hash: u64, passes: F) -> Option<u32>
+        requires callable { F.IsAlwaysCallable passes }
+        ensures found { IfSome result (λ i. F.post passes i true) }
+    {
+        let mut number = self.newest(hash);
+        while number > 0 {
+            if let Ok(at) = u32::try_from(number - 1) {
+                if passes(at) {
+                    return Some(at);
+                }
+            }
+            number = self.older(number);
+        }
+        None
+    }
+
     /// The newest number of a hash, or 0.
     pub fn newest(&self, hash: u64) -> usize {
-        match self.newest.get(self.chain(half(hash))) {
-            Some(number) => *number as usize,
-            None => 0,
-        }
+        let chain = self.chain(half(hash));
+        self.newest.get(chain).map_or(0, |number| *number as usize)
     }
 
     /// The next older number of the same chain, or 0.
@@ -87,8 +102,7 @@ impl Index {
         let count = self.newest.len().saturating_mul(2);
         self.newest.resize(count, 0)?;
         self.newest.fill(0);
-        let numbers = self.hashes.len();
-        for at in 0..numbers {
+        for at in 0..self.hashes.len() {
             self.link(at);
         }
         Ok(())

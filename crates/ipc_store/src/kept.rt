@@ -77,8 +77,7 @@ impl Kernels {
         let Some(tables) = self.tables.copies(alloc, tables)? else {
             return Ok(None);
         };
-        let found = Kernel::assemble(alloc, objects, tables)?;
-        Ok(found)
+        Kernel::assemble(alloc, objects, tables)
     }
 
     /// Keeps a kernel; with its number, which an equal kernel has that is kept.
@@ -89,8 +88,7 @@ impl Kernels {
     {
         let objects = self.objects.keep_all(alloc, kernel.objects())?;
         let tables = self.tables.keep_all(alloc, kernel.tables())?;
-        let number = self.rows.keep(objects.as_slice(), tables.as_slice())?;
-        Ok(number)
+        self.rows.keep(objects.as_slice(), tables.as_slice())
     }
 
     /// How many kernels there are.

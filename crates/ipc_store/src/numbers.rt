@@ -1,14 +1,5 @@
 //! Rows of numbers that are compared.
-ghost use Rattle.std.specs.Prelude.{◌≡◌, ◌<◌, length, slice_index, slice_set, IsTrue};
-
-/// The number that stands at a place among numbers with another one at a place.
-#[inline(always)]
-fn changed_at(numbers: &[u32], at: usize, place: usize, number: u32) -> u32
-    requires range { at < length numbers.now }
-    ensures number { result ≡ slice_index (slice_set numbers.now place number) at }
-{
-    if at == place { number } else { numbers[at] }
-}
+ghost use Rattle.std.specs.Prelude.{◌≡◌, ◌<◌, length, slice_set, IsTrue};
 
 /// Whether these are others with another number at a place, and there is that place.
 pub fn are_with(numbers: &[u32], others: &[u32], place: usize, number: u32) -> bool
@@ -21,7 +12,8 @@ pub fn are_with(numbers: &[u32], others: &[u32], place: usize, number: u32) -> b
         return false;
     }
     for (at, kept) in numbers.iter().enumerate() {
-        if *kept != changed_at(others, at, place, number) {
+        let other = if at == place { number } else { others[at] };
+        if *kept != other {
             return false;
         }
     }

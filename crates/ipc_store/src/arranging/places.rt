@@ -2,6 +2,7 @@
 ghost use Rattle.ipc_store.specs.Private.Renamings.{Permutes};
 
 use crate::arrangement::Arrangement;
+use crate::renaming::renamed_by;
 use ipc_kernel::{OBJECT_PLACES, Place};
 use std::alloc::{AllocError, Global};
 
@@ -43,11 +44,8 @@ pub(crate) fn renamed(
 ) -> Result<Vec<Place>, AllocError> {
     let mut objects = Vec::with_capacity(alloc, OBJECT_PLACES)?;
     for at in 0..arrangement.count {
-        let object = match arrangement.renaming.from.get(at as usize) {
-            Some(place) => places.get(*place as usize),
-            None => None,
-        };
-        match object {
+        let place = renamed_by(&arrangement.renaming.from, at);
+        match places.get(place as usize) {
             Some(object) => objects.push(object.copy(alloc)?)?,
             None => objects.push(Place::Empty)?,
         }

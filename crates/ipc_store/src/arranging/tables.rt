@@ -1,10 +1,8 @@
-//! The order in which processes have places open, and tables in which places are renamed.
+//! The order in which processes have places open.
 ghost use Rattle.ipc_store.specs.Private.Renamings.{Permutes};
 
 use crate::arrangement::Arrangement;
-use crate::renaming::renamed_process;
 use ipc_kernel::{Descriptor, OpenTables, Slot};
-use std::alloc::{AllocError, Global};
 
 /// Takes the place of each open descriptor.
 fn arrange_descriptors(descriptors: &[Option<Descriptor>], arrangement: &mut Arrangement)
@@ -40,17 +38,4 @@ pub(crate) fn arrange(processes: &[OpenTables], arrangement: &mut Arrangement)
         arrange_descriptors(&process.descriptors, arrangement);
         arrange_slots(&process.slots, arrangement);
     }
-}
-
-/// The tables of each process with the places renamed.
-pub(crate) fn renamed(
-    alloc: Global,
-    processes: &[OpenTables],
-    to: &[u8],
-) -> Result<Vec<OpenTables>, AllocError> {
-    let mut tables = Vec::with_capacity(alloc, processes.len())?;
-    for process in processes {
-        tables.push(renamed_process(process, to))?;
-    }
-    Ok(tables)
 }

@@ -1,21 +1,19 @@
 //! Kernels that are kept after an open that makes an object, with their places in an order that
 //! doesn't depend on how they were made.
-ghost use Rattle.std.specs.Prelude.{◌≡◌, ◌<◌, ◌≤◌, ◌==◌, ℕ, IfOk, IfSome, IsTrue, List, OnOk, Some, length, map, slice_get, slice_set, if◌then◌else◌};
+ghost use Rattle.std.specs.Prelude.{◌≡◌, ◌<◌, ◌≤◌, ◌==◌, ℕ, IfOk, IfSome, IsTrue, OnOk, Some, length, slice_get, if◌then◌else◌};
 ghost use Rattle.ipc_kernel.specs.declared.place.Place.{Place as Object};
 ghost use Rattle.ipc_kernel.specs.declared.process.OpenTables.{OpenTables as Opened};
 ghost use Rattle.ipc_kernel.specs.Limits.{object_places};
 ghost use Rattle.ipc_kernel.specs.Kernel.{KernelState, IsSettled};
 ghost use Rattle.ipc_store.specs.Kept.{GrowsKept};
 ghost use Rattle.ipc_kernel.specs.Operands.{with_operand};
-ghost use Rattle.ipc_kernel.specs.Processes.{process_at};
-ghost use Rattle.ipc_kernel.specs.Alike.{IsAlike, renamed_process};
+ghost use Rattle.ipc_kernel.specs.Alike.{IsAlike};
 ghost use Rattle.ipc_store.specs.Private.Renamings.{Permutes, renamed_by};
 
 use super::Kernels;
-use super::changes::{number_at, with_number};
+use super::changes::number_at;
 use super::objects::Objects;
 use super::renames::Taken;
-use super::tables::Tables;
 use crate::arrangement::Arrangement;
 use crate::renaming::{Renaming, renamed_by};
 use ipc_kernel::OBJECT_PLACES;
@@ -91,32 +89,6 @@ fn moved(
     Ok(Some(moved))
 }
 
-impl Tables {
-    /// Keeps tables, which are given by their numbers, where another one stands at one place, as
-    /// `keep_renamed` does.
-    fn keep_changed(
-        &mut self,
-        alloc: Global,
-        numbers: &[u32],
-        change: (usize, u32),
-        to: &[u8],
-        taken: Taken,
-    ) -> Result<Option<Vec<u32>>, AllocError>
-        ensures grows { (i : ℕ) (x : Opened)
-            → slice_get self.old i ≡ Some x → slice_get self.new i ≡ Some x }
-        ensures renamed { IfOk result (λ found. IfSome found (λ kept. (us : List Opened)
-            × (map (slice_get self.new) kept.items ≡ map Some us)
-            × (us ≡ map (renamed_process (renamed_by to.now))
-            (map (process_at self.old) (slice_set numbers.now change.0 change.1))))) }
-    {
-        let Some(changed) = with_number(alloc, numbers, change.0, change.1)? else {
-            return Ok(None);
-        };
-        let kept = self.keep_renamed(alloc, changed.as_slice(), to, taken)?;
-        Ok(kept)
-    }
-}
-
 impl Objects {
     /// How many objects stand before another one in the order of their kinds and names, among those
     /// that stand in that order.
@@ -190,7 +162,7 @@ impl Kernels {
         };
         let Some(tables) = self
             .tables
-            .keep_changed(self.alloc, processes, (pid, tables), to, taken)?
+            .keep_changed(processes, (pid, tables), to, taken)?
         else {
             return Ok(None);
         };

@@ -51,10 +51,7 @@ impl Change<'_> {
 
     /// How much the digest of the numbers, the first of which stands at a place of a row, grows.
     pub(crate) fn growth(&self, first: usize) -> u64 {
-        let before = match self.numbers.get(self.at) {
-            Some(number) => *number,
-            None => 0,
-        };
+        let before = number_at(self.numbers, self.at).unwrap_or(0);
         let place = first.saturating_add(self.at);
         digest_at(place, self.number).wrapping_sub(digest_at(place, before))
     }

@@ -15,7 +15,6 @@ impl Digests {
     /// About how many bytes each row takes.
     pub(crate) const ENTRY: usize = size_of::<u64>() + Index::ENTRY;
 
-    /// No row.
     pub(crate) fn new(alloc: Global, index: Index) -> Digests {
         Digests {
             digests: Vec::new(alloc),
@@ -25,10 +24,7 @@ impl Digests {
 
     /// The digest of a row, or 0.
     pub(crate) fn get(&self, row: u32) -> u64 {
-        match self.digests.get(row as usize) {
-            Some(digest) => *digest,
-            None => 0,
-        }
+        self.digests.get(row as usize).copied().unwrap_or(0)
     }
 
     /// Adds the digest of the next row. Where memory is refused none is added.

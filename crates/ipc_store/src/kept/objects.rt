@@ -6,7 +6,8 @@ ghost use Rattle.std.specs.Option.{option_copied, option_or};
 ghost use Rattle.ipc_kernel.specs.declared.place.Place.{Place};
 ghost use Rattle.ipc_kernel.specs.declared.place.Place.TheVariants.{Empty};
 ghost use Rattle.ipc_kernel.specs.Limits.{object_places};
-ghost use Rattle.ipc_kernel.specs.Places.{place_at, is_empty, has_name, is_name, queue_name, semaphore_name, padded};
+ghost use Rattle.ipc_kernel.specs.Places.{place_at, is_empty, has_name, is_name, padded};
+ghost use Rattle.ipc_store.specs.Private.Kinds.{name_of};
 
 use super::rows::number_of;
 use crate::index::Index;
@@ -72,6 +73,13 @@ fn beside(object: &Place) -> usize {
         .saturating_add(words)
 }
 
+/// What has names of its own.
+#[derive(Clone, Copy, Drop)]
+pub(crate) enum Kind {
+    Queue,
+    Semaphore,
+}
+
 /// The number of what is kept first.
 const FIRST: u32 = 0;
 
@@ -94,7 +102,6 @@ impl Model for Objects {
 }
 
 impl Objects {
-    /// No object.
     pub(crate) fn new(alloc: Global) -> Result<Objects, AllocError>
         ensures none { IfOk result (λ objects. objects ≡ []) }
     {
@@ -112,34 +119,21 @@ impl Objects {
         self.objects.get(number as usize)
     }
 
-    /// Whether an object is a queue with a name.
-    fn is_queue(&self, number: u32, name: &Name) -> bool
-        ensures named { result ≡ is_name name.now (queue_name (place_at self.now number)) }
+    /// Whether an object is one of a kind with a name.
+    fn is_named(&self, number: u32, kind: Kind, name: &Name) -> bool
+        ensures named { result ≡ is_name name.now (name_of kind (place_at self.now number)) }
     {
-        match self.get(number) {
-            Some(object) => is_name(name, object.queue_name()),
-            None => false,
+        match (self.get(number), kind) {
+            (Some(object), Kind::Queue) => is_name(name, object.queue_name()),
+            (Some(object), Kind::Semaphore) => is_name(name, object.semaphore_name()),
+            (None, _) => false,
         }
     }
 
-    /// Whether an object is a semaphore with a name.
-    fn is_semaphore(&self, number: u32, name: &Name) -> bool
-        ensures named { result ≡ is_name name.now (semaphore_name (place_at self.now number)) }
-    {
-        match self.get(number) {
-            Some(object) => is_name(name, object.semaphore_name()),
-            None => false,
-        }
-    }
-
-    /// Whether an object has a name.
     pub(crate) fn has_name(&self, number: u32) -> bool
         ensures named { result ≡ has_name (place_at self.now number) }
     {
-        match self.get(number) {
-            Some(object) => object.has_name(),
-            None => false,
-        }
+        self.get(number).is_some_and(|object| object.has_name())
     }
 
     /// Whether an object is none.
@@ -163,24 +157,14 @@ impl Objects {
         }
     }
 
-    /// The place of the queue with a name among objects, which are given by their numbers.
-    pub(crate) fn queue_named(&self, numbers: &[u32], name: &Name) -> Option<usize>
+    /// The place of the one of a kind with a name among objects, which are given by their numbers.
+    pub(crate) fn place_named(&self, numbers: &[u32], kind: Kind, name: &Name) -> Option<usize>
         ensures found { result
-            ≡ position (λ n. is_name name.now (queue_name (place_at self.now n))) numbers.now }
+            ≡ position (λ n. is_name name.now (name_of kind (place_at self.now n))) numbers.now }
     {
         numbers
             .iter()
-            .position(|number| self.is_queue(*number, name))
-    }
-
-    /// The place of the semaphore with a name among objects, which are given by their numbers.
-    pub(crate) fn semaphore_named(&self, numbers: &[u32], name: &Name) -> Option<usize>
-        ensures found { result
-            ≡ position (λ n. is_name name.now (semaphore_name (place_at self.now n))) numbers.now }
-    {
-        numbers
-            .iter()
-            .position(|number| self.is_semaphore(*number, name))
+            .position(|number| self.is_named(*number, kind, name))
     }
 
     /// The first that is none among objects, which are given by their numbers.
@@ -224,18 +208,10 @@ impl Objects {
     fn find(&self, object: &Place, digest: u64) -> Option<u32>
         ensures found { IfSome result (λ i. slice_get self.now i ≡ Some object.now) }
     {
-        let mut number = self.index.newest(digest);
-        while number > 0 {
-            if let Ok(at) = u32::try_from(number - 1) {
-                if let Some(kept) = self.get(at) {
-                    if kept.is_same(object) {
-                        return Some(at);
-                    }
-                }
-            }
-            number = self.index.older(number);
-        }
-        None
+        self.index.find(digest, |at| match self.get(at) {
+            Some(kept) => kept.is_same(object),
+            None => false,
+        })
     }
 
     /// The number of no object, which an empty place holds, if it was kept first.

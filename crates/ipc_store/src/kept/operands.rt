@@ -3,11 +3,13 @@ ghost use Rattle.std.specs.Prelude.{◌≡◌, false, Some, is_some, position, s
 ghost use Rattle.std.specs.Option.{option_or};
 ghost use Rattle.ipc_kernel.specs.declared.process.OpenTables.{OpenTables};
 ghost use Rattle.ipc_kernel.specs.Kernel.{KernelState};
-ghost use Rattle.ipc_kernel.specs.Places.{is_empty, queue_named, semaphore_named};
+ghost use Rattle.ipc_kernel.specs.Places.{is_empty, place_named};
+ghost use Rattle.ipc_store.specs.Private.Kinds.{name_of};
 ghost use Rattle.ipc_kernel.specs.OwnCalls.{is_own};
 ghost use Rattle.ipc_kernel.specs.Operands.{place_of, if_named, are_named, operand_in};
 
 use super::Kernels;
+use super::objects::Kind;
 use ipc_kernel::{Call, Handle};
 use ipc_names::Name;
 
@@ -19,28 +21,15 @@ fn as_place(at: usize) -> Option<u8>
 }
 
 impl Kernels {
-    /// The place of the queue with a name in a kernel, or else the least empty one.
-    fn queue_opened(&self, kernel: u32, name: &Name) -> Option<u8>
+    /// The place of the object of a kind with a name in a kernel, or else the least empty one.
+    fn opened(&self, kernel: u32, kind: Kind, name: &Name) -> Option<u8>
         ensures place { IfSome result (λ i. (k : KernelState)
             → slice_get self.now.kernels kernel ≡ Some k
-            → option_or (queue_named k.places name.now) (position is_empty k.places) ≡ Some i) }
-    {
-        let (objects, _) = self.rows.row(kernel)?;
-        let named = self.objects.queue_named(objects, name);
-        let first = self.objects.named_or_empty(objects, named)?;
-        let place = as_place(first)?;
-        Some(place)
-    }
-
-    /// The place of the semaphore with a name in a kernel, or else the least empty one.
-    fn semaphore_opened(&self, kernel: u32, name: &Name) -> Option<u8>
-        ensures place { IfSome result (λ i. (k : KernelState)
-            → slice_get self.now.kernels kernel ≡ Some k
-            → option_or (semaphore_named k.places name.now) (position is_empty k.places)
+            → option_or (place_named (name_of kind) k.places name.now) (position is_empty k.places)
             ≡ Some i) }
     {
         let (objects, _) = self.rows.row(kernel)?;
-        let named = self.objects.semaphore_named(objects, name);
+        let named = self.objects.place_named(objects, kind, name);
         let first = self.objects.named_or_empty(objects, named)?;
         let place = as_place(first)?;
         Some(place)
@@ -78,24 +67,13 @@ impl Kernels {
         self.tables.get(tables)?.place_of(handle)
     }
 
-    /// Whether a queue has a name in a kernel.
-    fn has_queue(&self, kernel: u32, name: &Name) -> bool
+    /// Whether an object of a kind has a name in a kernel.
+    fn has(&self, kernel: u32, kind: Kind, name: &Name) -> bool
         ensures named { (k : KernelState) → slice_get self.now.kernels kernel ≡ Some k
-            → result ≡ is_some (queue_named k.places name.now) }
+            → result ≡ is_some (place_named (name_of kind) k.places name.now) }
     {
         match self.rows.row(kernel) {
-            Some((objects, _)) => self.objects.queue_named(objects, name).is_some(),
-            None => false,
-        }
-    }
-
-    /// Whether a semaphore has a name in a kernel.
-    fn has_semaphore(&self, kernel: u32, name: &Name) -> bool
-        ensures named { (k : KernelState) → slice_get self.now.kernels kernel ≡ Some k
-            → result ≡ is_some (semaphore_named k.places name.now) }
-    {
-        match self.rows.row(kernel) {
-            Some((objects, _)) => self.objects.semaphore_named(objects, name).is_some(),
+            Some((objects, _)) => self.objects.place_named(objects, kind, name).is_some(),
             None => false,
         }
     }
@@ -111,8 +89,8 @@ impl Kernels {
     {
         match call {
             Call::Exit | Call::MqClose { .. } | Call::SemClose { .. } => true,
-            Call::MqOpen { name, .. } => self.has_queue(kernel, name),
-            Call::SemOpen { name, .. } => self.has_semaphore(kernel, name),
+            Call::MqOpen { name, .. } => self.has(kernel, Kind::Queue, name),
+            Call::SemOpen { name, .. } => self.has(kernel, Kind::Semaphore, name),
             _ => false,
         }
     }
@@ -130,8 +108,8 @@ impl Kernels {
             return self.place_of(tables, handle);
         }
         match call {
-            Call::MqOpen { name, .. } => self.queue_opened(kernel, name),
-            Call::SemOpen { name, .. } => self.semaphore_opened(kernel, name),
+            Call::MqOpen { name, .. } => self.opened(kernel, Kind::Queue, name),
+            Call::SemOpen { name, .. } => self.opened(kernel, Kind::Semaphore, name),
             Call::MqClose { mqd } => {
                 let place = self.place_of(tables, Handle::Mqd(*mqd))?;
                 self.if_named(kernel, place)

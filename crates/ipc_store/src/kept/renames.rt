@@ -1,6 +1,5 @@
 //! What tables of processes are with the places renamed. Nothing that is proved rests on what
 //! stands here.
-ghost use Rattle.std.specs.Prelude.{◌<◌};
 
 use crate::index::Index;
 use std::alloc::{AllocError, Global};
@@ -39,7 +38,6 @@ pub(crate) struct Renames {
 }
 
 impl Renames {
-    /// No hint.
     pub(crate) fn new(alloc: Global, index: Index) -> Renames {
         Renames {
             hints: Vec::new(alloc),
@@ -49,16 +47,14 @@ impl Renames {
 
     /// The number that tables may have with the places renamed.
     pub(crate) fn find(&self, tables: u32, taken: Taken) -> Option<u32> {
-        let mut number = self.index.newest(taken.digest(tables));
-        while number > 0 {
-            if let Some(hint) = self.hints.get(number - 1) {
-                if hint.tables == tables && hint.taken == taken {
-                    return Some(hint.renamed);
-                }
-            }
-            number = self.index.older(number);
-        }
-        None
+        let digest = taken.digest(tables);
+        let at = self
+            .index
+            .find(digest, |at| match self.hints.get(at as usize) {
+                Some(hint) => hint.tables == tables && hint.taken == taken,
+                None => false,
+            })?;
+        Some(self.hints.get(at as usize)?.renamed)
     }
 
     /// Adds the number that tables have with the places renamed.

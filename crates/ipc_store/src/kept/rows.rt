@@ -43,11 +43,6 @@ impl Model for Rows {
 /// The place in a digest of the first number of tables.
 const TABLES: usize = OBJECT_PLACES;
 
-/// The digest of a row.
-fn digest_of(objects: &[u32], tables: &[u32]) -> u64 {
-    digest_from(0, objects).wrapping_add(digest_from(TABLES, tables))
-}
-
 /// The parts of a row that stands at a place among numbers.
 fn parts_of(numbers: &[u32], span: Span) -> (&[u32], &[u32])
     requires within { span.start + span.objects + span.tables ≤ length numbers.now }
@@ -61,7 +56,6 @@ fn parts_of(numbers: &[u32], span: Span) -> (&[u32], &[u32])
 }
 
 impl Rows {
-    /// No row.
     pub(crate) fn new(alloc: Global) -> Result<Rows, AllocError>
         ensures none { IfOk result (λ rows. rows ≡ []) }
     {
@@ -89,16 +83,8 @@ impl Rows {
         ensures found { IfSome result (λ i. slice_get self.now i
             ≡ Some (record { objects = objects.now; tables = tables.now })) }
     {
-        let mut number = self.digests.index.newest(digest);
-        while number > 0 {
-            if let Ok(at) = u32::try_from(number - 1) {
-                if self.is_at(at, objects, tables) {
-                    return Some(at);
-                }
-            }
-            number = self.digests.index.older(number);
-        }
-        None
+        let index = &self.digests.index;
+        index.find(digest, |at| self.is_at(at, objects, tables))
     }
 
     /// Whether a row is the one with a number.
@@ -127,16 +113,8 @@ impl Rows {
     {
         let growth = objects.growth(0).wrapping_add(tables.growth(TABLES));
         let digest = self.digests.get(row).wrapping_add(growth);
-        let mut number = self.digests.index.newest(digest);
-        while number > 0 {
-            if let Ok(at) = u32::try_from(number - 1) {
-                if self.is_changed(at, objects, tables) {
-                    return Some(at);
-                }
-            }
-            number = self.digests.index.older(number);
-        }
-        None
+        let index = &self.digests.index;
+        index.find(digest, |at| self.is_changed(at, objects, tables))
     }
 
     /// Whether others, each changed at a place, make the row with a number.
@@ -153,7 +131,6 @@ impl Rows {
         }
     }
 
-    /// How many rows there are.
     pub(crate) fn len(&self) -> usize
         ensures count { result ≡ length self.now }
     {
@@ -170,13 +147,12 @@ impl Rows {
             → (slice_get self.old i ≡ Some r)
             ⊎ (r ≡ record { objects = objects.now; tables = tables.now }) }
     {
-        let digest = digest_of(objects, tables);
+        let digest = digest_from(0, objects).wrapping_add(digest_from(TABLES, tables));
         if let Some(number) = self.find(objects, tables, digest) {
             return Ok(number);
         }
         self.make_room(objects.len().saturating_add(tables.len()))?;
-        let number = self.add(objects, tables, digest)?;
-        Ok(number)
+        self.add(objects, tables, digest)
     }
 
     /// Makes room for a row of so many numbers, so that none is added to the index alone.

@@ -1,11 +1,12 @@
 //! Tables of processes, each once.
-ghost use Rattle.std.specs.Prelude.{◌≡◌, ℕ, List, [], Some, map, slice_get, IfOk, IfSome};
+ghost use Rattle.std.specs.Prelude.{◌≡◌, ℕ, List, [], Some, map, slice_get, slice_set, IfOk, IfSome};
 ghost use Rattle.std.specs.Option.{option_copied};
 ghost use Rattle.ipc_kernel.specs.declared.process.OpenTables.{OpenTables};
 ghost use Rattle.ipc_kernel.specs.Processes.{process_at};
 ghost use Rattle.ipc_kernel.specs.Alike.{renamed_process};
 ghost use Rattle.ipc_store.specs.Private.Renamings.{renamed_by};
 
+use super::changes::with_number;
 use super::renames::{Renames, Taken};
 use super::rows::number_of;
 use crate::index::Index;
@@ -33,7 +34,6 @@ impl Model for Tables {
 }
 
 impl Tables {
-    /// No tables.
     pub(crate) fn new(alloc: Global) -> Result<Tables, AllocError>
         ensures none { IfOk result (λ tables. tables ≡ []) }
     {
@@ -55,18 +55,10 @@ impl Tables {
     fn find(&self, tables: &OpenTables, digest: u64) -> Option<u32>
         ensures found { IfSome result (λ i. slice_get self.now i ≡ Some tables.now) }
     {
-        let mut number = self.index.newest(digest);
-        while number > 0 {
-            if let Ok(at) = u32::try_from(number - 1) {
-                if let Some(kept) = self.get(at) {
-                    if kept.is_same(tables) {
-                        return Some(at);
-                    }
-                }
-            }
-            number = self.index.older(number);
-        }
-        None
+        self.index.find(digest, |at| match self.get(at) {
+            Some(kept) => kept.is_same(tables),
+            None => false,
+        })
     }
 
     /// Keeps tables; with their number.
@@ -144,7 +136,7 @@ impl Tables {
 
     /// Keeps tables, which are given by their numbers, with each place taken where a list takes it;
     /// with their numbers. The place of a new object, and where that is taken, tell lists apart.
-    pub(crate) fn keep_renamed(
+    fn keep_renamed(
         &mut self,
         alloc: Global,
         numbers: &[u32],
@@ -170,6 +162,29 @@ impl Tables {
             kept.push(renamed)?;
         }
         Ok(Some(kept))
+    }
+
+    /// Keeps tables, which are given by their numbers, where another one stands at one place, as
+    /// `keep_renamed` does.
+    pub(crate) fn keep_changed(
+        &mut self,
+        numbers: &[u32],
+        change: (usize, u32),
+        to: &[u8],
+        taken: Taken,
+    ) -> Result<Option<Vec<u32>>, AllocError>
+        ensures grows { (i : ℕ) (x : OpenTables)
+            → slice_get self.old i ≡ Some x → slice_get self.new i ≡ Some x }
+        ensures renamed { IfOk result (λ found. IfSome found (λ kept. (us : List OpenTables)
+            × (map (slice_get self.new) kept.items ≡ map Some us)
+            × (us ≡ map (renamed_process (renamed_by to.now))
+            (map (process_at self.old) (slice_set numbers.now change.0 change.1))))) }
+    {
+        let alloc = *self.tables.allocator();
+        let Some(changed) = with_number(alloc, numbers, change.0, change.1)? else {
+            return Ok(None);
+        };
+        self.keep_renamed(alloc, changed.as_slice(), to, taken)
     }
 
     /// Copies of the tables with these numbers, if there are all.

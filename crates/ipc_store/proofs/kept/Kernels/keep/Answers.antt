@@ -1,4 +1,5 @@
 use Rattle.std.proofs.Common.{Some, ap, ◌∙◌}
+use Rattle.std.proofs.lemmas.Result.{IfOk-weaker}
 use Rattle.ipc_kernel.specs.Kernel.{KernelState}
 use Rattle.ipc_store.proofs.KeptLemmas.{rows_grow, rows_kept, kept_grows, kernel_of_parts}
 use Rattle.ipc_store.proofs.kept.Kernels.keep.Goals as goal
@@ -10,11 +11,6 @@ pub invariant_of-self-in_err-tables : goal.invariant_of-self-in_err-tables
 invariant_of-self-in_err-tables c =
     rows_grow c.self.inside.objects c.keep_all.new.self c.self.inside.tables c.keep_all-2.new.self c.self.inside.rows c.keep_all.ensures.grows c.keep_all-2.ensures.grows c.self.invariant
 
-pub invariant_of-self-in_err-number : goal.invariant_of-self-in_err-number
-invariant_of-self-in_err-number c = rows_kept c.self.inside.objects c.keep_all.new.self c.self.inside.tables c.keep_all-2.new.self c.self.inside.rows c.keep.new.self
-    c.as_slice.result.now c.as_slice-2.result.now c.objects.result.now c.tables.result.now c.keep_all.ensures.grows c.keep_all-2.ensures.grows c.self.invariant
-    (rw c.as_slice.ensures.value c.in_ok-objects.ensures.kept) (rw c.as_slice-2.ensures.value c.in_ok-tables.ensures.kept) c.keep.ensures.only
-
 pub invariant_of-self-2 : goal.invariant_of-self-2
 invariant_of-self-2 c = rows_kept c.self.inside.objects c.keep_all.new.self c.self.inside.tables c.keep_all-2.new.self c.self.inside.rows c.keep.new.self
     c.as_slice.result.now c.as_slice-2.result.now c.objects.result.now c.tables.result.now c.keep_all.ensures.grows c.keep_all-2.ensures.grows c.self.invariant
@@ -22,12 +18,13 @@ invariant_of-self-2 c = rows_kept c.self.inside.objects c.keep_all.new.self c.se
 
 pub returns-clause-grows : goal.returns-clause-grows
 returns-clause-grows c =
-    rw (← c.self.view_is) (kept_grows c.self.inside.objects c.keep_all.new.self c.self.inside.tables c.keep_all-2.new.self c.self.inside.rows c.keep.new.self
-    c.keep_all.ensures.grows c.keep_all-2.ensures.grows c.keep.ensures.grows c.self.invariant)
+    rw (← c.self.view_is) (IfOk-weaker c.keep.result _ _ (λ i kept. kept_grows c.self.inside.objects c.keep_all.new.self c.self.inside.tables c.keep_all-2.new.self c.self.inside.rows c.keep.new.self
+    c.keep_all.ensures.grows c.keep_all-2.ensures.grows c.keep.ensures.grows c.self.invariant) c.keep.ensures.kept)
 
 pub returns-clause-kept : goal.returns-clause-kept
 returns-clause-kept c =
     let kernel : _ → _ → KernelState = λ ps us. record { places = ps; processes = us } in
-    kernel_of_parts c.keep_all.new.self c.keep_all-2.new.self c.keep.new.self c.in_ok-number.number c.as_slice.result.now c.as_slice-2.result.now c.objects.result.now c.tables.result.now
-    c.in_ok-number.ensures.kept (rw c.as_slice.ensures.value c.in_ok-objects.ensures.kept) (rw c.as_slice-2.ensures.value c.in_ok-tables.ensures.kept)
-    ∙ ap (λ ps. Some (kernel ps c.tables.result.now)) c.objects.ensures.objects ∙ ap (λ us. Some (kernel c.args.kernel.now.places us)) c.tables.ensures.tables
+    IfOk-weaker c.keep.result _ _ (λ i kept.
+    kernel_of_parts c.keep_all.new.self c.keep_all-2.new.self c.keep.new.self i c.as_slice.result.now c.as_slice-2.result.now c.objects.result.now c.tables.result.now
+    kept (rw c.as_slice.ensures.value c.in_ok-objects.ensures.kept) (rw c.as_slice-2.ensures.value c.in_ok-tables.ensures.kept)
+    ∙ ap (λ ps. Some (kernel ps c.tables.result.now)) c.objects.ensures.objects ∙ ap (λ us. Some (kernel c.args.kernel.now.places us)) c.tables.ensures.tables) c.keep.ensures.kept

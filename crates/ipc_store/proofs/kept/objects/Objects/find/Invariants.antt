@@ -1,4 +1,0 @@
-use Rattle.ipc_store.proofs.kept.objects.Objects.find.Given as goal
-
-abbrev pub decreases-loop-number : goal.decreases-loop-number
-decreases-loop-number l = l.number
