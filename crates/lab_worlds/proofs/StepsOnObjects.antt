@@ -3,17 +3,15 @@ use Rattle.std.proofs.Common.{ℕ, ◌≡◌, Some, refl, sym, ap, subst, ◌∙
 use Rattle.lc3_machine.specs.Process.{Process as Machine}
 use Rattle.ipc_kernel.specs.declared.place.Place.{Place}
 use Rattle.ipc_kernel.specs.declared.process.OpenTables.{OpenTables}
-use Rattle.ipc_kernel.specs.declared.call.Call.{Call}
 use Rattle.ipc_kernel.specs.declared.call.Answer.{Answer}
 use Rattle.ipc_kernel.specs.declared.call.Answer.TheVariants.{Done, Wait}
 use Rattle.ipc_kernel.specs.Kernel.{KernelState, IsSettled}
 use Rattle.ipc_kernel.specs.Answer.{answer}
-use Rattle.ipc_kernel.specs.Operands.{operand_in, with_operand, HasOperand, IsAnsweredAlike}
+use Rattle.ipc_kernel.specs.Operands.{with_operand, HasOperand, IsAnsweredAlike}
 use Rattle.ipc_store.proofs.LocalCalls.{kept}
-use Rattle.ipc_store.proofs.OperandAnswers.{answers_by_operand, operand_left}
+use Rattle.ipc_store.proofs.OperandAnswers.{answers_by_operand}
 use Rattle.ipc_store.proofs.SettledAnswers.{stays_settled}
 use Rattle.lab_sched.specs.Worlds.{Process, Running, Waiting, Ended, calls, next_action, StepEffect, nothing, local_step, kernel_step, step_effect, first_try, retry, process_after, kernel_after}
-use Rattle.lab_sched.specs.Held.{step_of}
 use Rattle.lab_conditions.specs.Conditions.{StandsAt}
 use Rattle.lab_worlds.specs.Unwaiting.{GoesOn}
 use Rattle.lab_worlds.specs.Operands.{IsStepAlike, StepsByOperand, StepsSettled}
@@ -54,26 +52,6 @@ steps_by_operand k j p q s c i t o sk sj stands at_k at_j hk hj = by s stands
     by : (u : Process) → StandsAt u c → IsStepAlike k j p q u i
     by (Running m) asks = attempt m asks
     by (Waiting m d) same = subst (λ x. IsStepAlike k j p q (Waiting m x) i) (sym same) (again m (answer j q c).0 refl)
-    by (Ended e) stood = absurd stood
-
-abbrev Left : KernelState → ℕ → ℕ → Type 0
-Left k p i = (t : OpenTables) × (o : Place) × HasOperand k p i t o
-
--- after the step too there are an object in place i and tables of the process
-pub operand_left_by_step : (j : KernelState) (q : ℕ) (s : Process) (c : Call) (i : ℕ) (t : OpenTables) (o : Place) → IsSettled j → StandsAt s c → operand_in j t c ≡ Some i
-    → HasOperand j q i t o → (u : OpenTables) × (y : Place) × HasOperand (step_of j q s).kernel q i u y
-operand_left_by_step j q s c i t o settled stands at has = by s stands
-  where
-    left : Left (answer j q c).1 q i
-    left = operand_left j q c i t o settled at has
-
-    again : (m : Machine) (a : Answer) → Left (kernel_after j q (retry m c a)) q i
-    again m Wait = (t, o, has)
-    again m (Done r) = left
-
-    by : (u : Process) → StandsAt u c → Left (step_of j q u).kernel q i
-    by (Running m) asks = subst (λ a. Left (kernel_after j q (first_try j q m a)) q i) (sym asks) left
-    by (Waiting m d) same = subst (λ x. Left (step_of j q (Waiting m x)).kernel q i) (sym same) (again m (answer j q c).0)
     by (Ended e) stood = absurd stood
 
 settled_after : (k : KernelState) (p : ℕ) (e : StepEffect) → IsSettled k → IsSettled (kernel_after k p e)

@@ -1,5 +1,5 @@
 -- A process that waits does next what it would do if it stood before its call.
-use Rattle.std.proofs.Common.{ℕ, false, ◌≡◌, ◌<◌, ◌≤◌, arith, length, ◌∷◌, [], List, Option, Some, None, refl, sym, ap, subst, ◌∙◌, slice_get, set, map, inl, inr, ◌⊎◌}
+use Rattle.std.proofs.Common.{ℕ, ◌≡◌, ◌<◌, ◌≤◌, arith, length, ◌∷◌, [], List, Option, Some, None, refl, sym, ap, subst, ◌∙◌, slice_get, set, map, inl, inr, ◌⊎◌}
 use Rattle.std.specs.Option.{option_map}
 use Rattle.std.proofs.lemmas.Bool.{cases_lt}
 use Rattle.std.proofs.lemmas.Bool.Decides.{eqb_tells}
@@ -21,7 +21,7 @@ use Rattle.lab_sched.proofs.Commutes.{after_other}
 use Rattle.lab_worlds.specs.Unwaiting.{GoesOn, unwaiting, AsksAgain, AskAgain, StepsUnaffectedByWaits}
 use Rattle.lab_worlds.specs.Closed.{RestsAlike}
 use Rattle.lab_sched.specs.Finished.{IsAtRest}
-use Rattle.lab_sched.specs.Verdicts.{IsRunning, is_waiting}
+use Rattle.lab_sched.specs.Verdicts.{IsRunning}
 use Rattle.lab_worlds.proofs.AfterLocalSteps.{same_by_gets}
 
 -- a step goes on, or it doesn't
@@ -238,12 +238,6 @@ rests_alike w v a b h i same = record {
         let e : Some (before_wait u) ≡ Some (before_wait s) = both p (Some s) (Some u) c d in
         let back : before_wait u ≡ before_wait s = cc in
         d ∙ ap (λ x. Some x) (one_rest w.kernel v.kernel p s u (a p s c) (b p u d) (h p s c) (i p u d) back) ∙ sym c
-
--- a process that doesn't wait is as it was before
-pub not_waiting : (s : Process) → is_waiting s ≡ false → before_wait s ≡ s
-not_waiting (Running m) e = refl
-not_waiting (Waiting m c) e = absurd (cc)
-not_waiting (Ended d) e = refl
 
 -- a process that doesn't wait, in the world in which none has begun to wait
 pub same_at : (w : WorldState) (p : ℕ) (s : Process) → slice_get w.processes p ≡ Some s → before_wait s ≡ s → slice_get (unwaiting w).processes p ≡ slice_get w.processes p
