@@ -10,9 +10,8 @@ use crate::fault::ExploreFault;
 use crate::generator::Generator;
 use crate::limits::Limits;
 use crate::observer::Observer;
-use crate::random::end_along;
+use crate::random::{Walks, end_along};
 use crate::random_walker::RandomWalker;
-use crate::trying::discard;
 use lab_sched::Process;
 use std::alloc::Global;
 
@@ -40,16 +39,8 @@ impl Gathering {
     }
 
     fn is_known(&self, walker: &RandomWalker, digest: u64) -> bool {
-        for (at, known) in self.digests.iter().enumerate() {
-            if *known == digest {
-                if let Some(end) = self.ends.get(at) {
-                    if walker.is_at(&end.world) {
-                        return true;
-                    }
-                }
-            }
-        }
-        false
+        self.digests.iter().zip(&self.ends).any(|(known, end)| *known == digest
+            && walker.is_at(&end.world))
     }
 
     fn add(
@@ -81,6 +72,7 @@ impl Gathering {
         Ok(())
     }
 
+    /// Leads a walk to its end, and adds that, if it comes there.
     fn take(
         &mut self,
         alloc: Global,
@@ -94,42 +86,21 @@ impl Gathering {
             → AreEnds (initial_world processes.now) self.new.ends.items }
     {
         let mut walker = RandomWalker::new(alloc, processes)?;
-        let led = self.lead(alloc, processes, limits, generator, &mut walker);
-        discard(walker);
-        led
-    }
-
-    /// Leads a walk to its end, and adds that, if it comes there.
-    fn lead(
-        &mut self,
-        alloc: Global,
-        processes: &[Process],
-        limits: Limits,
-        generator: &mut Generator,
-        walker: &mut RandomWalker,
-    ) -> Result<(), ExploreFault>
-        requires starts { AreStarts processes.now }
-        requires held { All IsHeld walker.old.processes.items }
-        ensures ends { AreEnds (initial_world processes.now) self.old.ends.items
-            → AreEnds (initial_world processes.now) self.new.ends.items }
-    {
         if !walker.begin(alloc, limits.steps)? {
             return Ok(());
         }
         if walker.walk_at_random(alloc, generator, limits.worlds, limits.steps)? {
-            self.add(alloc, processes, walker)?;
+            self.add(alloc, processes, &mut walker)?;
         }
         Ok(())
     }
 
-    /// Takes so many walks, as long as their ends don't take more memory than they may.
+    /// Takes walks, as long as their ends don't take more memory than they may.
     pub(crate) fn take_all<O: Observer>(
         &mut self,
-        alloc: Global,
         processes: &[Process],
         limits: Limits,
-        mut generator: Generator,
-        count: u32,
+        walks: Walks,
         observer: &mut O,
     ) -> Result<(), ExploreFault>
         requires starts { AreStarts processes.now }
@@ -137,11 +108,13 @@ impl Gathering {
         ensures ends { AreEnds (initial_world processes.now) self.old.ends.items
             → AreEnds (initial_world processes.now) self.new.ends.items }
     {
-        for begun in 0..count {
+        let alloc = *self.ends.allocator();
+        let mut generator = Generator::new(walks.seed);
+        for begun in 0..walks.count {
             if self.size > limits.memory {
                 return Ok(());
             }
-            observer.see(begun as usize, (count - begun) as usize);
+            observer.see(begun as usize, (walks.count - begun) as usize);
             self.begun = begun + 1;
             self.take(alloc, processes, limits, &mut generator)?;
         }

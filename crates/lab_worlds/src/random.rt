@@ -8,10 +8,8 @@ use crate::ends::{End, end_of};
 use crate::exploration::Exploration;
 use crate::fault::ExploreFault;
 use crate::gathering::Gathering;
-use crate::generator::Generator;
 use crate::limits::Limits;
 use crate::observer::Observer;
-use crate::trying::discard;
 use crate::walking::Walk;
 use lab_sched::{Fresh, Process, Schedule};
 use std::alloc::Global;
@@ -43,13 +41,8 @@ pub(crate) fn end_along(
     ensures end { IfOk result (λ e. IsEnd (initial_world processes.now) e) }
 {
     let mut walk = Walk::start(alloc, processes)?;
-    match walk.go_along(schedule) {
-        Ok(()) => end_of(walk),
-        Err(fault) => {
-            discard(walk);
-            Err(fault)
-        }
-    }
+    walk.go_along(schedule)?;
+    end_of(walk)
 }
 
 /// Takes walks through the interleavings of a laboratory. A walk goes from world at calls to world at
@@ -73,21 +66,10 @@ pub fn walk_randomly<O: Observer>(
 {
     let processes = fresh.processes();
     let mut gathering = Gathering::new(alloc);
-    let generator = Generator::new(walks.seed);
-    let refused = match gathering.take_all(
-        alloc,
-        &processes,
-        limits,
-        generator,
-        walks.count,
-        observer,
-    ) {
+    let refused = match gathering.take_all(&processes, limits, walks, observer) {
         Ok(()) => false,
         Err(ExploreFault::NoMemory) => true,
-        Err(fault) => {
-            discard(gathering);
-            return Err(fault);
-        }
+        Err(fault) => return Err(fault),
     };
     Ok(gathering.found(alloc, refused))
 }
