@@ -24,13 +24,10 @@ fn is_same_in(world: &World, other: &World, pid: usize) -> bool
     ensures same { IsTrue result
         → slice_get other.now.processes pid ≡ slice_get world.now.processes pid }
 {
-    let Some(process) = world.process(pid) else {
-        return false;
-    };
-    let Some(other) = other.process(pid) else {
-        return false;
-    };
-    process.is_same(other)
+    match (world.process(pid), other.process(pid)) {
+        (Some(process), Some(other)) => process.is_same(other),
+        _ => false,
+    }
 }
 
 /// Whether worlds have the same processes, over kernels that are alike.

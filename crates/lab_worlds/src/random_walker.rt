@@ -6,7 +6,6 @@ ghost use Rattle.lab_sched.specs.Starts.{AreStarts};
 use crate::ahead::run_on;
 use crate::fault::ExploreFault;
 use crate::generator::Generator;
-use crate::trying::discard;
 use crate::walking::copies;
 use ipc_kernel::{Kernel, PROCESS_MAX};
 use ipc_store::is_alike;
@@ -56,18 +55,13 @@ impl RandomWalker {
         ensures held { IfOk result (λ w. All IsHeld w.processes.items) }
     {
         let kernel = Kernel::new(alloc, processes.len())?;
-        match copies(alloc, processes) {
-            Ok(processes) => Ok(RandomWalker {
-                kernel,
-                processes,
-                local: Vec::new(alloc),
-                schedule: Schedule::new(alloc),
-            }),
-            Err(_) => {
-                discard(kernel);
-                Err(ExploreFault::NoMemory)
-            }
-        }
+        let processes = copies(alloc, processes)?;
+        Ok(RandomWalker {
+            kernel,
+            processes,
+            local: Vec::new(alloc),
+            schedule: Schedule::new(alloc),
+        })
     }
 
     /// Takes the local steps of each process up to its first call; with whether each may take so many.
@@ -169,15 +163,11 @@ impl RandomWalker {
         if !is_alike(&self.kernel, world.kernel()) || world.count() != self.processes.len() {
             return false;
         }
-        for (pid, process) in self.processes.iter().enumerate() {
-            if !world
+        self.processes.iter().enumerate().all(|(pid, process)| {
+            world
                 .process(pid)
                 .is_some_and(|other| process.is_same(other))
-            {
-                return false;
-            }
-        }
-        true
+        })
     }
 
     /// A number that depends on the world alone.
