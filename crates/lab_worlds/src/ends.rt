@@ -6,7 +6,6 @@ ghost use Rattle.lab_worlds.specs.Walked.{IsWalk};
 ghost use Rattle.lab_worlds.specs.Ends.{IsEnd};
 
 use crate::fault::ExploreFault;
-use crate::trying::discard;
 use crate::walking::Walk;
 use lab_sched::{Schedule, Verdict, World};
 use std::mem::size_of;
@@ -60,8 +59,6 @@ pub fn end_of(walk: Walk) -> Result<End, ExploreFault>
     } = walk;
     let verdict = world.verdict();
     if is_open(verdict) {
-        discard(world);
-        discard(schedule);
         return Err(ExploreFault::Unvouched);
     }
     Ok(End {

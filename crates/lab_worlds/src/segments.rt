@@ -1,6 +1,6 @@
 //! Weak fairness along a walk: it is written down which processes take a step, or have no effective
 //! one.
-ghost use Rattle.std.specs.Prelude.{◌≡◌, ◌<◌, All, true, false, replicate, IsTrue, IfOk, OnOk, length, slice_set};
+ghost use Rattle.std.specs.Prelude.{◌≡◌, ◌<◌, All, true, IsTrue, IfOk, OnOk, length, slice_set};
 ghost use Rattle.lab_sched.specs.Worlds.{WorldState};
 ghost use Rattle.lab_sched.specs.Schedules.{steps_of};
 ghost use Rattle.lab_worlds.specs.Fairness.{IsFairSegment};
@@ -8,7 +8,6 @@ ghost use Rattle.lab_worlds.specs.Segments.{IsSegmentSoFar, KeepsSegment};
 
 use crate::closed_walks::{ClosedWalk, WalkPart};
 use crate::fault::ExploreFault;
-use crate::trying::discard;
 use crate::walking::Walk;
 use lab_sched::World;
 use std::alloc::{AllocError, Global};
@@ -42,28 +41,16 @@ fn is_fair_to_all(fair_to: &[bool]) -> bool
     true
 }
 
-fn none_fair_to(alloc: Global, count: usize) -> Result<Vec<bool>, AllocError>
-    ensures none { IfOk result (λ fair_to. fair_to.items ≡ replicate count false) }
-{
-    vec![in alloc; false; count]
-}
-
 impl FairSegment {
     /// The walk that stays at a world.
     pub fn at(alloc: Global, world: World) -> Result<FairSegment, AllocError>
         ensures segments { IfOk result (λ segment. IsSegmentSoFar world segment) }
     {
-        let count = world.count();
-        match none_fair_to(alloc, count) {
-            Ok(fair_to) => Ok(FairSegment {
-                walk: Walk::at(alloc, world),
-                fair_to,
-            }),
-            Err(error) => {
-                discard(world);
-                Err(error)
-            }
-        }
+        let fair_to = vec![in alloc; false; world.count()]?;
+        Ok(FairSegment {
+            walk: Walk::at(alloc, world),
+            fair_to,
+        })
     }
 
     /// Takes a step, which must be effective.

@@ -58,8 +58,6 @@ fn made_of(kernel: Kernel, ahead: Ahead) -> Option<Made>
             taken,
         });
     }
-    discard(kernel);
-    discard(process);
     None
 }
 
@@ -73,13 +71,8 @@ fn run_on(
     requires held { IsHeld process }
     ensures run { IfOk result (λ made. IsRun kernel (process_view process) made) }
 {
-    match advance(alloc, process, most) {
-        Ok(ahead) => Ok(made_of(kernel, ahead)),
-        Err(_) => {
-            discard(kernel);
-            Err(ExploreFault::NoMemory)
-        }
-    }
+    let ahead = advance(alloc, process, most)?;
+    Ok(made_of(kernel, ahead))
 }
 
 fn attempt_of(made: Option<Made>) -> Attempt
@@ -116,21 +109,12 @@ fn step_on(
     requires held { IsHeld process }
     ensures stepped { IfOk result (λ attempt. IsStepped kernel pid (process_view process) attempt) }
 {
-    match take_step(alloc, &mut process, &mut kernel, pid) {
-        Ok(stepped) => {
-            if !goes_on(stepped) {
-                discard(process);
-                discard(kernel);
-                return Ok(Attempt::Still);
-            }
-            Ok(attempt_of(run_on(alloc, kernel, process, most)?))
-        }
-        Err(_) => {
-            discard(process);
-            discard(kernel);
-            Err(ExploreFault::NoMemory)
-        }
+    let stepped = take_step(alloc, &mut process, &mut kernel, pid)?;
+    if !goes_on(stepped) {
+        return Ok(Attempt::Still);
     }
+    let made = run_on(alloc, kernel, process, most)?;
+    Ok(attempt_of(made))
 }
 
 /// Takes a step of a process, and its local steps after it, over a kernel.
@@ -145,8 +129,6 @@ pub fn try_step(
     ensures stepped { IfOk result (λ attempt. IsStepped kernel pid (process_view process) attempt) }
 {
     if pid >= kernel.count() {
-        discard(kernel);
-        discard(process);
         return Err(ExploreFault::Unvouched);
     }
     step_on(alloc, kernel, process, pid, most)

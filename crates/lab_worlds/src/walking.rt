@@ -12,7 +12,6 @@ ghost use Rattle.lab_worlds.specs.Reached.{Breaks};
 ghost use Rattle.lab_worlds.specs.Walked.{waiting, IsWalk, KeepsStart};
 
 use crate::fault::ExploreFault;
-use crate::trying::discard;
 use crate::waiting::count_waiting;
 use ipc_kernel::{Kernel, PROCESS_MAX};
 use lab_conditions::{Never, Refusal, is_receiving, messages_in};
@@ -43,13 +42,8 @@ fn world_of(alloc: Global, processes: &[Process]) -> Result<World, ExploreFault>
     ensures world { IfOk result (λ w. w ≡ initial_world processes.now) }
 {
     let kernel = Kernel::new(alloc, processes.len())?;
-    match copies(alloc, processes) {
-        Ok(copies) => Ok(World::join(copies, kernel)),
-        Err(_) => {
-            discard(kernel);
-            Err(ExploreFault::NoMemory)
-        }
-    }
+    let copies = copies(alloc, processes)?;
+    Ok(World::join(copies, kernel))
 }
 
 fn changes(stepped: &Stepped) -> bool
@@ -213,14 +207,20 @@ impl Walk {
         Ok(())
     }
 
-    /// Makes a call, behind the steps that are left of its process, or puts it off.
+    /// Makes a call, behind the steps that are left of its process, or puts it off behind these, with the
+    /// local steps after it.
     pub fn go_call(&mut self, local: &mut Vec<u32>, call: WayCall) -> Result<(), ExploreFault>
         ensures walk { OnOk result (KeepsStart self.old self.new) }
     {
-        if call.late {
-            return put_off(local, call);
+        if call.pid >= local.len() {
+            return Err(ExploreFault::Unvouched);
         }
-        let before = exchange(local, call.pid, call.taken)?;
+        let before = local[call.pid];
+        if call.late {
+            local[call.pid] = before.saturating_add(call.taken.saturating_add(1));
+            return Ok(());
+        }
+        local[call.pid] = call.taken;
         self.go_on(call.pid, before)?;
         self.go(call.pid)
     }
@@ -259,6 +259,13 @@ impl Walk {
     {
         self.calls as u64 <= depth as u64 + count_waiting(&self.world) as u64
     }
+
+    /// Whether so many of its steps are calls.
+    pub fn has_calls(&self, count: u32) -> bool
+        ensures yes { IsTrue result → self.now.calls ≡ count }
+    {
+        self.calls == count
+    }
 }
 
 /// A call on the way to a row: its process, how many local steps that takes after it, and whether it may
@@ -268,33 +275,4 @@ pub struct WayCall {
     pub pid: usize,
     pub taken: u32,
     pub late: bool,
-}
-
-/// Puts off a call with the local steps after it: behind those that are left of its process.
-fn put_off(local: &mut Vec<u32>, call: WayCall) -> Result<(), ExploreFault> {
-    if call.pid >= local.len() {
-        return Err(ExploreFault::Unvouched);
-    }
-    let steps = call.taken.saturating_add(1);
-    local[call.pid] = local[call.pid].saturating_add(steps);
-    Ok(())
-}
-
-/// Puts the number of local steps of a process in its place, and answers the one that stood there.
-fn exchange(local: &mut Vec<u32>, pid: usize, count: u32) -> Result<u32, ExploreFault> {
-    if pid >= local.len() {
-        return Err(ExploreFault::Unvouched);
-    }
-    let before = local[pid];
-    local[pid] = count;
-    Ok(before)
-}
-
-impl Walk {
-    /// Whether so many of its steps are calls.
-    pub fn has_calls(&self, count: u32) -> bool
-        ensures yes { IsTrue result → self.now.calls ≡ count }
-    {
-        self.calls == count
-    }
 }

@@ -3,5 +3,5 @@ use Rattle.lab_worlds.proofs.walking.world_of.Goals as goal
 
 pub join-requires : goal.join-requires
 join-requires c = record {
-  world = copies_world c.args.processes.now c.in-Ok.copies.items c.in_ok-kernel.kernel c.in-Ok.ensures.copies c.requires.starts c.in_ok-kernel.ensures.empty;
+  world = copies_world c.args.processes.now c.in_ok-copies.copies.items c.in_ok-kernel.kernel c.in_ok-copies.ensures.copies c.requires.starts c.in_ok-kernel.ensures.empty;
 }

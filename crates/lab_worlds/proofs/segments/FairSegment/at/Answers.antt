@@ -1,7 +1,8 @@
+use Rattle.std.proofs.Common.{rules}
 use Rattle.lab_worlds.proofs.FairLassos.{none_segment_so_far}
 use Rattle.lab_worlds.proofs.segments.FairSegment.at.Goals as goal
 
-pub returns-in-Ok : goal.returns-in-Ok
-returns-in-Ok c = record {
-  segments = none_segment_so_far c.args.world (record { walk = c.at.result; fair_to = c.in-Ok.fair_to }) c.count-count.result c.at.ensures.walk c.in-Ok.ensures.none c.count-count.ensures.count;
+pub returns : goal.returns
+returns c = record {
+  segments = none_segment_so_far c.args.world (record { walk = c.at.result; fair_to = c.in_ok-fair_to.fair_to }) c.count.result c.at.ensures.walk (c.in_ok-fair_to.ensures.items_if_clones_equal (λ y h. search rules)) c.count.ensures.count;
 }
