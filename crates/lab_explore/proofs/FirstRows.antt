@@ -1,5 +1,5 @@
 -- The row that is found first, and those before it.
-use Rattle.std.proofs.Common.{ℕ, ◌≡◌, ◌+◌, ◌*◌, ◌/◌, ◌%◌, ◌<◌, ◌≤◌, ◌⊎◌, min, Option, Some, None, Result, Ok, Err, IfOk, IfSome, IsTrue, inl, inr, arith, List, length, get_or, take, All, Contains, slice_index_or, subst, sym, ap, ◌∙◌}
+use Rattle.std.proofs.Common.{ℕ, ◌≡◌, ◌+◌, ◌*◌, ◌/◌, ◌%◌, ◌<◌, ◌≤◌, min, Option, Some, None, Result, Ok, Err, IfOk, IfSome, IsTrue, inl, inr, arith, List, length, get_or, take, All, Contains, slice_index_or, subst, sym, ap, ◌∙◌}
 use Rattle.std.specs.Prelude.{is_ok, is_some, true, false}
 use Rattle.std.proofs.lemmas.List.{get_or_default}
 use Rattle.std.proofs.lemmas.List.Elements.{All-weaker}
@@ -16,14 +16,6 @@ use Rattle.lab_explore.specs.Private.Judged.{RowHolds, StandsBefore, FailsBefore
 pub before_both : (first : Option ℕ) (i at : ℕ) → i < at → StandsBefore first at → StandsBefore first i
 before_both None i at less before = tt
 before_both (Some j) i at less before = omega (arith, less, before)
-
--- what stands before the one that was found stands before a row that doesn't
-pub before_other : (first : Option ℕ) (i at : ℕ) → (StandsBefore first at → ⊥) → StandsBefore first i → i < at
-before_other None i at late before = absurd (late tt)
-before_other (Some j) i at late before = elim (cases_lt at j) [
-  | inl less ↦ absurd (late less)
-  | inr other ↦ omega (arith, before, other)
-]
 
 -- the rows that were found in parts, and one that stands before no fewer
 pub fewer_before : {E : Type 0} (first next : Option ℕ) (part : Result (Option ℕ) E) → ((i : ℕ) → StandsBefore next i → StandsBefore first i)
@@ -78,11 +70,26 @@ first_more t c rows n first next within here fewer before =
     all_more (FailsBefore t c next) rows n within (All-weaker (FailsBefore t c first) (FailsBefore t c next) (others_fail t c first next fewer) (take n rows) before)
     (λ d. subst (FailsBefore t c next) (get_or_default rows n 0 d within) here)
 
-pub among_more : (rows : List ℕ) (n : ℕ) (first next : Option ℕ) → n < length rows → (next ≡ Some (get_or rows n 0)) ⊎ (next ≡ first) → IfSome first (Contains rows) → IfSome next (Contains rows)
-among_more rows n first next within one among = elim one [
-  | inl is ↦ subst (λ o. IfSome o (Contains rows)) (sym is) (n, within, get_or_default rows n (get_or rows n 0) 0 within)
-  | inr is ↦ subst (λ o. IfSome o (Contains rows)) (sym is) among
-]
+-- of the first n of some rows, the first of whose world the condition holds
+pub record IsFirstOf (t : Store) (c : Condition) (rows : List ℕ) (n : ℕ) (first : Option ℕ) : Type 0 where
+  pub holds : IfSome first (RowHolds t c)
+  pub among : IfSome first (Contains rows)
+  pub before : All (FailsBefore t c first) (take n rows)
+
+-- it stays so where the condition doesn't hold of the next, or that stands behind it
+pub first_kept : (t : Store) (c : Condition) (rows : List ℕ) (n : ℕ) (first : Option ℕ) → n < length rows → FailsBefore t c first (get_or rows n 0) → IsFirstOf t c rows n first → IsFirstOf t c rows (n + 1) first
+first_kept t c rows n first within here h = record { holds = h.holds; among = h.among; before = first_more t c rows n first first within here (λ i before. before) h.before }
+
+-- the next is, where the condition holds of it and it stands before
+pub first_taken : (t : Store) (c : Condition) (rows : List ℕ) (n : ℕ) (first : Option ℕ) → n < length rows → StandsBefore first (get_or rows n 0) → RowHolds t c (get_or rows n 0) → IsFirstOf t c rows n first
+    → IsFirstOf t c rows (n + 1) (Some (get_or rows n 0))
+first_taken t c rows n first within stands here h =
+    let at = get_or rows n 0 in
+    record {
+      holds = here;
+      among = (n, within, get_or_default rows n at 0 within);
+      before = first_more t c rows n first (Some at) within (λ less. absurd (omega (arith, less))) (λ i before. before_both first i at before stands) h.before;
+    }
 
 -- what is found of the chunks of some rows
 module _ {E : Type 0} (t : Store) (c : Condition) (rows : List ℕ) (size : ℕ) (parts : List (Result (Option ℕ) E)) where

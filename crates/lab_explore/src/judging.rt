@@ -101,23 +101,6 @@ fn whole_kernel(store: &Store, alloc: Global, number: u32) -> Result<Whole, Expl
     Ok(Whole { number, kernel })
 }
 
-/// Puts the kernel with a number together, if it isn't the one that was put together last.
-fn put_together(
-    store: &Store,
-    alloc: Global,
-    last: &mut Whole,
-    number: u32,
-) -> Result<(), ExploreFault>
-    requires last { IsExactly store.now last.old.number last.old.kernel }
-    ensures number { OnOk result (last.new.number ≡ number) }
-    ensures exactly { OnOk result (IsExactly store.now number last.new.kernel) }
-{
-    if last.number != number {
-        *last = whole_kernel(store, alloc, number)?;
-    }
-    Ok(())
-}
-
 /// Puts the kernel with a number together, if a condition can't be judged without it and it isn't the
 /// one that was put together last.
 fn put_for(
@@ -134,7 +117,9 @@ fn put_for(
     if !condition.needs_kernel() {
         return Ok(());
     }
-    put_together(store, alloc, last, number)?;
+    if last.number != number {
+        *last = whole_kernel(store, alloc, number)?;
+    }
     Ok(())
 }
 
@@ -159,34 +144,6 @@ fn row_holds(
     let processes = processes_in(store, alloc, states)?;
     let holds = condition.holds_in(alloc, &last.kernel, processes.as_slice())?;
     Ok(holds)
-}
-
-/// The first row of whose world a condition holds: this one, or one that was found before.
-fn first_holding(
-    store: &Store,
-    alloc: Global,
-    last: &mut Whole,
-    at: usize,
-    condition: &Condition,
-    first: Option<usize>,
-) -> Result<Option<usize>, ExploreFault>
-    requires last { IsExactly store.now last.old.number last.old.kernel }
-    requires some { IfSome first (RowHolds store.now condition.now) }
-    ensures last { OnOk result (IsExactly store.now last.new.number last.new.kernel) }
-    ensures some { IfOk result (λ found. IfSome found (RowHolds store.now condition.now)) }
-    ensures before { IfOk result (λ found. FailsBefore store.now condition.now found at) }
-    ensures others { IfOk result (λ found. (i : ℕ)
-        → StandsBefore found i → StandsBefore first i) }
-    ensures one { IfOk result (λ found. (found ≡ Some at) ⊎ (found ≡ first)) }
-{
-    if !stands_before(at, first) {
-        return Ok(first);
-    }
-    let holds = row_holds(store, alloc, last, at, condition)?;
-    if holds {
-        return Ok(Some(at));
-    }
-    Ok(first)
 }
 
 /// The number of the kernel of a row, or 0.
@@ -237,7 +194,13 @@ fn first_of(
     let mut last = whole_kernel(store, alloc, kernel_of(store, *one))?;
     let mut first = None;
     for at in rows {
-        first = first_holding(store, alloc, &mut last, *at, condition, first)?;
+        if !stands_before(*at, first) {
+            continue;
+        }
+        let holds = row_holds(store, alloc, &mut last, *at, condition)?;
+        if holds {
+            first = Some(*at);
+        }
     }
     Ok(first)
 }
@@ -264,25 +227,6 @@ fn first_by_parts<R: Threads + Sync>(
     Ok(first)
 }
 
-/// The first row of whose world a condition holds, of those from one up to another.
-fn first_among<R: Threads + Sync>(
-    store: &Store,
-    alloc: Global,
-    condition: &Condition,
-    start: usize,
-    end: usize,
-    workers: &Workers<'_, R>,
-) -> Result<Option<usize>, ExploreFault>
-    ensures some { IfOk result (λ first. IfSome first (RowHolds store.now condition.now)) }
-    ensures before { IfOk result (λ first. (i : ℕ) → start ≤ i → i < end
-        → FailsBefore store.now condition.now first i) }
-    ensures within { IfOk result (λ first. IfSome first (λ at. (start ≤ at) × (at < end))) }
-{
-    let rows = rows_to_judge(store, alloc, condition, start, end)?;
-    let first = first_by_parts(store, alloc, condition, rows.as_slice(), workers)?;
-    Ok(first)
-}
-
 /// The first row of whose world a condition holds.
 pub(crate) fn first_where<R: Threads + Sync>(
     store: &Store,
@@ -298,7 +242,8 @@ pub(crate) fn first_where<R: Threads + Sync>(
     let mut start = 0;
     while start < count {
         let end = start.saturating_add(start.max(TOGETHER)).min(count);
-        let found = first_among(store, alloc, condition, start, end, workers)?;
+        let rows = rows_to_judge(store, alloc, condition, start, end)?;
+        let found = first_by_parts(store, alloc, condition, rows.as_slice(), workers)?;
         if found.is_some() {
             return Ok(found);
         }
