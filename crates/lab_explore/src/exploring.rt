@@ -20,7 +20,7 @@ use ipc_kernel::Kernel;
 use lab_conditions::Never;
 use lab_sched::{Fresh, Process};
 use lab_search::both;
-use lab_worlds::{Exploration, ExploreFault, Limits, Observer, Workers, discard};
+use lab_worlds::{Exploration, ExploreFault, Limits, Observer, Workers};
 use std::alloc::Global;
 use std::thread::Threads;
 
@@ -30,12 +30,6 @@ fn may_be_reduced(nevers: &[Never], fair: bool) -> bool
     ensures unfair { IsTrue result → fair ≡ false }
 {
     nevers.is_empty() && !fair
-}
-
-/// About how many bytes there are for ends beside a search that takes so many: what is left, and
-/// where that is little a sixteenth of the limit beyond it.
-fn room_for_ends(limits: Limits, taken: usize) -> usize {
-    limits.memory.saturating_sub(taken).max(limits.memory / 16)
 }
 
 /// Visits every world at calls that a laboratory can come to, as far as the limits and the memory
@@ -92,17 +86,11 @@ pub fn explore<O: Observer, R: Threads + Sync>(
     let kernel = Kernel::new(alloc, processes.len())?;
     let reduced = may_be_reduced(nevers, fair);
     let visited = visit(alloc, &processes, &kernel, limits, observer, reduced)?;
-    let room = room_for_ends(limits, visited.size());
-    match visited.report(alloc, &processes, room, nevers, fair, workers) {
-        Ok(found) => {
-            discard(visited);
-            Ok(found)
-        }
-        Err(fault) => {
-            discard(visited);
-            Err(fault)
-        }
-    }
+    // for ends there is what is left, and where that is little a sixteenth of the limit beyond it
+    let left = limits.memory.saturating_sub(visited.store.size());
+    let room = left.max(limits.memory / 16);
+    let found = visited.report(alloc, &processes, room, nevers, fair, workers)?;
+    Ok(found)
 }
 
 impl Visited {
@@ -125,8 +113,7 @@ impl Visited {
             → found.lasso ≡ None → HaveRanks self.now.store) }
     {
         if fair {
-            let found = self.fair_lassos(alloc, processes)?;
-            return Ok(found);
+            return self.fair_lassos(alloc, processes);
         }
         let lasso = self.lasso(alloc, processes)?;
         Ok(Lassos { lasso, shown: true })

@@ -26,15 +26,15 @@ fn alone_at(store: &Store, alloc: Global, at: usize, pid: u32) -> Result<Alone, 
         → slice_get w.processes pid ≡ Some s
         → (alone.kernel ≡ w.kernel) × (process_view alone.process ≡ s)) }
 {
-    let Some((kernel, state)) = store.places(at, pid) else {
-        return Err(ExploreFault::Unvouched);
-    };
-    let Some(process) = store.states.get(alloc, state as usize)? else {
-        return Err(ExploreFault::Unvouched);
-    };
-    let Some(kernel) = store.kernels.get(alloc, kernel)? else {
-        return Err(ExploreFault::Unvouched);
-    };
+    let (kernel, state) = store.places(at, pid).ok_or(ExploreFault::Unvouched)?;
+    let process = store
+        .states
+        .get(alloc, state as usize)?
+        .ok_or(ExploreFault::Unvouched)?;
+    let kernel = store
+        .kernels
+        .get(alloc, kernel)?
+        .ok_or(ExploreFault::Unvouched)?;
     make_alone(kernel, process, pid as usize)
 }
 
@@ -78,8 +78,7 @@ impl Visited {
         let most = self.store.known_steps(at, pid).unwrap_or(0);
         let mut alone = alone_at(&self.store, alloc, at, pid)?;
         let found = alone.look(alloc, refusal, most.saturating_add(1))?;
-        let turn = self.turn_of(found, Some(at), pid as usize)?;
-        Ok(turn)
+        self.turn_of(found, Some(at), pid as usize)
     }
 
     /// The first refused call from the world of a row on.
@@ -143,8 +142,7 @@ impl Visited {
         let process = process.copy(alloc)?;
         let mut alone = make_alone(Kernel::new(alloc, 1)?, process, 0)?;
         let found = alone.look_ahead(alloc, refusal, most.saturating_add(1))?;
-        let turn = self.turn_of(found, None, pid)?;
-        Ok(turn)
+        self.turn_of(found, None, pid)
     }
 
     /// The first refused call of a process before its first call of the kernel.

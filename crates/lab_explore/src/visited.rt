@@ -22,13 +22,6 @@ pub struct Visited {
     pub refused: bool,
 }
 
-impl Visited {
-    /// About how many bytes it takes.
-    pub(crate) fn size(&self) -> usize {
-        self.store.size()
-    }
-}
-
 /// What a search of the worlds that processes over a kernel can come to visits, as far as the limits
 /// allow: every one of them, or, if that may be and none of them takes a name away, as many as show
 /// every end.
