@@ -15,7 +15,6 @@ use Rattle.lab_sched.specs.Schedules.{steps_of}
 use Rattle.lab_conditions.specs.declared.condition.Condition.{Condition}
 use Rattle.lab_conditions.specs.declared.never.Never.{Never}
 use Rattle.lab_conditions.specs.declared.never.Never.TheVariants as never
-use Rattle.lab_conditions.specs.declared.refusals.Refusal.{Refusal}
 use Rattle.lab_conditions.specs.Conditions.{Holds, HoldsOverAny, world_of}
 use Rattle.ipc_kernel.specs.Alike.{IsConsistent}
 use Rattle.lab_states.specs.Rows.{Row}
@@ -121,12 +120,6 @@ pub unseen_if : (n : Never) (start : WorldState) (t : Store) (o : Option (List B
 unseen_if n start t None h = h refl
 unseen_if n start t (Some s) h = tt
 
--- the schedule of a walk
-pub walk_schedule : (start : WorldState) (t : Store) (at : ℕ) (w : Walk) (s : List Block) → s ≡ w.schedule → IsWalk start w → IsLike t at w.world
-    → AreEffective start (steps_of s) × IsLike t at (run start (steps_of s))
-walk_schedule start t at w s same h like =
-    (subst (λ bs. AreEffective start (steps_of bs)) (sym same) h.effective, subst (λ bs. IsLike t at (run start (steps_of bs))) (sym same) (subst (IsLike t at) (sym h.leads) like))
-
 -- the world that steps lead to is alike one of which the condition holds
 pub leads_to : (c : Condition) (ps : List Kept) (t : Store) (at : ℕ) (s : List Block) → AreEffective (initial_world ps) (steps_of s) → IsLike t at (run (initial_world ps) (steps_of s))
     → ((w : WorldState) → IsAt t at w → Holds c w) → LeadsTo (initial_world ps) c s
@@ -154,15 +147,10 @@ step_violates never.Lost start s h = h
 step_violates (never.Refused r) start s h = h
 
 -- where no step was found, what no condition is has been seen nowhere
-pub lost_unseen : (n : Never) (start : WorldState) (t : Store) → n ≡ never.Lost → NoneBreaks start t n → IsUnseen start t n
-lost_unseen (never.Holds c) start t is h = absurd (cc)
-lost_unseen never.Lost start t is h = h
-lost_unseen (never.Refused r) start t is h = h
-
-pub refused_unseen : (n : Never) (r : Refusal) (start : WorldState) (t : Store) → n ≡ never.Refused r → NoneBreaks start t n → IsUnseen start t n
-refused_unseen (never.Holds c) r start t is h = absurd (cc)
-refused_unseen never.Lost r start t is h = h
-refused_unseen (never.Refused q) r start t is h = h
+pub step_unseen : (n : Never) (start : WorldState) (t : Store) → ((c : Condition) → n ≡ never.Holds c → ⊥) → NoneBreaks start t n → IsUnseen start t n
+step_unseen (never.Holds c) start t other h = absurd (other c refl)
+step_unseen never.Lost start t other h = h
+step_unseen (never.Refused r) start t other h = h
 
 -- what a whole search doesn't show never is so
 is_kept : (fresh start : WorldState) (t : Store) → fresh ≡ start → IsConsistent start.kernel → AskAgain start → unwaiting start ≡ start → IsSearched start t → (n : Never) → IsUnseen start t n → IsKept fresh n

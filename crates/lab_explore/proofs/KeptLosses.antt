@@ -1,5 +1,5 @@
 -- What loses a message after any steps loses one along an edge.
-use Rattle.std.proofs.Common.{ℕ, ◌≡◌, ◌<◌, Option, Some, None, refl, sym, ap, subst, ◌∙◌, slice_get, inl, inr, arith}
+use Rattle.std.proofs.Common.{ℕ, ◌≡◌, ◌<◌, Some, refl, sym, ap, subst, ◌∙◌, slice_get, inl, inr, arith}
 use Rattle.lc3_machine.specs.Process.{Process as Machine}
 use Rattle.ipc_kernel.specs.declared.call.Call.{Call}
 use Rattle.ipc_kernel.specs.declared.call.Answer.{Answer}

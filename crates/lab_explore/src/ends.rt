@@ -1,36 +1,26 @@
 //! The ends among the worlds of a search, each reached again from the start.
-ghost use Rattle.std.specs.Prelude.{◌≡◌, ◌≤◌, ◌+◌, IsTrue, false, IfOk, OnOk};
-ghost use Rattle.std.specs.List.Sorted.{IsPermutation, IsNonDecreasingBy};
+ghost use Rattle.std.specs.Prelude.{◌≡◌, ◌≤◌, ◌+◌, IsTrue, false, IfOk};
+ghost use Rattle.std.specs.List.Sorted.{IsNonDecreasingBy};
 ghost use Rattle.lab_sched.specs.Worlds.{WorldState};
 ghost use Rattle.lab_sched.specs.Starts.{AreStarts, initial_world};
 ghost use Rattle.lab_worlds.specs.Unwaiting.{unwaiting, NoneGoesOn};
-ghost use Rattle.lab_worlds.specs.Private.Kept.{Keeps};
 ghost use Rattle.lab_worlds.specs.Walked.{waiting};
 ghost use Rattle.lab_worlds.specs.Ends.{IsEnd, AreEnds};
 ghost use Rattle.lab_search.specs.Stored.{IsAt, IsStore, IsLike};
-ghost use Rattle.lab_explore.specs.Private.RowEnds.{HasRowEnd, HaveRowEnds};
+ghost use Rattle.lab_explore.specs.Private.RowEnds.{HaveRowEnds};
 
 use crate::depths::depths_of;
 use crate::visited::Visited;
 use lab_sched::Process;
 use lab_states::depth_of;
-use lab_worlds::{End, ExploreFault, Walk, discard, end_of};
-use std::alloc::{AllocError, Global};
+use lab_worlds::{End, ExploreFault, Walk, end_of};
+use std::alloc::Global;
 
 /// Ends, and whether these are the ends of all rows.
 #[derive(Drop)]
 pub(crate) struct Collected {
     pub ends: Vec<End>,
     pub whole: bool,
-}
-
-/// Puts ends with fewer calls first.
-fn sort_by_calls(ends: &mut Vec<End>) -> Result<(), AllocError>
-    ensures same { IsPermutation ends.old.items ends.new.items }
-    ensures ordered { OnOk result (IsNonDecreasingBy (λ e. e.calls) ends.new.items) }
-{
-    ends.sort_by_key(|end| end.calls)?;
-    Ok(())
 }
 
 impl Visited {
@@ -43,28 +33,25 @@ impl Visited {
         !self.store.edges.lead_from(at)
     }
 
-    /// Whether each move from the world of a row was made, and is none.
-    fn is_still(&self, at: usize) -> bool {
+    /// Whether the world of a row may be an end. In a search that isn't complete each move from it must
+    /// have been made, and be none.
+    fn may_be_end(&self, at: usize) -> bool
+        requires store { IsTrue self.now.complete → IsStore self.now.store }
+        ensures no { IsTrue self.now.complete → result ≡ false
+            → (w : WorldState) → IsAt self.now.store at w → NoneGoesOn w → ⊥ }
+    {
+        if self.complete {
+            return self.may_rest(at);
+        }
         let Some(count) = self.store.width(at) else {
             return false;
         };
         (0..count).all(|pid| self.store.goes_on(at, pid) == Some(false))
     }
 
-    /// Whether the world of a row may be an end. In a search that isn't complete not each move was
-    /// made: where one is unknown, the answer is no.
-    fn may_be_end(&self, at: usize) -> bool
-        requires store { IsTrue self.now.complete → IsStore self.now.store }
-        ensures no { IsTrue self.now.complete → result ≡ false
-            → (w : WorldState) → IsAt self.now.store at w → NoneGoesOn w → ⊥ }
-    {
-        if !self.complete {
-            return self.is_still(at);
-        }
-        self.may_rest(at)
-    }
-
-    /// The end of a row of this depth, reached again.
+    /// The end of a row of this depth, reached again. It is compiled by itself, so that the room for an
+    /// end isn't cleared for each row.
+    #[inline(never)]
     pub fn row_end(
         &self,
         alloc: Global,
@@ -78,64 +65,9 @@ impl Visited {
         ensures few { IfOk result (λ e. e.calls ≤ depth + waiting e.world) }
     {
         let mut walk = Walk::start(alloc, processes)?;
-        match self.go_to_end(alloc, at, depth, &mut walk) {
-            Ok(()) => {
-                let end = end_of(walk)?;
-                Ok(end)
-            }
-            Err(fault) => {
-                discard(walk);
-                Err(fault)
-            }
-        }
-    }
-
-    /// Adds the end of a row of this depth to others; with about how many bytes it takes. It is compiled
-    /// by itself, so that the room for an end isn't cleared for each row.
-    #[inline(never)]
-    fn add_row_end(
-        &self,
-        alloc: Global,
-        processes: &[Process],
-        at: usize,
-        depth: u32,
-        ends: &mut Vec<End>,
-    ) -> Result<usize, ExploreFault>
-        requires starts { AreStarts processes.now }
-        ensures each { OnOk result (AreEnds (initial_world processes.now) ends.old.items
-            → AreEnds (initial_world processes.now) ends.new.items) }
-        ensures keeps { OnOk result (Keeps ends.old.items ends.new.items) }
-        ensures here { OnOk result (HasRowEnd self.now.store ends.new.items at depth) }
-    {
-        let end = self.row_end(alloc, processes, at, depth)?;
-        let size = end.size();
-        ends.push(end)?;
-        Ok(size)
-    }
-
-    /// Adds the end of a row of this depth to others, if no process goes on from its world; with
-    /// about how many bytes it takes.
-    fn add_end(
-        &self,
-        alloc: Global,
-        processes: &[Process],
-        at: usize,
-        depth: u32,
-        ends: &mut Vec<End>,
-    ) -> Result<usize, ExploreFault>
-        requires starts { AreStarts processes.now }
-        requires store { IsTrue self.now.complete → IsStore self.now.store }
-        ensures each { OnOk result (AreEnds (initial_world processes.now) ends.old.items
-            → AreEnds (initial_world processes.now) ends.new.items) }
-        ensures keeps { OnOk result (Keeps ends.old.items ends.new.items) }
-        ensures here { OnOk result (IsTrue self.now.complete
-            → HasRowEnd self.now.store ends.new.items at depth) }
-    {
-        if !self.may_be_end(at) {
-            return Ok(0);
-        }
-        let size = self.add_row_end(alloc, processes, at, depth, ends)?;
-        Ok(size)
+        self.go_to_end(alloc, at, depth, &mut walk)?;
+        let end = end_of(walk)?;
+        Ok(end)
     }
 
     /// The ends, each reached again, as long as they take about so many bytes; with whether these are
@@ -159,9 +91,13 @@ impl Visited {
             if size > room {
                 return Ok(Collected { ends, whole: false });
             }
+            if !self.may_be_end(at) {
+                continue;
+            }
             let depth = depth_of(depths.as_slice(), at);
-            let more = self.add_end(alloc, processes, at, depth, &mut ends)?;
-            size = size.saturating_add(more);
+            let end = self.row_end(alloc, processes, at, depth)?;
+            size = size.saturating_add(end.size());
+            ends.push(end)?;
         }
         Ok(Collected { ends, whole: true })
     }
@@ -182,7 +118,7 @@ impl Visited {
         ensures ordered { IfOk result (λ c. IsNonDecreasingBy (λ e. e.calls) c.ends.items) }
     {
         let mut collected = self.collect(alloc, processes, room)?;
-        sort_by_calls(&mut collected.ends)?;
+        collected.ends.sort_by_key(|end| end.calls)?;
         Ok(collected)
     }
 }

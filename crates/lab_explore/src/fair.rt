@@ -1,12 +1,11 @@
 //! Fair lassos, and what shows that there is none.
-ghost use Rattle.std.specs.Prelude.{◌≡◌, None, IsTrue, IfOk, IfSome, OnOk};
-ghost use Rattle.lab_sched.specs.Worlds.{WorldState, run};
+ghost use Rattle.std.specs.Prelude.{◌≡◌, None, IsTrue, IfOk, IfSome};
+ghost use Rattle.lab_sched.specs.Worlds.{run};
 ghost use Rattle.lab_sched.specs.Schedules.{steps_of};
 ghost use Rattle.lab_sched.specs.Starts.{AreStarts, initial_world};
 ghost use Rattle.lab_worlds.specs.Calls.{AreAlike};
 ghost use Rattle.lab_worlds.specs.Fairness.{IsFairSegment, IsFairLasso};
-ghost use Rattle.lab_worlds.specs.Segments.{IsSegmentSoFar, KeepsSegment};
-ghost use Rattle.lab_worlds.specs.Walked.{IsWalk, KeepsStart};
+ghost use Rattle.lab_worlds.specs.Walked.{IsWalk};
 ghost use Rattle.lab_search.specs.Stored.{IsStore};
 ghost use Rattle.lab_explore.specs.Private.Ranked.{HaveRanks};
 
@@ -14,7 +13,7 @@ use crate::closed_walks::closed_walk;
 use crate::visited::Visited;
 use lab_sched::{Process, Schedule, World};
 use lab_states::{Sets, place_of};
-use lab_worlds::{ClosedWalk, ExploreFault, FairSegment, Lasso, Walk, are_alike, discard};
+use lab_worlds::{ClosedWalk, ExploreFault, FairSegment, Lasso, Walk, are_alike};
 use std::alloc::Global;
 
 /// A lasso, if there is one, and whether it is shown that there is none if it isn't told.
@@ -22,74 +21,6 @@ use std::alloc::Global;
 pub(crate) struct Lassos {
     pub lasso: Option<Lasso>,
     pub shown: bool,
-}
-
-impl Visited {
-    /// Goes to the row of a closed walk, and along its first part.
-    fn go_to_closed_walk(
-        &self,
-        alloc: Global,
-        closed_walk: &ClosedWalk,
-        walk: &mut Walk,
-    ) -> Result<(), ExploreFault>
-        ensures walk { OnOk result (KeepsStart walk.old walk.new) }
-    {
-        self.go_to(alloc, closed_walk.at, walk)?;
-        walk.go_walk_parts(closed_walk.first.as_slice())
-    }
-
-    /// The walk to the row of a closed walk, and along its first part.
-    fn lead(
-        &self,
-        alloc: Global,
-        processes: &[Process],
-        closed_walk: &ClosedWalk,
-    ) -> Result<Walk, ExploreFault>
-        requires starts { AreStarts processes.now }
-        ensures walk { IfOk result (λ w. IsWalk (initial_world processes.now) w) }
-    {
-        let mut walk = Walk::start(alloc, processes)?;
-        match self.go_to_closed_walk(alloc, closed_walk, &mut walk) {
-            Ok(()) => Ok(walk),
-            Err(fault) => {
-                discard(walk);
-                Err(fault)
-            }
-        }
-    }
-}
-
-/// Goes along a closed walk, which must serve each process, and lead to a world that another is alike.
-fn go_segment(
-    segment: &mut FairSegment,
-    closed_walk: &ClosedWalk,
-    world: &World,
-) -> Result<(), ExploreFault>
-    ensures segments { OnOk result (KeepsSegment segment.old segment.new) }
-    ensures whole { OnOk result ((start : WorldState) → IsSegmentSoFar start segment.new
-        → IsFairSegment start (steps_of segment.new.walk.schedule)) }
-    ensures alike { OnOk result (AreAlike world.now segment.new.walk.world) }
-{
-    segment.go_lasso(closed_walk)?;
-    if !segment.is_whole() || !are_alike(world, &segment.walk.world) {
-        return Err(ExploreFault::Unvouched);
-    }
-    Ok(())
-}
-
-/// The steps of a fair segment.
-fn schedule_of(segment: FairSegment) -> Schedule
-    ensures schedule { result ≡ segment.walk.schedule }
-{
-    let FairSegment { walk, fair_to } = segment;
-    discard(fair_to);
-    let Walk {
-        world,
-        schedule,
-        calls: _,
-    } = walk;
-    discard(world);
-    schedule
 }
 
 /// The steps along a closed walk from a world, which must serve each process, and lead to a world that another
@@ -104,59 +35,28 @@ fn segment_from(
     ensures returns { IfOk result (λ s. AreAlike world.now (run initial (steps_of s))) }
 {
     let mut segment = FairSegment::at(alloc, initial)?;
-    match go_segment(&mut segment, closed_walk, world) {
-        Ok(()) => Ok(schedule_of(segment)),
-        Err(fault) => {
-            discard(segment);
-            Err(fault)
-        }
+    segment.go_lasso(closed_walk)?;
+    if !segment.is_whole() || !are_alike(world, &segment.walk.world) {
+        return Err(ExploreFault::Unvouched);
     }
-}
-
-/// The lasso by a walk, and the steps along a closed walk from its world, which another is alike.
-fn lasso_of(
-    alloc: Global,
-    walk: Walk,
-    closed_walk: &ClosedWalk,
-    world: &World,
-) -> Result<Lasso, ExploreFault>
-    requires alike { AreAlike world.now walk.world }
-    ensures lasso { IfOk result (λ r. (start : WorldState)
-        → IsWalk start walk → IsFairLasso start r) }
-{
-    let Walk {
-        world: initial,
-        schedule,
-        calls: _,
-    } = walk;
-    match segment_from(alloc, initial, closed_walk, world) {
-        Ok(steps) => Ok(Lasso { schedule, steps }),
-        Err(fault) => {
-            discard(schedule);
-            Err(fault)
-        }
-    }
+    Ok(segment.walk.schedule)
 }
 
 impl Visited {
-    /// The lasso along a closed walk, where a walk along its first part led to this world.
-    fn lasso_beside(
+    /// The walk to the row of a closed walk, and along its first part.
+    fn lead(
         &self,
         alloc: Global,
         processes: &[Process],
         closed_walk: &ClosedWalk,
-        world: &World,
-    ) -> Result<Lasso, ExploreFault>
+    ) -> Result<Walk, ExploreFault>
         requires starts { AreStarts processes.now }
-        ensures lasso { IfOk result (λ r. IsFairLasso (initial_world processes.now) r) }
+        ensures walk { IfOk result (λ w. IsWalk (initial_world processes.now) w) }
     {
-        let walk = self.lead(alloc, processes, closed_walk)?;
-        if !are_alike(world, &walk.world) {
-            discard(walk);
-            return Err(ExploreFault::Unvouched);
-        }
-        let lasso = lasso_of(alloc, walk, closed_walk, world)?;
-        Ok(lasso)
+        let mut walk = Walk::start(alloc, processes)?;
+        self.go_to(alloc, closed_walk.at, &mut walk)?;
+        walk.go_walk_parts(closed_walk.first.as_slice())?;
+        Ok(walk)
     }
 
     /// The lasso along a closed walk. The walk along its first part is taken twice: from its end the segment goes
@@ -170,17 +70,14 @@ impl Visited {
         requires starts { AreStarts processes.now }
         ensures lasso { IfOk result (λ r. IsFairLasso (initial_world processes.now) r) }
     {
+        let other = self.lead(alloc, processes, closed_walk)?;
         let walk = self.lead(alloc, processes, closed_walk)?;
-        match self.lasso_beside(alloc, processes, closed_walk, &walk.world) {
-            Ok(lasso) => {
-                discard(walk);
-                Ok(lasso)
-            }
-            Err(fault) => {
-                discard(walk);
-                Err(fault)
-            }
+        if !are_alike(&other.world, &walk.world) {
+            return Err(ExploreFault::Unvouched);
         }
+        let schedule = walk.schedule;
+        let steps = segment_from(alloc, walk.world, closed_walk, &other.world)?;
+        Ok(Lasso { schedule, steps })
     }
 
     /// The fair lasso in the set of a row, if it can be taken.

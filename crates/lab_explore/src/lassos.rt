@@ -1,9 +1,8 @@
 //! Lassos: steps that lead from a world to one alike, so that some interleaving never ends.
 ghost use Rattle.std.specs.Prelude.{◌≡◌, ◌≤◌, length, None, IfOk, IfSome, OnOk};
-ghost use Rattle.lab_sched.specs.Worlds.{WorldState};
 ghost use Rattle.lab_sched.specs.Schedules.{steps_of};
 ghost use Rattle.lab_sched.specs.Starts.{AreStarts, initial_world};
-ghost use Rattle.lab_worlds.specs.Walked.{IsWalk, KeepsStart};
+ghost use Rattle.lab_worlds.specs.Walked.{KeepsStart};
 ghost use Rattle.lab_worlds.specs.Lassos.{IsLasso};
 ghost use Rattle.lab_states.specs.Rising.{AreRising};
 ghost use Rattle.lab_search.specs.Stored.{IsLike};
@@ -11,7 +10,7 @@ ghost use Rattle.lab_search.specs.Stored.{IsLike};
 use crate::visited::Visited;
 use lab_sched::Process;
 use lab_states::{Cycle, cycle_of, is_order, is_order_by_number, order_of};
-use lab_worlds::{ExploreFault, Lasso, Walk, discard};
+use lab_worlds::{ExploreFault, Lasso, Walk};
 use std::alloc::Global;
 
 impl Visited {
@@ -32,37 +31,7 @@ impl Visited {
         Ok(())
     }
 
-    /// The lasso by a walk to the world of a cycle's row, and the steps of its edges from there.
-    fn lasso_from(&self, alloc: Global, cycle: &Cycle, walk: Walk) -> Result<Lasso, ExploreFault>
-        requires row { IsLike self.now.store cycle.now.at walk.world }
-        ensures lasso { IfOk result (λ r. (start : WorldState)
-            → IsWalk start walk → IsLasso start r) }
-    {
-        let Walk {
-            world,
-            schedule,
-            calls: _,
-        } = walk;
-        let mut walk = Walk::at(alloc, world);
-        match self.go_lasso(alloc, cycle, &mut walk) {
-            Ok(()) => {
-                let Walk {
-                    world,
-                    schedule: steps,
-                    calls: _,
-                } = walk;
-                discard(world);
-                Ok(Lasso { schedule, steps })
-            }
-            Err(fault) => {
-                discard(walk);
-                discard(schedule);
-                Err(fault)
-            }
-        }
-    }
-
-    /// The lasso by a cycle of edges, run from the start.
+    /// The lasso by a cycle of edges, run from the start: to the world of its row, and along its edges.
     fn lasso_of(
         &self,
         alloc: Global,
@@ -73,16 +42,12 @@ impl Visited {
         ensures lasso { IfOk result (λ r. IsLasso (initial_world processes.now) r) }
     {
         let mut walk = Walk::start(alloc, processes)?;
-        match self.go_to(alloc, cycle.at, &mut walk) {
-            Ok(()) => {
-                let lasso = self.lasso_from(alloc, cycle, walk)?;
-                Ok(lasso)
-            }
-            Err(fault) => {
-                discard(walk);
-                Err(fault)
-            }
-        }
+        self.go_to(alloc, cycle.at, &mut walk)?;
+        let schedule = walk.schedule;
+        let mut round = Walk::at(alloc, walk.world);
+        self.go_lasso(alloc, cycle, &mut round)?;
+        let steps = round.schedule;
+        Ok(Lasso { schedule, steps })
     }
 
     /// A lasso among the worlds that were visited, if there is one.
@@ -104,9 +69,7 @@ impl Visited {
         if is_order(order.as_slice(), edges) {
             return Ok(None);
         }
-        let Some(cycle) = cycle_of(alloc, edges, order)? else {
-            return Err(ExploreFault::Unvouched);
-        };
+        let cycle = cycle_of(alloc, edges, order)?.ok_or(ExploreFault::Unvouched)?;
         let lasso = self.lasso_of(alloc, processes, &cycle)?;
         Ok(Some(lasso))
     }

@@ -15,7 +15,7 @@ use crate::losses::first_loss;
 use crate::visited::Visited;
 use lab_conditions::{Condition, Never};
 use lab_sched::{Process, Schedule};
-use lab_worlds::{ExploreFault, Walk, Workers, discard};
+use lab_worlds::{ExploreFault, Walk, Workers};
 use std::alloc::Global;
 use std::thread::Threads;
 
@@ -25,19 +25,6 @@ pub(crate) struct Turn {
     pub row: Option<usize>,
     pub pid: usize,
     pub before: u32,
-}
-
-/// The schedule of a walk.
-fn schedule_of(walk: Walk) -> Schedule
-    ensures schedule { result ≡ walk.schedule }
-{
-    let Walk {
-        world,
-        schedule,
-        calls: _,
-    } = walk;
-    discard(world);
-    schedule
 }
 
 impl Visited {
@@ -55,13 +42,8 @@ impl Visited {
             IsLike self.now.store at (run (initial_world processes.now) (steps_of s))) }
     {
         let mut walk = Walk::start(alloc, processes)?;
-        match self.go_to(alloc, at, &mut walk) {
-            Ok(()) => Ok(schedule_of(walk)),
-            Err(fault) => {
-                discard(walk);
-                Err(fault)
-            }
-        }
+        self.go_to(alloc, at, &mut walk)?;
+        Ok(walk.schedule)
     }
 
     /// The steps that lead from the start to the first world that was found of which a condition
@@ -131,13 +113,8 @@ impl Visited {
             LeadsToStep (initial_world processes.now) never.now s) }
     {
         let mut walk = Walk::start(alloc, processes)?;
-        match self.go_against(alloc, never, turn, &mut walk) {
-            Ok(()) => Ok(schedule_of(walk)),
-            Err(fault) => {
-                discard(walk);
-                Err(fault)
-            }
-        }
+        self.go_against(alloc, never, turn, &mut walk)?;
+        Ok(walk.schedule)
     }
 
     /// The first step that was found which never must happen, if there is one.
@@ -157,27 +134,6 @@ impl Visited {
         }
     }
 
-    /// The steps that lead from the start to the first step that was found which never must happen, if
-    /// there is one, that step among them.
-    fn reach_step(
-        &self,
-        alloc: Global,
-        processes: &[Process],
-        never: &Never,
-    ) -> Result<Option<Schedule>, ExploreFault>
-        requires starts { AreStarts processes.now }
-        ensures reached { IfOk result (λ found. IfSome found (λ s.
-            Violates (initial_world processes.now) never.now s)) }
-        ensures none { IfOk result (λ found. found ≡ None → IsTrue self.now.complete
-            → NoneBreaks (initial_world processes.now) self.now.store never.now) }
-    {
-        let Some(turn) = self.first_step(alloc, processes, never)? else {
-            return Ok(None);
-        };
-        let schedule = self.schedule_to_step(alloc, processes, never, turn)?;
-        Ok(Some(schedule))
-    }
-
     /// The steps that lead from the start to what must never be so, where it was found first, if it
     /// was.
     fn reach<R: Threads + Sync>(
@@ -193,20 +149,15 @@ impl Visited {
         ensures none { IfOk result (λ found. found ≡ None → IsTrue self.now.complete
             → IsUnseen (initial_world processes.now) self.now.store never.now) }
     {
-        match never {
-            Never::Holds(condition) => {
-                let found = self.reach_condition(alloc, processes, condition, workers)?;
-                Ok(found)
-            }
-            Never::Lost => {
-                let lost = self.reach_step(alloc, processes, never)?;
-                Ok(lost)
-            }
-            Never::Refused(_) => {
-                let refused = self.reach_step(alloc, processes, never)?;
-                Ok(refused)
-            }
+        if let Never::Holds(condition) = never {
+            let found = self.reach_condition(alloc, processes, condition, workers)?;
+            return Ok(found);
         }
+        let Some(turn) = self.first_step(alloc, processes, never)? else {
+            return Ok(None);
+        };
+        let schedule = self.schedule_to_step(alloc, processes, never, turn)?;
+        Ok(Some(schedule))
     }
 
     /// For each thing that must never be so, in order, the steps that lead to it from the start, where

@@ -1,10 +1,9 @@
+use Rattle.std.proofs.Common.{subst, sym}
 use Rattle.lab_sched.specs.Starts.{initial_world}
-use Rattle.lab_explore.proofs.JudgedRows.{walk_schedule}
+use Rattle.lab_search.specs.Stored.{IsLike}
 use Rattle.lab_explore.proofs.visited.Visited.schedule_to.Goals as goal
 
-pub returns-in-Ok : goal.returns-in-Ok
-returns-in-Ok c =
-    let start = initial_world c.args.processes.now in
-    let walk = c.in-Ok.ensures.walk start c.in_ok-walk.ensures.walk in
-    let both = walk_schedule start c.args.self.now.store c.args.at c.go_to.new.walk c.schedule_of.result c.schedule_of.ensures.schedule walk c.in-Ok.ensures.row in
-    record { effective = both.0; row = both.1 }
+pub returns : goal.returns
+returns c =
+    let walk = c.in_ok-go_to.ensures.walk (initial_world c.args.processes.now) c.in_ok-walk.ensures.walk in
+    record { effective = walk.effective; row = subst (λ w. IsLike c.args.self.now.store c.args.at w) (sym walk.leads) c.in_ok-go_to.ensures.row }
