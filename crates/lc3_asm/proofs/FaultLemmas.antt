@@ -1,5 +1,5 @@
 -- All the faults of a text, and the one for which it is refused.
-use Rattle.std.proofs.Common.{◌≡◌, ℕ, zero, suc, ◌+◌, ◌<◌, get_or, Bool, true, false, List, [], ◌∷◌, ◌++◌, length, take, drop, map, refl, ap, sym, ◌∙◌, append_assoc, arith, Option, Some, None}
+use Rattle.std.proofs.Common.{◌≡◌, ℕ, ◌+◌, ◌<◌, get_or, Bool, true, false, List, [], ◌∷◌, ◌++◌, length, take, drop, map, refl, ap, sym, ◌∙◌, append_assoc, arith, Option, Some, None}
 use Rattle.std.specs.Prelude.{Result, Ok, Err, slice_get, ◌||◌, nat_le, if◌then◌else◌}
 use Rattle.std.specs.List.{flat_map, list_any}
 use Rattle.std.proofs.lemmas.Bool.Decides.{nat_tests}
@@ -14,6 +14,7 @@ use Rattle.lc3_asm.specs.Faults.{Reading, outcome, told_once, fitted, kept, faul
 use Rattle.lc3_asm.specs.Views.{seen_line}
 use Rattle.lc3_asm.specs.declared.line.Line.{Line as Read}
 use Rattle.lc3_asm.specs.declared.fault.LineFault.{LineFault}
+use Rattle.lc3_asm.proofs.LayoutLemmas.{front-length}
 use Rattle.lc3_asm.proofs.PassLemmas.{pairs_after, pairs-counted}
 use Rattle.lc3_asm.proofs.MoreLines.{fits_from_test}
 use Rattle.lc3_asm.proofs.Outcomes.{unless-ok}
@@ -202,11 +203,6 @@ first_fault text = by (lines_read text) (reads-as [] (lines text))
 pub first_of_all : (found : List LineFault) (text : List ℕ) → found ≡ faults text → slice_get found 0 ≡ refused_for (program text)
 first_of_all found text e = ap (λ fs. slice_get fs 0) e ∙ first_fault text
 
-front-length : (xs : List Read) (i : ℕ) → i < length xs → length (map seen_line (take i xs)) ≡ i
-front-length [] i h = absurd (omega (arith, h))
-front-length (x ∷ xs) zero h = refl
-front-length (x ∷ xs) (suc i) h = ap suc (front-length xs i (omega (arith, h)))
-
 module _ (r : Reading) (lines : List Read) (i : ℕ) (d x : Read) (address : ℕ) (h : i < length lines) (is : x ≡ get_or lines i d) (at : address ≡ address_after (map seen_line (take i lines))) where
   front : map seen_line (take (i + 1) lines) ≡ map seen_line (take i lines) ++ seen_line x ∷ []
   front = ap (map seen_line) (take_more lines i d h ∙ ap (λ y. take i lines ++ y ∷ []) (sym is)) ∙ map-append seen_line (take i lines) (x ∷ [])
@@ -220,7 +216,7 @@ module _ (r : Reading) (lines : List Read) (i : ℕ) (d x : Read) (address : ℕ
       let here : drop i lines ≡ x ∷ drop (i + 1) lines = drop_more lines i d h ∙ ap (λ y. y ∷ drop (i + 1) lines) (sym is) in
       let rest = label_faults_after r (map seen_line (take (i + 1) lines)) (map seen_line (drop (i + 1) lines)) in
       let one : numbered (i + 1) (unless_unknown r.found k) ≡ label_fault r (map seen_line (take i lines), seen_line x) =
-      ap (λ n. numbered (n + 1) (unless_unknown r.found k)) (sym (front-length lines i h))
+      ap (λ n. numbered (n + 1) (unless_unknown r.found k)) (sym (front-length lines i (omega (arith, h))))
       ∙ ap (λ o. numbered (length (map seen_line (take i lines)) + 1) (unless_unknown r.found o)) (sym e)
       ∙ ap (λ a. numbered (length (map seen_line (take i lines)) + 1) (unless_unknown r.found (fault_of (words (value (labels r.read)) a (seen_line x))))) at in
       ap (λ u. u ++ rest) (g ∙ ap (λ u. fs ++ u) one)

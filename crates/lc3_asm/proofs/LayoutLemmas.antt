@@ -1,9 +1,8 @@
 -- The words of one more line.
 use Rattle.std.proofs.Common.{◌≡◌, ℕ, zero, suc, ◌+◌, ◌<◌, ◌≤◌, List, [], ◌∷◌, ◌++◌, length, take, drop, map, get_or, refl, ap, sym, ◌∙◌, append_assoc, append-nil, arith, lit≤, Option, Some, None}
 use Rattle.std.specs.Prelude.{sum_by, Result, Ok, Err, nat_abs}
-use Rattle.std.proofs.lemmas.List.{drop_more, take_more, map-append}
+use Rattle.std.proofs.lemmas.List.{drop_more, take_more, map-append, length-append, length-map, length-replicate, length-take-le}
 use Rattle.std.proofs.lemmas.List.Sums.{sum_by-append}
-use Rattle.std.proofs.lemmas.List.{length-append, length-replicate}
 use Rattle.lc3_table.specs.Statements.{Line, Blank, LabelAlone, Operates, Operand, Register, Number, Label, Characters, forms, ◌>>=◌}
 use Rattle.lc3_table.specs.Meaning.{words, size, operation_size, words_of_fields, instruction, instruction_words, resolved_fields}
 use Rattle.lc3_table.specs.declared.fields.Field.{Field}
@@ -73,11 +72,8 @@ joined-fault : (known : List (List ℕ × ℕ)) (before ls : List (Line Operand)
     → words (value known) (address_after before) l ≡ Err k → words_and_rows ws rs (words_after known before (l ∷ ls)) ≡ Err (record { line = length before + 1; kind = k })
 joined-fault known before ls l k ws rs e = rw e refl
 
-front-length : (xs : List Read) (i : ℕ) → i ≤ length xs → length (map seen_line (take i xs)) ≡ i
-front-length [] zero h = refl
-front-length (x ∷ xs) zero h = refl
-front-length [] (suc i) h = absurd (omega (arith, h))
-front-length (x ∷ xs) (suc i) h = ap suc (front-length xs i (omega (arith, h)))
+pub front-length : (xs : List Read) (i : ℕ) → i ≤ length xs → length (map seen_line (take i xs)) ≡ i
+front-length xs i h = length-map (take i xs) seen_line ∙ length-take-le i xs h
 
 -- the address of a line
 address-at : (before : List (Line Operand)) (xs : List Read) (i : ℕ) → i < length xs → get_or (addresses_after before (map seen_line xs)) i 0 ≡ address_after (before ++ map seen_line (take i xs))

@@ -45,10 +45,6 @@ pub first-new : (started : Bool) (first found : ℕ) (named : Option ℕ) (read 
 first-new started first found named read ls l v s f t n e =
     rw (← v) (e ∙ ap (λ o. unwrap_or o first) n ∙ ap (unwrap_or (origin_named l)) f ∙ sym (origin-new read l (sym s ∙ t)))
 
--- the address after one more line
-pub room-sum : (ls : List (Line Operand)) (l : Line Operand) → address_after (ls ++ l ∷ []) ≡ origin (ls ++ l ∷ []) + (sum_by size ls + size l)
-room-sum ls l = ap (λ n. origin (ls ++ l ∷ []) + n) (sizes-append ls l)
-
 -- the tables, with one more line
 pub tables-more : (symbols symbols' : List (List ℕ × ℕ)) (places places' : List ℕ) (started started' : Bool) (first first' count count' address : ℕ) (ls : List (Line Operand)) (l : Line Operand)
     → AreTables symbols places started first count ls → nat_le (address_after (ls ++ l ∷ [])) first_device ≡ true

@@ -93,13 +93,6 @@ pub fn faults_of(
     Ok(found)
 }
 
-fn faults_found(alloc: Global, source: &str) -> Result<Vec<LineFault>, AllocError>
-    ensures all { IfOk result (λ found. found.items ≡ faults source.now) }
-{
-    let reader = reading(alloc, source)?;
-    faults_of(alloc, line_count(source.as_bytes()), &reader)
-}
-
 /// All the faults of a source text: those of its lines in their order, and then those of the labels
 /// that they name.
 ///
@@ -113,5 +106,6 @@ pub fn faults(alloc: Global, source: &str) -> Result<Vec<LineFault>, AllocError>
     ensures first { IfOk result
         (λ found. slice_get found.items 0 ≡ refused_for (program source.now)) }
 {
-    faults_found(alloc, source)
+    let reader = reading(alloc, source)?;
+    faults_of(alloc, line_count(source.as_bytes()), &reader)
 }

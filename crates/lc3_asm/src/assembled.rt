@@ -86,10 +86,7 @@ fn push_word(listing: &mut String, address: u16, word: u16, line: usize) -> Resu
     let place = Hex(address);
     let content = Hex(word);
     let shown = WordText(word);
-    match write!(listing, "{place} {content} {line} {shown}\n") {
-        Ok(()) => Ok(()),
-        Err(e) => Err(e),
-    }
+    write!(listing, "{place} {content} {line} {shown}\n")
 }
 
 fn push_words(

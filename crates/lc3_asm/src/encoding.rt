@@ -49,11 +49,8 @@ fn resolved_field(
         Operand::Number(number) => Ok(Field::Number(*number)),
         Operand::Characters(_) => Ok(Field::Nothing),
         Operand::Label(name) => {
-            let Some(target) = symbols.value(name.as_str()) else {
-                return Err(Fault::Undefined);
-            };
-            let number = label_number(form, address, target)?;
-            Ok(Field::Number(number))
+            let target = symbols.value(name.as_str()).ok_or(Fault::Undefined)?;
+            Ok(Field::Number(label_number(form, address, target)?))
         }
     }
 }

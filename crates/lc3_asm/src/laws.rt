@@ -23,11 +23,13 @@ pub fn fills_hold_addresses()
 {}
 
 /// The rows cover the image: each begins where the one before it ends, and the last ends with the image.
+#[tactic(auto, using(crate::proofs::RowLemmas::rows_cover))]
 pub fn rows_cover_image()
     ensures law { RowsCoverImage }
 {}
 
 /// The listing shows each word of the image at its address, in order.
+#[tactic(auto, using(crate::proofs::RowLemmas::listing_shows))]
 pub fn listing_shows_image()
     ensures law { ListingShowsImage }
 {}

@@ -26,7 +26,9 @@ pub use fault::{AsmFault, LineError, LineFault};
 pub use line::Line;
 pub use passes::{assemble, first_line, line_count};
 pub use reader::{Reader, printable};
-pub use statement::{Operand, fault_in, token_operand, token_operation, upper, without_colon};
+pub use statement::{
+    Operand, fault_in, first_character, token_operand, token_operation, upper, without_colon,
+};
 pub use symbols::Symbols;
 pub use token::{Token, first_token, without_separators};
-pub use word::{is_label, register};
+pub use word::{LABEL_LENGTH, is_label, register};

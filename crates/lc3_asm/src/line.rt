@@ -3,7 +3,7 @@
 ghost use Rattle.std.specs.Prelude.{◌≡◌, option_map, string_bytes, map, ◌≤◌, ◌^◌};
 ghost use Rattle.lc3_asm.specs.Views.{token_of, seen_line};
 ghost use Rattle.lc3_asm.specs.Results.{Gives};
-ghost use Rattle.lc3_table.specs.Statements.{label_defined, begins_with_dot, operation_order, with_operands, unless, Operates, line_of, line};
+ghost use Rattle.lc3_table.specs.Statements.{label_defined, operation_order, with_operands, unless, Operates, line_of, line};
 
 use crate::fault::LineError;
 use crate::statement::{Operand, all_operands, token_fault, token_operation, upper, without_colon};
@@ -27,19 +27,13 @@ pub enum Line {
     },
 }
 
-fn begins_with_dot(word: &[u8]) -> bool
-    ensures value { result ≡ begins_with_dot word.now }
-{
-    matches!(word, [b'.', ..])
-}
-
 pub fn label_defined(alloc: Global, token: Token<'_>) -> Result<String, LineError>
     ensures exact { Gives string_bytes result (label_defined (token_of token.entry)) }
 {
     let Token::Word(word) = token else {
         return Err(LineError::Fault(Fault::BadOperation));
     };
-    if begins_with_dot(word) {
+    if matches!(word, [b'.', ..]) {
         return Err(LineError::Fault(Fault::BadOperation));
     }
     let name = without_colon(word);
@@ -53,13 +47,10 @@ pub fn label_defined(alloc: Global, token: Token<'_>) -> Result<String, LineErro
 fn operation_order(started: bool, operation: Operation) -> Option<Fault>
     ensures value { result ≡ operation_order started operation }
 {
-    match operation {
-        Operation::Origin => if started {
-            Some(Fault::SecondOrig)
-        } else {
-            None
-        },
-        _ => if started { None } else { Some(Fault::NoOrig) },
+    match (operation, started) {
+        (Operation::Origin, true) => Some(Fault::SecondOrig),
+        (Operation::Origin, false) | (_, true) => None,
+        (_, false) => Some(Fault::NoOrig),
     }
 }
 
@@ -132,14 +123,11 @@ impl Line {
     {
         match self {
             Line::Operates {
-                operation: Operation::Origin | Operation::End,
-                ..
-            } => 0,
-            Line::Operates {
                 operation,
                 operands,
                 ..
             } => match (operation, operands.first()) {
+                (Operation::Origin | Operation::End, _) => 0,
                 (Operation::Block, Some(Operand::Number(count))) => count.unsigned_abs(),
                 (Operation::Text, Some(Operand::Characters(characters))) => characters.len() as u64
                     + 1,
@@ -154,13 +142,12 @@ impl Line {
         ensures label { option_map (λ name. name.now) result ≡ label_of (seen_line self.now) }
     {
         match self {
-            Line::Blank => None,
-            Line::LabelAlone(name) => Some(name.as_str()),
-            Line::Operates {
+            Line::LabelAlone(name)
+            | Line::Operates {
                 label: Some(name),
                 ..
             } => Some(name.as_str()),
-            Line::Operates { label: None, .. } => None,
+            _ => None,
         }
     }
 

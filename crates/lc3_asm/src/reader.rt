@@ -4,7 +4,7 @@ ghost use Rattle.std.specs.Prelude.{◌≡◌, ◌+◌, ◌≤◌, ◌<◌, sum_
 ghost use Rattle.std.specs.List.{list_any};
 ghost use Rattle.lc3_word.specs.Segment.{first_device};
 ghost use Rattle.lc3_asm.specs.Texts.{is_origin, is_end, origin, labels, address_after, place_fault, is_duplicate, label_of};
-ghost use Rattle.lc3_table.specs.Statements.{Line, option_or};
+ghost use Rattle.lc3_table.specs.Statements.{Line};
 ghost use Rattle.lc3_table.specs.Meaning.{size};
 ghost use Rattle.lc3_asm.specs.Results.{Gives};
 ghost use Rattle.lc3_asm.specs.Views.{seen_line, token_of};
@@ -27,10 +27,7 @@ use std::marker::Model;
 pub fn has_faults(faults: &[LineFault]) -> bool
     ensures value { result ≡ has_faults faults.now }
 {
-    match faults {
-        [] => false,
-        [_, ..] => true,
-    }
+    !faults.is_empty()
 }
 
 fn has_too_long(faults: &[LineFault]) -> bool
@@ -84,16 +81,7 @@ fn operation_named(tokens: &[Token<'_>]) -> Option<Operation>
     match tokens {
         [] => None,
         [first] => token_operation(*first),
-        [first, second, ..] => first_of(token_operation(*first), token_operation(*second)),
-    }
-}
-
-fn first_of(first: Option<Operation>, second: Option<Operation>) -> Option<Operation>
-    ensures value { result ≡ option_or first second }
-{
-    match first {
-        Some(operation) => Some(operation),
-        None => second,
+        [first, second, ..] => token_operation(*first).or(token_operation(*second)),
     }
 }
 

@@ -85,7 +85,7 @@ pub fn upper(alloc: Global, word: &[u8]) -> Result<String, AllocError>
 }
 
 /// The first character that a string writes, and what follows it.
-fn first_character(text: &[u8]) -> Option<(u8, &[u8])>
+pub fn first_character(text: &[u8]) -> Option<(u8, &[u8])>
     requires nonempty { 0 < length text.now }
     ensures none { IfNone result (characters text.now ≡ None) }
     ensures first { IfSome result
@@ -138,17 +138,10 @@ pub fn fault_in(token: Token<'_>) -> Option<Fault>
     ensures value { result ≡ fault_in (token_of token.entry) }
 {
     match token {
-        Token::Word(word) => if is_printable(word) {
-            None
-        } else {
-            Some(Fault::BadToken)
-        },
-        Token::Quoted(text) => if is_string(text) {
-            None
-        } else {
-            Some(Fault::BadString)
-        },
-        Token::Unclosed => Some(Fault::BadString),
+        Token::Word(word) if is_printable(word) => None,
+        Token::Word(_) => Some(Fault::BadToken),
+        Token::Quoted(text) if is_string(text) => None,
+        Token::Quoted(_) | Token::Unclosed => Some(Fault::BadString),
     }
 }
 

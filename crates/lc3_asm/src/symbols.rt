@@ -118,8 +118,5 @@ fn push_line(text: &mut String, name: &str, address: u16) -> Result<(), AllocErr
         ≡ string_bytes text.old ++ symbol_line name.now address) }
 {
     let place = Hex(address);
-    match write!(text, "{name} {place}\n") {
-        Ok(()) => Ok(()),
-        Err(e) => Err(e),
-    }
+    write!(text, "{name} {place}\n")
 }

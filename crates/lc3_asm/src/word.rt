@@ -63,10 +63,7 @@ pub const LABEL_LENGTH: usize = 80;
 fn begins_with_digit(word: &[u8]) -> bool
     ensures value { result ≡ begins_with_digit word.now }
 {
-    match word.first() {
-        Some(byte) => byte.is_ascii_digit(),
-        None => false,
-    }
+    matches!(word, [b'0'..=b'9', ..])
 }
 
 fn is_label_bytes(word: &[u8]) -> bool
