@@ -5,7 +5,7 @@ ghost use Rattle.lc3_asm.specs.Views.{token_of, seen_operand};
 ghost use Rattle.lc3_asm.specs.Results.{Gives};
 ghost use Rattle.lc3_table.specs.Words.{upper, register};
 ghost use Rattle.std.specs.List.{list_all};
-ghost use Rattle.lc3_table.specs.Statements.{is_between, characters, onto, fault_in, token_fault, operand_by_register, operand_by_number, operand, operands, all_operands, escape, is_string_byte, takes_register, takes_label, accepts, forms, token_operation, without_colon};
+ghost use Rattle.lc3_table.specs.Statements.{is_between, characters, onto, fault_in, token_fault, operand_by_register, operand_by_number, operand, all_operands, escape, is_string_byte, takes_register, takes_label, accepts, forms, token_operation, without_colon};
 ghost use Rattle.lc3_word.specs.Numbers.{number};
 ghost use Rattle.lc3_table.specs.Tokens.{Word};
 
@@ -230,21 +230,7 @@ pub fn token_operand(alloc: Global, form: Form, token: Token<'_>) -> Result<Oper
     }
 }
 
-/// The operands, or the leftmost fault among them.
-fn operands(alloc: Global, forms: &[Form], tokens: &[Token<'_>]) -> Result<Vec<Operand>, LineError>
-    requires count { length forms.now ≡ length tokens.now }
-    ensures exact { Gives (λ v. map seen_operand v.items) result
-        (operands forms.now (map token_of tokens.now)) }
-{
-    let mut found = Vec::new(alloc);
-    for (i, token) in tokens.iter().enumerate() {
-        let operand = token_operand(alloc, forms[i], *token)?;
-        found.push(operand)?;
-    }
-    Ok(found)
-}
-
-/// The operands, of which there are as many as the operation takes.
+/// The operands, of which there are as many as the operation takes; or the leftmost fault among them.
 pub fn all_operands(
     alloc: Global,
     forms: &[Form],
@@ -253,9 +239,13 @@ pub fn all_operands(
     ensures exact { Gives (λ v. map seen_operand v.items) result
         (all_operands forms.now (map token_of tokens.now)) }
 {
-    if forms.len() == tokens.len() {
-        operands(alloc, forms, tokens)
-    } else {
-        Err(LineError::Fault(Fault::BadOperands))
+    if forms.len() != tokens.len() {
+        return Err(LineError::Fault(Fault::BadOperands));
     }
+    let mut found = Vec::new(alloc);
+    for (i, token) in tokens.iter().enumerate() {
+        let operand = token_operand(alloc, forms[i], *token)?;
+        found.push(operand)?;
+    }
+    Ok(found)
 }
