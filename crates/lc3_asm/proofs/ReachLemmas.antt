@@ -105,6 +105,29 @@ record Written (values : List ℕ → Option ℕ) (address : ℕ) (o : Operation
 register-fits : (r : ℕ) (b : Bool) → ((true && nat_lt r 8) && b) ≡ true → r < 8
 register-fits r b h = ltb-true r 8 (and_parts (nat_lt r 8) b h).0
 
+-- the instruction of a register and a label
+registered : (values : List ℕ → Option ℕ) (address : ℕ) (o : Operation) (make : ℤ → Instr) (r : ℕ) (m ws : List ℕ) → all_fit (form.Register ∷ form.Target ∷ []) (Register r ∷ Label m ∷ []) ≡ true
+    → ((z : ℤ) → instruction o (field.Register r ∷ field.Number z ∷ []) ≡ Some (make z)) → ((z : ℤ) → pc_offset (make z) ≡ Some z)
+    → ((z : ℤ) → words_of_fields o (Register r ∷ Label m ∷ []) (field.Register r ∷ field.Number z ∷ []) ≡ word_of (make z) ∷ []) → ((z : ℤ) → r < 8 → IsSigned 9 z → IsInstruction (make z))
+    → (resolved_fields values address (form.Register ∷ form.Target ∷ []) (Register r ∷ Label m ∷ []) >>= λ ys. Ok (words_of_fields o (Register r ∷ Label m ∷ []) ys)) ≡ Ok ws
+    → Written values address o (Register r ∷ Label m ∷ []) m ws
+registered values address o make r m ws h written offset word fits e =
+    let ys = then-ok (resolved_fields values address (form.Register ∷ form.Target ∷ []) (Register r ∷ Label m ∷ [])) (λ ys. Ok (words_of_fields o (Register r ∷ Label m ∷ []) ys)) ws e in
+    let y = two-fields values address r form.Target m ys.0 ys.1 in
+    let near = near9 values address m y.0 y.1 in
+    let words : words_of_fields o (Register r ∷ Label m ∷ []) ys.0 ≡ ws = ok-same _ ws ys.2 in
+    record {
+      written = make near.offset;
+      offset = near.offset;
+      target = near.target;
+      written_is = written near.offset;
+      offset_is = offset near.offset;
+      target_is = near.target_is;
+      is_instruction = fits near.offset (register-fits r (true && true) h) near.signed;
+      word_is = sym words ∙ ap (words_of_fields o (Register r ∷ Label m ∷ [])) (y.2 ∙ ap (λ x. field.Register r ∷ x ∷ []) near.field_is) ∙ word near.offset;
+      reaches = near.reaches;
+    }
+
 written : (values : List ℕ → Option ℕ) (address : ℕ) (o : Operation) (xs : List Operand) (name ws : List ℕ) → all_fit (forms o) xs ≡ true → target_named o xs ≡ Some name
     → (resolved_fields values address (forms o) xs >>= λ ys. Ok (words_of_fields o xs ys)) ≡ Ok ws → Written values address o xs name ws
 unfolding instruction
@@ -144,89 +167,19 @@ written values address op.JumpSubroutine (Label m ∷ []) name ws h t e =
     })
 written values address op.Load (Register r ∷ Label m ∷ []) name ws h t e =
     let same : m ≡ name = cc in
-    let ys = then-ok (resolved_fields values address (form.Register ∷ form.Target ∷ []) (Register r ∷ Label m ∷ [])) (λ ys. Ok (words_of_fields op.Load (Register r ∷ Label m ∷ []) ys)) ws e in
-    let y = two-fields values address r form.Target m ys.0 ys.1 in
-    let near = near9 values address m y.0 y.1 in
-    let word : words_of_fields op.Load (Register r ∷ Label m ∷ []) ys.0 ≡ ws = ok-same _ ws ys.2 in
-    rw (← same) (record {
-      written = Ld r near.offset;
-      offset = near.offset;
-      target = near.target;
-      written_is = refl;
-      offset_is = refl;
-      target_is = near.target_is;
-      is_instruction = (register-fits r (true && true) h, near.signed);
-      word_is = sym word ∙ ap (words_of_fields op.Load (Register r ∷ Label m ∷ [])) (y.2 ∙ ap (λ x. field.Register r ∷ x ∷ []) near.field_is);
-      reaches = near.reaches;
-    })
+    rw (← same) (registered values address op.Load (Ld r) r m ws h (λ z. refl) (λ z. refl) (λ z. refl) (λ z below signed. (below, signed)) e)
 written values address op.LoadIndirect (Register r ∷ Label m ∷ []) name ws h t e =
     let same : m ≡ name = cc in
-    let ys = then-ok (resolved_fields values address (form.Register ∷ form.Target ∷ []) (Register r ∷ Label m ∷ [])) (λ ys. Ok (words_of_fields op.LoadIndirect (Register r ∷ Label m ∷ []) ys)) ws e in
-    let y = two-fields values address r form.Target m ys.0 ys.1 in
-    let near = near9 values address m y.0 y.1 in
-    let word : words_of_fields op.LoadIndirect (Register r ∷ Label m ∷ []) ys.0 ≡ ws = ok-same _ ws ys.2 in
-    rw (← same) (record {
-      written = Ldi r near.offset;
-      offset = near.offset;
-      target = near.target;
-      written_is = refl;
-      offset_is = refl;
-      target_is = near.target_is;
-      is_instruction = (register-fits r (true && true) h, near.signed);
-      word_is = sym word ∙ ap (words_of_fields op.LoadIndirect (Register r ∷ Label m ∷ [])) (y.2 ∙ ap (λ x. field.Register r ∷ x ∷ []) near.field_is);
-      reaches = near.reaches;
-    })
+    rw (← same) (registered values address op.LoadIndirect (Ldi r) r m ws h (λ z. refl) (λ z. refl) (λ z. refl) (λ z below signed. (below, signed)) e)
 written values address op.LoadAddress (Register r ∷ Label m ∷ []) name ws h t e =
     let same : m ≡ name = cc in
-    let ys = then-ok (resolved_fields values address (form.Register ∷ form.Target ∷ []) (Register r ∷ Label m ∷ [])) (λ ys. Ok (words_of_fields op.LoadAddress (Register r ∷ Label m ∷ []) ys)) ws e in
-    let y = two-fields values address r form.Target m ys.0 ys.1 in
-    let near = near9 values address m y.0 y.1 in
-    let word : words_of_fields op.LoadAddress (Register r ∷ Label m ∷ []) ys.0 ≡ ws = ok-same _ ws ys.2 in
-    rw (← same) (record {
-      written = Lea r near.offset;
-      offset = near.offset;
-      target = near.target;
-      written_is = refl;
-      offset_is = refl;
-      target_is = near.target_is;
-      is_instruction = (register-fits r (true && true) h, near.signed);
-      word_is = sym word ∙ ap (words_of_fields op.LoadAddress (Register r ∷ Label m ∷ [])) (y.2 ∙ ap (λ x. field.Register r ∷ x ∷ []) near.field_is);
-      reaches = near.reaches;
-    })
+    rw (← same) (registered values address op.LoadAddress (Lea r) r m ws h (λ z. refl) (λ z. refl) (λ z. refl) (λ z below signed. (below, signed)) e)
 written values address op.Store (Register r ∷ Label m ∷ []) name ws h t e =
     let same : m ≡ name = cc in
-    let ys = then-ok (resolved_fields values address (form.Register ∷ form.Target ∷ []) (Register r ∷ Label m ∷ [])) (λ ys. Ok (words_of_fields op.Store (Register r ∷ Label m ∷ []) ys)) ws e in
-    let y = two-fields values address r form.Target m ys.0 ys.1 in
-    let near = near9 values address m y.0 y.1 in
-    let word : words_of_fields op.Store (Register r ∷ Label m ∷ []) ys.0 ≡ ws = ok-same _ ws ys.2 in
-    rw (← same) (record {
-      written = St r near.offset;
-      offset = near.offset;
-      target = near.target;
-      written_is = refl;
-      offset_is = refl;
-      target_is = near.target_is;
-      is_instruction = (register-fits r (true && true) h, near.signed);
-      word_is = sym word ∙ ap (words_of_fields op.Store (Register r ∷ Label m ∷ [])) (y.2 ∙ ap (λ x. field.Register r ∷ x ∷ []) near.field_is);
-      reaches = near.reaches;
-    })
+    rw (← same) (registered values address op.Store (St r) r m ws h (λ z. refl) (λ z. refl) (λ z. refl) (λ z below signed. (below, signed)) e)
 written values address op.StoreIndirect (Register r ∷ Label m ∷ []) name ws h t e =
     let same : m ≡ name = cc in
-    let ys = then-ok (resolved_fields values address (form.Register ∷ form.Target ∷ []) (Register r ∷ Label m ∷ [])) (λ ys. Ok (words_of_fields op.StoreIndirect (Register r ∷ Label m ∷ []) ys)) ws e in
-    let y = two-fields values address r form.Target m ys.0 ys.1 in
-    let near = near9 values address m y.0 y.1 in
-    let word : words_of_fields op.StoreIndirect (Register r ∷ Label m ∷ []) ys.0 ≡ ws = ok-same _ ws ys.2 in
-    rw (← same) (record {
-      written = Sti r near.offset;
-      offset = near.offset;
-      target = near.target;
-      written_is = refl;
-      offset_is = refl;
-      target_is = near.target_is;
-      is_instruction = (register-fits r (true && true) h, near.signed);
-      word_is = sym word ∙ ap (words_of_fields op.StoreIndirect (Register r ∷ Label m ∷ [])) (y.2 ∙ ap (λ x. field.Register r ∷ x ∷ []) near.field_is);
-      reaches = near.reaches;
-    })
+    rw (← same) (registered values address op.StoreIndirect (Sti r) r m ws h (λ z. refl) (λ z. refl) (λ z. refl) (λ z below signed. (below, signed)) e)
 written values address o xs name ws h t e = cc
 
 -- such a line stands behind the `.ORIG`

@@ -1,6 +1,6 @@
 //! The lines of a text with their faults: the reading goes on behind a faulty line.
 
-ghost use Rattle.std.specs.Prelude.{◌≡◌, ◌+◌, ◌≤◌, ◌<◌, sum_by, List, [], ◌∷◌, ◌++◌, map, None, IfOk, OnOk, IfNone, length, nat_le, true, false, option_map, string_bytes, unwrap_or, ◌||◌};
+ghost use Rattle.std.specs.Prelude.{◌≡◌, ◌+◌, ◌≤◌, ◌<◌, sum_by, [], ◌∷◌, ◌++◌, map, None, IfOk, OnOk, IfNone, length, nat_le, true, false, option_map, string_bytes, unwrap_or, ◌||◌};
 ghost use Rattle.std.specs.List.{list_any};
 ghost use Rattle.lc3_word.specs.Segment.{first_device};
 ghost use Rattle.lc3_asm.specs.Texts.{is_origin, is_end, origin, labels, address_after, place_fault, is_duplicate, label_of};

@@ -5,7 +5,7 @@ ghost use Rattle.lc3_asm.specs.Views.{token_of, seen_operand};
 ghost use Rattle.lc3_asm.specs.Results.{Gives};
 ghost use Rattle.lc3_table.specs.Words.{upper, register};
 ghost use Rattle.std.specs.List.{list_all};
-ghost use Rattle.lc3_table.specs.Statements.{is_between, characters, onto, fault_in, token_fault, operand_by_register, operand_by_number, operand, all_operands, escape, is_string_byte, takes_register, takes_label, accepts, forms, token_operation, without_colon};
+ghost use Rattle.lc3_table.specs.Statements.{is_between, characters, onto, fault_in, token_fault, operand_by_register, operand_by_number, operand, all_operands, escape, takes_register, takes_label, accepts, forms, token_operation, without_colon};
 ghost use Rattle.lc3_word.specs.Numbers.{number};
 ghost use Rattle.lc3_table.specs.Tokens.{Word};
 
@@ -44,12 +44,6 @@ fn escape(byte: u8) -> Option<u8>
         b'"' | b'\\' => Some(byte),
         _ => None,
     }
-}
-
-fn is_string_byte(byte: u8) -> bool
-    ensures value { result ≡ is_string_byte byte }
-{
-    matches!(byte, 0x20..=0x7E | b'\t')
 }
 
 /// The operation or directive that a token names.
@@ -94,7 +88,8 @@ pub fn first_character(text: &[u8]) -> Option<(u8, &[u8])>
 {
     match text {
         [b'\\', code, rest @ ..] => Some((escape(*code)?, rest)),
-        [byte, rest @ ..] if *byte != b'\\' && is_string_byte(*byte) => Some((*byte, rest)),
+        [b'\\', ..] => None,
+        [byte @ (b' '..=b'~' | b'\t'), rest @ ..] => Some((*byte, rest)),
         _ => None,
     }
 }
