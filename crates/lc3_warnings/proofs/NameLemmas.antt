@@ -4,23 +4,15 @@ use Rattle.std.specs.Prelude.{bytes_eq, string_bytes, String, cond}
 use Rattle.std.specs.List.{list_any}
 use Rattle.std.specs.HashSet.{HashSet, contains_text}
 use Rattle.std.proofs.lemmas.List.{take_more, map-append}
-use Rattle.std.proofs.lemmas.List.Folds.{list_any_none}
+use Rattle.std.proofs.lemmas.List.Folds.{list_any_none, list_any-append}
 use Rattle.std.proofs.lemmas.Slice.Eq.{bytes_eq-Decides}
 use Rattle.lc3_spelling.specs.Edits.{near_edits, IsNearest}
 use Rattle.lc3_warnings.specs.Labels.{bare_operations, is_near}
 use Rattle.lc3_warnings.specs.Private.Names.{is_among}
 
-or-assoc : (a b c : Bool) → ((a || b) || c) ≡ (a || (b || c))
-or-assoc true b c = refl
-or-assoc false b c = refl
-
-pub or-false : (a : Bool) → (a || false) ≡ a
+or-false : (a : Bool) → (a || false) ≡ a
 or-false true = refl
 or-false false = refl
-
-pub any-append : {X : Type 0} (p : X → Bool) (xs ys : List X) → list_any p (xs ++ ys) ≡ (list_any p xs || list_any p ys)
-any-append p [] ys = refl
-any-append p (x ∷ xs) ys = ap (λ b. p x || b) (any-append p xs ys) ∙ sym (or-assoc (p x) (list_any p xs) (list_any p ys))
 
 -- one element more in which something may be found
 pub any-more : {X Y : Type 0} (p : Y → Bool) (f : X → Y) (xs : List X) (i : ℕ) (d x : X) → i < length xs → x ≡ get_or xs i d
@@ -28,15 +20,8 @@ pub any-more : {X Y : Type 0} (p : Y → Bool) (f : X → Y) (xs : List X) (i : 
 any-more p f xs i d x h is =
     ap (λ ys. list_any p (map f ys)) (take_more xs i d h ∙ ap (λ y. take i xs ++ y ∷ []) (sym is))
     ∙ ap (list_any p) (map-append f (take i xs) (x ∷ []))
-    ∙ any-append p (map f (take i xs)) (f x ∷ [])
+    ∙ list_any-append p (map f (take i xs)) (f x ∷ [])
     ∙ ap (λ b. list_any p (map f (take i xs)) || b) (or-false (p (f x)))
-
--- the same behind something else
-pub any-behind : {X Y : Type 0} (p : Y → Bool) (f : X → Y) (xs : List X) (i : ℕ) (d x : X) → i < length xs → x ≡ get_or xs i d
-    → (a b c : Bool) → b ≡ (a || list_any p (map f (take i xs))) → c ≡ (b || p (f x)) → c ≡ (a || list_any p (map f (take (i + 1) xs)))
-any-behind p f xs i d x h is a b c e g =
-    g ∙ ap (λ u. u || p (f x)) e ∙ or-assoc a (list_any p (map f (take i xs))) (p (f x))
-    ∙ ap (λ u. a || u) (sym (any-more p f xs i d x h is))
 
 -- what labels contain, by the words that are kept
 pub among-kept : {Z : Type 0} (name : List ℕ) (ks : List (String Z)) → list_any (λ k. bytes_eq name (string_bytes k)) ks ≡ is_among (map string_bytes ks) name

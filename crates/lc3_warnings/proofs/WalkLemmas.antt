@@ -1,7 +1,7 @@
 -- The warnings of one more line.
-use Rattle.std.proofs.Common.{◌≡◌, ℕ, zero, suc, ◌+◌, ◌<◌, Bool, List, [], ◌∷◌, ◌++◌, length, take, drop, map, get_or, reverse, refl, ap, sym, ◌∙◌, append_assoc, arith, Option, Some, None, length-drop}
+use Rattle.std.proofs.Common.{◌≡◌, ℕ, ◌+◌, ◌<◌, Bool, List, [], ◌∷◌, ◌++◌, length, take, drop, map, get_or, reverse, refl, ap, sym, ◌∙◌, append_assoc, arith, Option, Some, None, length-drop}
 use Rattle.std.specs.List.{flat_map}
-use Rattle.std.proofs.lemmas.List.{drop_more, drop_all, take_more, map-append, drop-drop, length-map}
+use Rattle.std.proofs.lemmas.List.{drop_more, drop_all, take_more, map-append, drop-drop, length-map, length-take-le}
 use Rattle.lc3_table.specs.Statements.{Line, Operand, option_or}
 use Rattle.lc3_asm.specs.Views.{seen_line}
 use Rattle.lc3_asm.specs.declared.line.Line.{Line as Read}
@@ -37,11 +37,6 @@ rest-none xs i n e h =
     let none : 0 ≡ length (drop i xs) = ap length e in
     sym (drop_all n xs (omega (arith, none, length-drop i xs, h)))
 
-front-length : (xs : List Read) (i : ℕ) → i < length xs → length (map seen_line (take i xs)) ≡ i
-front-length [] i h = absurd (omega (arith, h))
-front-length (x ∷ xs) zero h = refl
-front-length (x ∷ xs) (suc i) h = ap suc (front-length xs i (omega (arith, h)))
-
 pub lines-none : (s : Setting) (before : List (Line Operand)) (texts : List (List ℕ)) → lines_told s before texts [] ≡ []
 lines-none s before [] = refl
 lines-none s before (bytes ∷ texts) = refl
@@ -69,7 +64,7 @@ module _ (read : List Read) (i : ℕ) (d x : Read) (h : i < length read) (is : x
       let behind = map seen_line (drop (i + 1) read) in
       let tail = lines_told s (map seen_line (take (i + 1) read)) rest behind in
       let own = flat_map (told (length before + 1)) (line_kinds s bytes (seen_line x) (around before (seen_line x) behind) (reverse before)) in
-      let count : i ≡ length before = sym (front-length read i h) in
+      let count : i ≡ length before = sym (length-map (take i read) seen_line ∙ length-take-le i read (omega (arith, h))) in
       let next : n ≡ next_from (length before + 1) behind = e ∙ ap (λ k. next_from (k + 1) behind) count in
       let one : flat_map (told (length (take i read) + 1)) (line_kinds s bytes (seen_line x) (record { previous = p; here = o; next = n }) (reverse before)) ≡ own =
       ap (λ k. flat_map (told (k + 1)) (line_kinds s bytes (seen_line x) (record { previous = p; here = o; next = n }) (reverse before))) (sym (length-map (take i read) seen_line))

@@ -2,9 +2,8 @@
 
 ghost use Rattle.std.specs.Prelude.{◌≡◌, map, reverse, option_map};
 ghost use Rattle.lc3_warnings.specs.Private.Names.{is_among};
-ghost use Rattle.lc3_asm.specs.Views.{seen_line, seen_operand};
-ghost use Rattle.lc3_warnings.specs.Flows.{trap_flow_of};
-ghost use Rattle.lc3_warnings.specs.Codes.{reads_codes, keeps_codes, where_codes_come_from, taken_by, trap_takes, sets_codes, is_beyond, sets_codes_beyond, stale_from, stale_codes};
+ghost use Rattle.lc3_asm.specs.Views.{seen_line};
+ghost use Rattle.lc3_warnings.specs.Codes.{reads_codes, keeps_codes, where_codes_come_from, trap_takes, sets_codes, sets_codes_beyond, stale_from, stale_codes};
 
 use crate::flow::{Flow, is_call, last_with_words, trap_flow_of};
 use crate::names::Names;
@@ -64,20 +63,7 @@ fn where_codes_come_from<'a>(named: &Names, line: &Line, above: &'a [Line]) -> &
     &[]
 }
 
-/// How many registers a TRAP takes, from R0 on, behind which execution goes on.
-fn taken_by(operands: &[Operand]) -> Option<u8>
-    ensures value { result ≡ taken_by
-        (trap_flow_of (map seen_operand operands.now)) (map seen_operand operands.now) }
-{
-    match (trap_flow_of(operands), operands.first()) {
-        (Flow::GoesOn, Some(Operand::Number(vector))) => {
-            Some(if is_call(*vector) { 4 } else { 1 })
-        }
-        _ => None,
-    }
-}
-
-/// The same of the trap that a line is.
+/// How many registers the trap that a line is takes, from R0 on, if execution goes on behind it.
 fn trap_takes(line: &Line) -> Option<u8>
     ensures value { result ≡ trap_takes (seen_line line.now) }
 {
@@ -90,7 +76,12 @@ fn trap_takes(line: &Line) -> Option<u8>
         return None;
     };
     match operation {
-        Operation::Trap => taken_by(operands),
+        Operation::Trap => match (trap_flow_of(operands), operands.first()) {
+            (Flow::GoesOn, Some(Operand::Number(vector))) => {
+                Some(if is_call(*vector) { 4 } else { 1 })
+            }
+            _ => None,
+        },
         Operation::Getc | Operation::Out | Operation::Puts | Operation::In | Operation::Putsp =>
             Some(1),
         _ => None,
@@ -111,15 +102,6 @@ fn sets_codes(operation: Operation) -> bool
     )
 }
 
-fn is_beyond(count: u8, operands: &[Operand]) -> bool
-    ensures value { result ≡ is_beyond count (map seen_operand operands.now) }
-{
-    match operands.first() {
-        Some(Operand::Register(register)) => count <= register.number(),
-        _ => false,
-    }
-}
-
 /// Whether a line sets the codes by a register behind the first `count`.
 fn sets_codes_beyond(count: u8, line: Option<&Line>) -> bool
     ensures value { result
@@ -132,7 +114,10 @@ fn sets_codes_beyond(count: u8, line: Option<&Line>) -> bool
                 operands,
                 ..
             },
-        ) => sets_codes(*operation) && is_beyond(count, operands),
+        ) => match operands.first() {
+            Some(Operand::Register(first)) => sets_codes(*operation) && count <= first.number(),
+            _ => false,
+        },
         _ => false,
     }
 }

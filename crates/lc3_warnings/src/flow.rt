@@ -2,7 +2,7 @@
 
 ghost use Rattle.std.specs.Prelude.{◌≡◌, ◌+◌, map, drop, ◌≤◌, length, ◌||◌, reverse, option_map};
 ghost use Rattle.lc3_asm.specs.Views.{seen_line, seen_operand};
-ghost use Rattle.lc3_warnings.specs.Flows.{is_call, is_known_trap, trap_flow, trap_flow_of, operation_flow, flow_of, first_with_words, prints_string, next_from};
+ghost use Rattle.lc3_warnings.specs.Flows.{is_call, is_known_trap, trap_flow_of, operation_flow, flow_of, first_with_words, prints_string, next_from};
 
 use lc3_asm::{Line, Operand};
 use lc3_table::{ConsoleTrap, Operation, is_kernel_vector};
@@ -46,21 +46,13 @@ pub fn is_known_trap(vector: i64) -> bool
     }
 }
 
-fn trap_flow(vector: i64) -> Flow
-    ensures value { result ≡ trap_flow vector }
-{
-    if is_known_trap(vector) && vector != i64::from(ConsoleTrap::Halt.vector()) {
-        Flow::GoesOn
-    } else {
-        Flow::Stops
-    }
-}
-
 pub fn trap_flow_of(operands: &[Operand]) -> Flow
     ensures value { result ≡ trap_flow_of (map seen_operand operands.now) }
 {
     match operands.first() {
-        Some(Operand::Number(vector)) => trap_flow(*vector),
+        Some(Operand::Number(vector))
+            if !is_known_trap(*vector) || *vector == i64::from(ConsoleTrap::Halt.vector()) =>
+            Flow::Stops,
         _ => Flow::GoesOn,
     }
 }

@@ -16,7 +16,7 @@ use crate::strings::loaded_string;
 use crate::unused::unused_label;
 use crate::warning::{Kind, Warning};
 use lc3_asm::Line;
-use std::alloc::{AllocError, Global};
+use std::alloc::AllocError;
 
 fn if_accepted(accepted: bool, kind: Option<Kind>) -> Option<Kind>
     ensures value { result ≡ if_accepted accepted kind }
@@ -40,20 +40,35 @@ fn push_kinds(
     Ok(())
 }
 
-/// Adds the warnings of a line, which stands so behind these lines.
+/// A line where it stands in its text.
+#[derive(Clone, Copy)]
+pub struct Standing<'a> {
+    pub bytes: &'a [u8],
+    pub line: &'a Line,
+    /// The lines before it.
+    pub before: &'a [Line],
+    pub around: Around,
+}
+
+/// Adds the warnings of a line.
 pub fn push_line(
-    alloc: Global,
     found: &mut Vec<Warning>,
     setting: &Settings,
-    before: &[Line],
-    bytes: &[u8],
-    line: &Line,
-    around: Around,
+    standing: Standing<'_>,
 ) -> Result<(), AllocError>
     ensures told { OnOk result (found.new.items ≡ found.old.items
-        ++ flat_map (told (length before.now + 1)) (line_kinds (seen_setting setting.now) bytes.now
-        (seen_line line.now) around (reverse (map seen_line before.now)))) }
+        ++ flat_map (told (length standing.entry.before.now + 1))
+        (line_kinds (seen_setting setting.now) standing.entry.bytes.now
+        (seen_line standing.entry.line.now) standing.entry.around
+        (reverse (map seen_line standing.entry.before.now)))) }
 {
+    let Standing {
+        bytes,
+        line,
+        before,
+        around,
+    } = standing;
+    let alloc = *found.allocator();
     let accepted = setting.accepted;
     let misspelt = misspelt(alloc, &setting.named, &setting.mentioned, bytes, line)?;
     let unused = unused_label(alloc, &setting.named, bytes, line, around)?;

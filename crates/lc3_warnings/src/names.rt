@@ -86,10 +86,7 @@ impl Names {
     pub fn has_label_of(&self, line: &Line) -> bool
         ensures value { result ≡ defines_one (is_among self.now) (seen_line line.now) }
     {
-        match line.label() {
-            Some(name) => self.contains(name),
-            None => false,
-        }
+        line.label().is_some_and(|name| self.contains(name))
     }
 }
 

@@ -3,7 +3,7 @@
 ghost use Rattle.std.specs.Prelude.{◌≡◌, ◌≤◌, map, []};
 ghost use Rattle.lc3_table.specs.Tokens.{tokens};
 ghost use Rattle.lc3_asm.specs.Views.{seen_line, seen_operand};
-ghost use Rattle.lc3_warnings.specs.Numbers.{is_in_digits_of_bits, field_value, is_bits_of, wrapped, wrapped_in, number_in, number_among, last_form, last_word, wraps_as, wraps, unknown_trap, decimal_as, decimal_origin};
+ghost use Rattle.lc3_warnings.specs.Numbers.{is_in_digits_of_bits, field_value, is_bits_of, wrapped, wrapped_in, number_in, number_among, last_word, wraps, unknown_trap, decimal_as, decimal_origin};
 
 use crate::flow::is_known_trap;
 use crate::warning::Kind;
@@ -89,13 +89,6 @@ fn number_among(operands: &[Operand]) -> Option<i64>
     None
 }
 
-/// What stands as the last operand.
-fn last_form(operation: Operation) -> Option<Form>
-    ensures value { result ≡ last_form operation }
-{
-    operation.forms().last().copied()
-}
-
 fn last_word(bytes: &[u8]) -> &[u8]
     ensures value { result.now ≡ last_word [] (tokens bytes.now) }
 {
@@ -110,15 +103,6 @@ fn last_word(bytes: &[u8]) -> &[u8]
     last
 }
 
-fn wraps_as(form: Form, word: &[u8], number: i64) -> Option<Kind>
-    ensures value { result ≡ wraps_as form word.now number }
-{
-    match wrapped_in(form, word, number) {
-        Some(value) => Some(Kind::Wraps { form, value }),
-        None => None,
-    }
-}
-
 /// Whether a number of the line means another one.
 pub fn wraps(bytes: &[u8], line: &Line) -> Option<Kind>
     ensures value { result ≡ wraps bytes.now (seen_line line.now) }
@@ -131,13 +115,10 @@ pub fn wraps(bytes: &[u8], line: &Line) -> Option<Kind>
     else {
         return None;
     };
-    let Some(number) = number_among(operands) else {
-        return None;
-    };
-    let Some(form) = last_form(*operation) else {
-        return None;
-    };
-    wraps_as(form, last_word(bytes), number)
+    let number = number_among(operands)?;
+    let form = operation.forms().last().copied()?;
+    let value = wrapped_in(form, last_word(bytes), number)?;
+    Some(Kind::Wraps { form, value })
 }
 
 pub fn unknown_trap(line: &Line) -> Option<Kind>

@@ -128,8 +128,6 @@ pub fn lost_return(profile: Profile, entries: &Names, line: &Line, above: &[Line
     if !is_return(line) {
         return None;
     }
-    match lost_in(profile, entries, line, above) {
-        Some(writer) => Some(Kind::LostReturn { writer }),
-        None => None,
-    }
+    let writer = lost_in(profile, entries, line, above)?;
+    Some(Kind::LostReturn { writer })
 }

@@ -3,10 +3,10 @@
 ghost use Rattle.std.specs.Prelude.{◌≡◌, ℕ, List, ◌||◌, ◌&&◌, map, reverse, option_map, IfOk, OnOk};
 ghost use Rattle.lc3_warnings.specs.Private.Names.{is_among};
 ghost use Rattle.lc3_asm.specs.Views.{seen_line, seen_operand};
-ghost use Rattle.lc3_warnings.specs.Strings.{is_string_from, has_label, strings, are_register_and, has_address, are_base_of, loads_word_of, printed_by, loaded_string};
+ghost use Rattle.lc3_warnings.specs.Strings.{is_string_from, has_label, strings, are_register_and, has_address, are_base_of, loads_word_of, loaded_string};
 
 use crate::around::Around;
-use crate::flow::{Next, flow_of, last_with_words};
+use crate::flow::{flow_of, last_with_words};
 use crate::names::Names;
 use crate::warning::Kind;
 use lc3_asm::{Line, Operand};
@@ -118,29 +118,15 @@ fn loads_word_of(labels: &Names, line: &Line, above: &[Line]) -> bool
     }
 }
 
-fn printed_by(next: Option<Next>) -> Option<Kind>
-    ensures value { result ≡ printed_by next }
-{
-    match next {
-        Some(
-            Next {
-                line,
-                prints: true,
-                ..
-            },
-        ) => Some(Kind::LoadedString { next: line }),
-        _ => None,
-    }
-}
-
 /// Whether a line below these loads a word of a string where the next line takes the address of one.
 pub fn loaded_string(labels: &Names, line: &Line, around: Around, above: &[Line]) -> Option<Kind>
     ensures value { result ≡ loaded_string (is_among labels.now) (seen_line line.now) around
         (reverse (map seen_line above.now)) }
 {
-    if loads_word_of(labels, line, above) {
-        printed_by(around.next)
-    } else {
-        None
+    match around.next {
+        Some(next) if next.prints && loads_word_of(labels, line, above) => {
+            Some(Kind::LoadedString { next: next.line })
+        }
+        _ => None,
     }
 }

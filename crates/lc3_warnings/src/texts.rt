@@ -1,14 +1,12 @@
 //! The names and the texts of warnings.
 
-ghost use Rattle.std.specs.Prelude.{◌≡◌, ◌++◌, Some, OnOk, string_bytes};
-ghost use Rattle.lc3_word.specs.Words.{number_text};
-ghost use Rattle.lc3_warnings.specs.Texts.{warning_name, field_text, taken_text, here_text, wraps_text, misspelt_text, unused_text, lost_text, names_text, address_text, meant_text, decimal_text, stale_text, loaded_text, into_data_text, after_end_text, warning_text};
+ghost use Rattle.std.specs.Prelude.{◌≡◌, ◌++◌, OnOk, string_bytes};
+ghost use Rattle.lc3_warnings.specs.Texts.{warning_name, field_text, unused_text, names_text, address_text, meant_text, decimal_text, warning_text};
 
 use crate::warning::Kind;
 use lc3_table::Form;
 use lc3_word::Hex;
 use std::alloc::AllocError;
-use std::fmt;
 use std::fmt::Write;
 
 impl Kind {
@@ -52,80 +50,37 @@ pub fn push_text(text: &mut String, kind: Kind, word: &str) -> Result<(), AllocE
         ≡ string_bytes text.old ++ warning_text kind word.now) }
 {
     match kind {
-        Kind::Wraps { form, value } => push_wraps(text, word, value, field_text(form)),
+        Kind::Wraps { form, value } => {
+            let field = field_text(form);
+            write!(text, "{word} is taken as #{value}; here stands {field}")
+        }
         Kind::UnknownTrap => text.push_str(
             "this trap ends the process as badtrap; the traps are x20 to x25, x40 to x46 and x50 to x56",
         ),
         Kind::DecimalOrigin { address } => push_decimal(text, word, address),
-        Kind::Misspelt => push_misspelt(text, word),
+        Kind::Misspelt => write!(text, "{word} is read as a label"),
         Kind::UnusedLabel => push_unused(text, word),
         Kind::StartsInData => text.push_str("execution begins here, and this is data"),
-        Kind::RunsIntoData { next } => push_into_data(text, next),
+        Kind::RunsIntoData { next } => write!(
+            text,
+            "execution goes on into the data of line {next}; is a HALT missing?"
+        ),
         Kind::RunsPastEnd => {
             text.push_str("execution goes on behind this last word; is a HALT missing?")
         }
-        Kind::LostReturn { writer } => push_lost(text, word, writer),
-        Kind::StaleCodes { trap } => push_stale(text, word, trap),
-        Kind::LoadedString { next } => push_loaded(text, word, next),
-        Kind::AfterEnd { end } => push_after_end(text, end),
-    }
-}
-
-/// A number as a message shows it.
-#[derive(Clone, Copy)]
-struct Shown {
-    number: i16,
-}
-
-impl fmt::Display for Shown {
-    ghost output = { λ s. Some (number_text s.number) };
-
-    fn fmt<W: fmt::Write>(&self, f: &mut fmt::Formatter<W>) -> fmt::Result {
-        let number = self.number;
-        write!(f, "#{number}")
-    }
-}
-
-#[tactic(auto, unfolding(crate::specs::Texts::taken_text))]
-fn push_taken(text: &mut String, word: &str, value: i16) -> Result<(), AllocError>
-    ensures text { OnOk result (string_bytes text.new
-        ≡ string_bytes text.old ++ taken_text word.now value) }
-{
-    let shown = Shown { number: value };
-    match write!(text, "{word} is taken as {shown}") {
-        Ok(()) => Ok(()),
-        Err(error) => Err(error),
-    }
-}
-
-#[tactic(auto, unfolding(crate::specs::Texts::here_text))]
-fn push_here(text: &mut String, field: &str) -> Result<(), AllocError>
-    ensures text { OnOk result (string_bytes text.new
-        ≡ string_bytes text.old ++ here_text field.now) }
-{
-    match write!(text, "; here stands {field}") {
-        Ok(()) => Ok(()),
-        Err(error) => Err(error),
-    }
-}
-
-#[tactic(auto, unfolding(crate::specs::Texts::wraps_text))]
-fn push_wraps(text: &mut String, word: &str, value: i16, field: &str) -> Result<(), AllocError>
-    ensures text { OnOk result (string_bytes text.new
-        ≡ string_bytes text.old ++ wraps_text word.now value field.now) }
-{
-    push_taken(text, word, value)?;
-    push_here(text, field)
-}
-
-#[tactic(auto, unfolding(crate::specs::Texts::misspelt_text))]
-fn push_misspelt(text: &mut String, word: &str) -> Result<(), AllocError>
-    ensures text { OnOk result (string_bytes text.new
-        ≡ string_bytes text.old ++ misspelt_text word.now) }
-{
-    match write!(text, "{word} is read as a label") {
-        Ok(()) => Ok(()),
-        Err(error) => Err(error),
+        Kind::LostReturn { writer } => write!(
+            text,
+            "{word} in line {writer} has written R7, so this goes back behind it; store R7 before it and load it again"
+        ),
+        Kind::StaleCodes { trap } => write!(
+            text,
+            "{word} in line {trap} sets no condition codes, so this reads those from before it; ADD R0,R0,#0 between them sets them by R0"
+        ),
+        Kind::LoadedString { next } => write!(
+            text,
+            "{word} loads a word into R0, and line {next} prints the string at the address in R0; LEA loads the address of a string"
+        ),
+        Kind::AfterEnd { end } => write!(text, "nothing behind the .END of line {end} is read"),
     }
 }
 
@@ -134,24 +89,7 @@ fn push_unused(text: &mut String, label: &str) -> Result<(), AllocError>
     ensures text { OnOk result (string_bytes text.new
         ≡ string_bytes text.old ++ unused_text label.now) }
 {
-    match write!(text, "no line names the label {label}") {
-        Ok(()) => Ok(()),
-        Err(error) => Err(error),
-    }
-}
-
-#[tactic(auto, unfolding(crate::specs::Texts::lost_text))]
-fn push_lost(text: &mut String, operation: &str, line: usize) -> Result<(), AllocError>
-    ensures text { OnOk result (string_bytes text.new
-        ≡ string_bytes text.old ++ lost_text operation.now line) }
-{
-    match write!(
-        text,
-        "{operation} in line {line} has written R7, so this goes back behind it; store R7 before it and load it again"
-    ) {
-        Ok(()) => Ok(()),
-        Err(error) => Err(error),
-    }
+    write!(text, "no line names the label {label}")
 }
 
 #[tactic(auto, unfolding(crate::specs::Texts::names_text))]
@@ -159,10 +97,7 @@ fn push_names(text: &mut String, word: &str) -> Result<(), AllocError>
     ensures text { OnOk result (string_bytes text.new
         ≡ string_bytes text.old ++ names_text word.now) }
 {
-    match write!(text, "{word} is decimal, the address ") {
-        Ok(()) => Ok(()),
-        Err(error) => Err(error),
-    }
+    write!(text, "{word} is decimal, the address ")
 }
 
 #[tactic(auto, unfolding(crate::specs::Texts::address_text))]
@@ -171,10 +106,7 @@ fn push_address(text: &mut String, address: u16) -> Result<(), AllocError>
         ≡ string_bytes text.old ++ address_text address) }
 {
     let shown = Hex(address);
-    match write!(text, "{shown}") {
-        Ok(()) => Ok(()),
-        Err(error) => Err(error),
-    }
+    write!(text, "{shown}")
 }
 
 #[tactic(auto, unfolding(crate::specs::Texts::meant_text))]
@@ -182,10 +114,7 @@ fn push_meant(text: &mut String, digits: u16) -> Result<(), AllocError>
     ensures text { OnOk result (string_bytes text.new
         ≡ string_bytes text.old ++ meant_text digits) }
 {
-    match write!(text, "; did you mean x{digits}?") {
-        Ok(()) => Ok(()),
-        Err(error) => Err(error),
-    }
+    write!(text, "; did you mean x{digits}?")
 }
 
 #[tactic(auto, unfolding(crate::specs::Texts::decimal_text))]
@@ -196,55 +125,4 @@ fn push_decimal(text: &mut String, word: &str, address: u16) -> Result<(), Alloc
     push_names(text, word)?;
     push_address(text, address)?;
     push_meant(text, address)
-}
-
-#[tactic(auto, unfolding(crate::specs::Texts::stale_text))]
-fn push_stale(text: &mut String, operation: &str, line: usize) -> Result<(), AllocError>
-    ensures text { OnOk result (string_bytes text.new
-        ≡ string_bytes text.old ++ stale_text operation.now line) }
-{
-    match write!(
-        text,
-        "{operation} in line {line} sets no condition codes, so this reads those from before it; ADD R0,R0,#0 between them sets them by R0"
-    ) {
-        Ok(()) => Ok(()),
-        Err(error) => Err(error),
-    }
-}
-
-#[tactic(auto, unfolding(crate::specs::Texts::loaded_text))]
-fn push_loaded(text: &mut String, operation: &str, line: usize) -> Result<(), AllocError>
-    ensures text { OnOk result (string_bytes text.new
-        ≡ string_bytes text.old ++ loaded_text operation.now line) }
-{
-    match write!(
-        text,
-        "{operation} loads a word into R0, and line {line} prints the string at the address in R0; LEA loads the address of a string"
-    ) {
-        Ok(()) => Ok(()),
-        Err(error) => Err(error),
-    }
-}
-
-fn push_into_data(text: &mut String, line: usize) -> Result<(), AllocError>
-    ensures text { OnOk result (string_bytes text.new
-        ≡ string_bytes text.old ++ into_data_text line) }
-{
-    match write!(
-        text,
-        "execution goes on into the data of line {line}; is a HALT missing?"
-    ) {
-        Ok(()) => Ok(()),
-        Err(error) => Err(error),
-    }
-}
-
-fn push_after_end(text: &mut String, line: usize) -> Result<(), AllocError>
-    ensures text { OnOk result (string_bytes text.new
-        ≡ string_bytes text.old ++ after_end_text line) }
-{
-    match write!(text, "nothing behind the .END of line {line} is read") {
-        Ok(()) => Ok(()),
-        Err(error) => Err(error),
-    }
 }

@@ -3,42 +3,24 @@
 ghost use Rattle.std.specs.Prelude.{◌≡◌, IfOk};
 ghost use Rattle.lc3_warnings.specs.Private.Names.{is_among};
 ghost use Rattle.lc3_asm.specs.Views.{seen_line};
-ghost use Rattle.lc3_warnings.specs.Labels.{is_for_reader, flow_behind, may_be_for_reader, unused_label};
+ghost use Rattle.lc3_warnings.specs.Labels.{may_be_for_reader, unused_label};
 
 use crate::around::Around;
-use crate::flow::{Flow, Next};
+use crate::flow::Flow;
 use crate::misspelt::was_meant;
 use crate::names::Names;
 use crate::warning::Kind;
 use lc3_asm::Line;
 use std::alloc::{AllocError, Global};
 
-fn is_for_reader(before: Option<Flow>, behind: Option<Flow>) -> bool
-    ensures value { result ≡ is_for_reader before behind }
-{
-    matches!(
-        (before, behind),
-        (None, _) | (Some(Flow::GoesOn), Some(Flow::GoesOn | Flow::Stops))
-    )
-}
-
-fn flow_behind(next: Option<Next>) -> Option<Flow>
-    ensures value { result ≡ flow_behind next }
-{
-    match next {
-        Some(next) => Some(next.flow),
-        None => None,
-    }
-}
-
 fn may_be_for_reader(around: Around) -> bool
     ensures value { result ≡ may_be_for_reader around }
 {
-    let behind = match around.here {
-        Some(flow) => Some(flow),
-        None => flow_behind(around.next),
-    };
-    is_for_reader(around.previous, behind)
+    let behind = around.here.or(around.next.map(|next| next.flow));
+    matches!(
+        (around.previous, behind),
+        (None, _) | (Some(Flow::GoesOn), Some(Flow::GoesOn | Flow::Stops))
+    )
 }
 
 /// Whether no line names the label of this line, which stands so.

@@ -1,33 +1,22 @@
 //! The warnings of a text.
 
 ghost use Rattle.std.specs.Prelude.{◌≡◌, ◌+◌, ◌++◌, [], map, drop, length, IfOk, OnOk, ◌<◌, ◌^◌};
-ghost use Rattle.lc3_table.specs.Statements.{option_or};
 ghost use Rattle.lc3_warnings.specs.Private.Settings.{seen_setting};
 ghost use Rattle.lc3_asm.specs.Texts.{lines};
 ghost use Rattle.lc3_asm.specs.Faults.{reading, faults};
 ghost use Rattle.lc3_asm.specs.Views.{lines_if};
 ghost use Rattle.lc3_asm.specs.Views.{seen_line};
-ghost use Rattle.lc3_table.specs.Tokens.{tokens};
 ghost use Rattle.lc3_warnings.specs.Flows.{flow_of, next_from};
-ghost use Rattle.lc3_warnings.specs.Warnings.{lines_told, has_token, first_with_token, after_end, is_accepted, warnings};
+ghost use Rattle.lc3_warnings.specs.Warnings.{lines_told, first_with_token, after_end, is_accepted, warnings};
 
 use crate::around::Around;
 use crate::flow::{Flow, Next, flow_of, next_from};
-use crate::line_kinds::push_line;
+use crate::line_kinds::{Standing, push_line};
 use crate::setting::{Settings, setting_of};
 use crate::warning::{Kind, Warning};
 use lc3_asm::{Line, Reader, faults_of, first_line, first_token, line_count};
 use lc3_table::Profile;
 use std::alloc::{AllocError, Global};
-
-fn last_of(here: Option<Flow>, previous: Option<Flow>) -> Option<Flow>
-    ensures value { result ≡ option_or here previous }
-{
-    match here {
-        Some(flow) => Some(flow),
-        None => previous,
-    }
-}
 
 /// The first line with words behind line `i`, from 0, where `first` is the first from it on.
 fn next_behind(read: &[Line], i: usize, first: Option<Next>) -> Option<Next>
@@ -44,7 +33,6 @@ fn next_behind(read: &[Line], i: usize, first: Option<Next>) -> Option<Next>
 
 /// Adds the warnings of lines, and gives what follows them in their text.
 fn push_lines<'a>(
-    alloc: Global,
     found: &mut Vec<Warning>,
     setting: &Settings,
     text: &'a [u8],
@@ -62,23 +50,22 @@ fn push_lines<'a>(
         let (bytes, after) = first_line(left);
         let here = flow_of(line);
         let next = next_behind(read, i, first);
-        let around = Around {
-            previous,
-            here,
-            next,
+        let standing = Standing {
+            bytes,
+            line,
+            before: &read[..i],
+            around: Around {
+                previous,
+                here,
+                next,
+            },
         };
-        push_line(alloc, found, setting, &read[..i], bytes, line, around)?;
-        previous = last_of(here, previous);
+        push_line(found, setting, standing)?;
+        previous = here.or(previous);
         first = next;
         rest = after;
     }
     Ok(rest)
-}
-
-fn has_token(bytes: &[u8]) -> bool
-    ensures value { result ≡ has_token (tokens bytes.now) }
-{
-    first_token(bytes).is_some()
 }
 
 /// The number of the first line with a token among those that stand behind so many others.
@@ -91,7 +78,7 @@ fn first_with_token(behind: usize, rest: Option<&[u8]>) -> Option<usize>
     while let Some(text) = left {
         let (bytes, after) = first_line(text);
         number += 1;
-        if has_token(bytes) {
+        if first_token(bytes).is_some() {
             return Some(number);
         }
         left = after;
@@ -138,7 +125,7 @@ fn warnings_under(
         ++ after_end (length read.now) (drop (length read.now) (lines text.now))) }
 {
     let mut found = Vec::new(alloc);
-    let rest = push_lines(alloc, &mut found, setting, text, read)?;
+    let rest = push_lines(&mut found, setting, text, read)?;
     push_after_end(&mut found, read.len(), rest)?;
     Ok(found)
 }

@@ -21,8 +21,8 @@ loop-i-preserved c =
     let cut : lines_if c.loop-i.rest ≡ bytes ∷ rest = search rules in
     let told = c.in_ok-push_line.ensures.told in (
       rest-more (lines c.args.text.now) c.loop-i.i bytes rest (sym c.loop-i.invariant.0 ∙ cut),
-      previous-more read c.loop-i.i _ c.index-read-i.result c.loop-i-test.true c.index-read-i.is c.loop-i.previous c.last_of-previous.result c.flow_of-here.result
-          c.loop-i.invariant.1 c.flow_of-here.ensures.value c.last_of-previous.ensures.value,
+      previous-more read c.loop-i.i _ c.index-read-i.result c.loop-i-test.true c.index-read-i.is c.loop-i.previous c.or-previous.result c.flow_of-here.result
+          c.loop-i.invariant.1 c.flow_of-here.ensures.value c.or-previous.ensures,
       c.next_behind-next.ensures.value,
       lines-more read c.loop-i.i _ c.index-read-i.result c.loop-i-test.true c.index-read-i.is (seen_setting c.args.setting.now) bytes rest
           c.loop-i.found.items c.push_line.new.found.items _ c.loop-i.previous c.flow_of-here.result c.next_behind-next.result
