@@ -1,7 +1,7 @@
 //! The names and the texts of warnings.
 
 ghost use Rattle.std.specs.Prelude.{◌≡◌, ◌++◌, OnOk, string_bytes};
-ghost use Rattle.lc3_warnings.specs.Texts.{warning_name, field_text, unused_text, names_text, address_text, meant_text, decimal_text, warning_text};
+ghost use Rattle.lc3_warnings.specs.Texts.{warning_name, field_text, wraps_text, misspelt_text, unused_text, lost_text, names_text, address_text, meant_text, decimal_text, stale_text, loaded_text, warning_text};
 
 use crate::warning::Kind;
 use lc3_table::Form;
@@ -50,15 +50,12 @@ pub fn push_text(text: &mut String, kind: Kind, word: &str) -> Result<(), AllocE
         ≡ string_bytes text.old ++ warning_text kind word.now) }
 {
     match kind {
-        Kind::Wraps { form, value } => {
-            let field = field_text(form);
-            write!(text, "{word} is taken as #{value}; here stands {field}")
-        }
+        Kind::Wraps { form, value } => push_wraps(text, word, value, field_text(form)),
         Kind::UnknownTrap => text.push_str(
             "this trap ends the process as badtrap; the traps are x20 to x25, x40 to x46 and x50 to x56",
         ),
         Kind::DecimalOrigin { address } => push_decimal(text, word, address),
-        Kind::Misspelt => write!(text, "{word} is read as a label"),
+        Kind::Misspelt => push_misspelt(text, word),
         Kind::UnusedLabel => push_unused(text, word),
         Kind::StartsInData => text.push_str("execution begins here, and this is data"),
         Kind::RunsIntoData { next } => write!(
@@ -68,20 +65,27 @@ pub fn push_text(text: &mut String, kind: Kind, word: &str) -> Result<(), AllocE
         Kind::RunsPastEnd => {
             text.push_str("execution goes on behind this last word; is a HALT missing?")
         }
-        Kind::LostReturn { writer } => write!(
-            text,
-            "{word} in line {writer} has written R7, so this goes back behind it; store R7 before it and load it again"
-        ),
-        Kind::StaleCodes { trap } => write!(
-            text,
-            "{word} in line {trap} sets no condition codes, so this reads those from before it; ADD R0,R0,#0 between them sets them by R0"
-        ),
-        Kind::LoadedString { next } => write!(
-            text,
-            "{word} loads a word into R0, and line {next} prints the string at the address in R0; LEA loads the address of a string"
-        ),
+        Kind::LostReturn { writer } => push_lost(text, word, writer),
+        Kind::StaleCodes { trap } => push_stale(text, word, trap),
+        Kind::LoadedString { next } => push_loaded(text, word, next),
         Kind::AfterEnd { end } => write!(text, "nothing behind the .END of line {end} is read"),
     }
+}
+
+#[tactic(auto, unfolding(crate::specs::Texts::wraps_text, crate::specs::Texts::taken_text, crate::specs::Texts::here_text))]
+fn push_wraps(text: &mut String, word: &str, value: i16, field: &str) -> Result<(), AllocError>
+    ensures text { OnOk result (string_bytes text.new
+        ≡ string_bytes text.old ++ wraps_text word.now value field.now) }
+{
+    write!(text, "{word} is taken as #{value}; here stands {field}")
+}
+
+#[tactic(auto, unfolding(crate::specs::Texts::misspelt_text))]
+fn push_misspelt(text: &mut String, word: &str) -> Result<(), AllocError>
+    ensures text { OnOk result (string_bytes text.new
+        ≡ string_bytes text.old ++ misspelt_text word.now) }
+{
+    write!(text, "{word} is read as a label")
 }
 
 #[tactic(auto, unfolding(crate::specs::Texts::unused_text))]
@@ -125,4 +129,37 @@ fn push_decimal(text: &mut String, word: &str, address: u16) -> Result<(), Alloc
     push_names(text, word)?;
     push_address(text, address)?;
     push_meant(text, address)
+}
+
+#[tactic(auto, unfolding(crate::specs::Texts::lost_text))]
+fn push_lost(text: &mut String, operation: &str, line: usize) -> Result<(), AllocError>
+    ensures text { OnOk result (string_bytes text.new
+        ≡ string_bytes text.old ++ lost_text operation.now line) }
+{
+    write!(
+        text,
+        "{operation} in line {line} has written R7, so this goes back behind it; store R7 before it and load it again"
+    )
+}
+
+#[tactic(auto, unfolding(crate::specs::Texts::stale_text))]
+fn push_stale(text: &mut String, operation: &str, line: usize) -> Result<(), AllocError>
+    ensures text { OnOk result (string_bytes text.new
+        ≡ string_bytes text.old ++ stale_text operation.now line) }
+{
+    write!(
+        text,
+        "{operation} in line {line} sets no condition codes, so this reads those from before it; ADD R0,R0,#0 between them sets them by R0"
+    )
+}
+
+#[tactic(auto, unfolding(crate::specs::Texts::loaded_text))]
+fn push_loaded(text: &mut String, operation: &str, line: usize) -> Result<(), AllocError>
+    ensures text { OnOk result (string_bytes text.new
+        ≡ string_bytes text.old ++ loaded_text operation.now line) }
+{
+    write!(
+        text,
+        "{operation} loads a word into R0, and line {line} prints the string at the address in R0; LEA loads the address of a string"
+    )
 }
