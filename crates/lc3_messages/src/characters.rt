@@ -53,15 +53,12 @@ pub(crate) struct Grouped(pub i64);
 impl fmt::Display for Grouped {
     fn fmt<W: fmt::Write>(&self, f: &mut fmt::Formatter<W>) -> fmt::Result {
         let magnitude = self.0.unsigned_abs();
-        let thousands = magnitude / 1000;
-        let rest = magnitude % 1000;
-        if self.0 < 0 {
-            write!(f, "-")?;
-        }
+        let sign = if self.0 < 0 { "-" } else { "" };
+        let (thousands, rest) = (magnitude / 1000, magnitude % 1000);
         if thousands == 0 {
-            write!(f, "{rest}")
+            write!(f, "{sign}{rest}")
         } else {
-            write!(f, "{thousands},{rest:03}")
+            write!(f, "{sign}{thousands},{rest:03}")
         }
     }
 }

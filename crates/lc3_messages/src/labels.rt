@@ -94,10 +94,8 @@ fn define_faulty(
 
 /// The fault of reading that a line has, from 1.
 fn fault_at(faults: &[LineFault], line: usize) -> Option<Fault> {
-    match faults.binary_search_by_key(&line, |fault| fault.line) {
-        Ok(i) => faults.get(i).map(|fault| fault.kind),
-        Err(_) => None,
-    }
+    let i = faults.binary_search_by_key(&line, |fault| fault.line).ok()?;
+    faults.get(i).map(|fault| fault.kind)
 }
 
 pub(crate) fn labels_of(
@@ -115,13 +113,13 @@ pub(crate) fn labels_of(
         let bytes = line.as_bytes();
         match fault_at(reader.faults(), number) {
             _ if reader.lines().len() <= i => {
-                define_first(alloc, &mut labels.behind, bytes, number)?
+                define_first(alloc, &mut labels.behind, bytes, number)
             }
             None | Some(Fault::DuplicateLabel) => {
-                define_first(alloc, &mut labels.definitions, bytes, number)?
+                define_first(alloc, &mut labels.definitions, bytes, number)
             }
-            Some(_) => define_faulty(alloc, &mut labels, bytes, number)?,
-        }
+            Some(_) => define_faulty(alloc, &mut labels, bytes, number),
+        }?;
     }
     Ok(labels)
 }

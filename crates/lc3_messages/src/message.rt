@@ -32,9 +32,12 @@ pub(crate) enum Kind {
 }
 
 impl Kind {
-    /// Whether the source is refused for it.
-    pub fn is_error(self) -> bool {
-        !matches!(self, Kind::Warning(_))
+    /// What it is called: an error, where the source is refused for it.
+    pub fn sort(self) -> &'static str {
+        match self {
+            Kind::Warning(_) => "warning",
+            _ => "error",
+        }
     }
 }
 
@@ -69,18 +72,6 @@ pub(crate) struct Message {
     pub text: String,
 }
 
-/// The part of a line between these places, where it lies within the line and isn't empty.
-fn span_within(line: &str, mark: Span) -> Option<Span>
-    ensures within { IfSome result
-        (λ span. (span.start < span.end) × (span.end ≤ length line.now)) }
-{
-    if mark.start < mark.end && mark.end <= line.len() {
-        Some(mark)
-    } else {
-        None
-    }
-}
-
 /// The message about a place of the line with this number, from 1. What is marked lies within the line.
 pub(crate) fn message_on(line: &str, number: usize, kind: Kind, remark: Remark) -> Message
     ensures line { result.line ≡ number }
@@ -89,8 +80,8 @@ pub(crate) fn message_on(line: &str, number: usize, kind: Kind, remark: Remark) 
         (λ span. (span.start < span.end) × (span.end ≤ length line.now)) }
 {
     let mark = match remark.mark {
-        Some(mark) => span_within(line, mark),
-        None => None,
+        Some(mark) if mark.start < mark.end && mark.end <= line.len() => Some(mark),
+        _ => None,
     };
     let start = mark.map_or(0, |mark| mark.start);
     let before = line.get(..start).unwrap_or("").chars().count();

@@ -4,14 +4,11 @@ use crate::message::Remark;
 use crate::parts::Part;
 use crate::texts::{Place, Source};
 use crate::words::{
-    NO_LABEL_BUT_OPERATION, did_you_mean, is_number, is_operation, is_register, operation_meant,
+    DidYouMean, NO_LABEL_BUT_OPERATION, is_number, is_operation, is_register, operation_meant,
     said_of, upper,
 };
-use lc3_asm::{Token, is_label, without_colon};
+use lc3_asm::{LABEL_LENGTH, Token, is_label, without_colon};
 use std::alloc::{AllocError, Global};
-
-/// The most characters that a label has.
-const LABEL_LENGTH: usize = 80;
 
 /// A word without the `:` that may end a label.
 pub(crate) fn name_of(word: &str) -> &str {
@@ -19,18 +16,7 @@ pub(crate) fn name_of(word: &str) -> &str {
         .unwrap_or(word)
 }
 
-fn first_character_text(name: &[u8]) -> Option<&'static str> {
-    match name.first() {
-        Some(b'/' | b'#' | b'*') => Some(" is no label; a comment begins with ;"),
-        Some(b'0'..=b'9') => Some(" is no label; a label begins with a letter or _"),
-        _ => None,
-    }
-}
-
 fn no_label(alloc: Global, name: &str) -> Result<String, AllocError> {
-    if let Some(said) = first_character_text(name.as_bytes()) {
-        return said_of(alloc, name, said);
-    }
     let shown = Excerpt(name);
     if let Some(character) = name
         .chars()
@@ -47,7 +33,7 @@ fn no_label(alloc: Global, name: &str) -> Result<String, AllocError> {
     )
 }
 
-/// What is said of a name that is something else than a label, behind the name.
+/// What is said of a name that is something else than a label or begins as one, behind the name.
 fn other_use(name: &[u8]) -> Option<&'static str> {
     if is_number(name) {
         Some(" is a number, so it can't be a label")
@@ -56,7 +42,11 @@ fn other_use(name: &[u8]) -> Option<&'static str> {
     } else if is_operation(name) {
         Some(NO_LABEL_BUT_OPERATION)
     } else {
-        None
+        match name.first() {
+            Some(b'/' | b'#' | b'*') => Some(" is no label; a comment begins with ;"),
+            Some(b'0'..=b'9') => Some(" is no label; a label begins with a letter or _"),
+            _ => None,
+        }
     }
 }
 
@@ -77,7 +67,7 @@ pub(crate) fn bad_label(alloc: Global, place: Place<'_>) -> Result<String, Alloc
 
 fn no_operation(alloc: Global, part: Part<'_>, meant: Option<&str>) -> Result<Remark, AllocError> {
     let shown = Excerpt(part.word);
-    let mean = did_you_mean(alloc, meant)?;
+    let mean = DidYouMean(meant);
     let text = format!(in alloc; "{shown} is no operation and no directive{mean}")?;
     Ok(part.remark(text))
 }

@@ -1,7 +1,7 @@
 //! Labels that no line defines, or that are too far away.
 use crate::characters::{Excerpt, Grouped};
 use crate::texts::{Place, Source};
-use crate::words::{did_you_mean, upper};
+use crate::words::{DidYouMean, upper};
 use lc3_table::Form;
 use std::alloc::{AllocError, Global};
 
@@ -18,7 +18,7 @@ pub(crate) fn undefined(
             "no line before .END defines the label {shown}; line {line} behind it does"
         );
     }
-    let mean = did_you_mean(alloc, source.labels.name_meant(alloc, word)?)?;
+    let mean = DidYouMean(source.labels.name_meant(alloc, word)?);
     format!(in alloc; "no line defines the label {shown}{mean}")
 }
 

@@ -15,7 +15,7 @@ use crate::warned::warning_remark;
 use lc3_asm::{faults_of, reading};
 use lc3_table::Profile;
 use std::alloc::{AllocError, Global};
-use std::fmt::Write;
+use std::fmt::{self, Write};
 
 /// The most messages of a source that are written.
 const MOST: usize = 100;
@@ -43,28 +43,14 @@ pub struct Report {
 
 /// Adds a line as it is shown, and a `^` below each character of the mark.
 fn push_marked(text: &mut String, line: &str, mark: Span) -> Result<(), AllocError> {
-    push_shown(text, line)?;
-    text.push('\n')?;
-    for character in line.get(..mark.start).unwrap_or("").chars() {
-        text.push(if character == '\t' { '\t' } else { ' ' })?;
-    }
-    let count = mark.text_in(line).chars().count();
-    push_carets(text, count)?;
-    text.push('\n')
-}
-
-fn push_shown(text: &mut String, line: &str) -> Result<(), AllocError> {
-    for character in line.chars() {
-        text.push(picture(character))?;
-    }
-    Ok(())
-}
-
-fn push_carets(text: &mut String, count: usize) -> Result<(), AllocError> {
-    for _ in 0..count {
-        text.push('^')?;
-    }
-    Ok(())
+    let alloc = *text.allocator();
+    let shown: String = line.chars().map(picture).collect(alloc)?;
+    let before = line.get(..mark.start).unwrap_or("").chars();
+    let blanks: String = before
+        .map(|it| if it == '\t' { it } else { ' ' })
+        .collect(alloc)?;
+    let carets: String = mark.text_in(line).chars().map(|_| '^').collect(alloc)?;
+    write!(text, "{shown}\n{blanks}{carets}\n")
 }
 
 fn push_message(
@@ -75,13 +61,9 @@ fn push_message(
 ) -> Result<(), AllocError> {
     let number = message.line;
     let column = message.column;
-    let sort = if message.kind.is_error() {
-        "error"
-    } else {
-        "warning"
-    };
-    let told = message.text.as_str();
     let kind = message.kind;
+    let sort = kind.sort();
+    let told = message.text.as_str();
     write!(text, "{file}:{number}:{column}: {sort}: {told} [{kind}]\n")?;
     match message.mark {
         Some(mark) if line.chars().nth(LENGTH).is_none() => push_marked(text, line, mark),
@@ -89,11 +71,16 @@ fn push_message(
     }
 }
 
-fn push_count(text: &mut String, count: usize, name: &str) -> Result<(), AllocError> {
-    if count == 1 {
-        write!(text, "1 {name}")
-    } else {
-        write!(text, "{count} {name}s")
+/// So many of this name.
+#[derive(Clone, Copy)]
+struct Counted(usize, &'static str);
+
+impl fmt::Display for Counted {
+    fn fmt<W: fmt::Write>(&self, f: &mut fmt::Formatter<W>) -> fmt::Result {
+        match *self {
+            Counted(1, name) => write!(f, "1 {name}"),
+            Counted(count, name) => write!(f, "{count} {name}s"),
+        }
     }
 }
 
@@ -105,19 +92,13 @@ fn push_counts(
     warnings: usize,
 ) -> Result<(), AllocError> {
     let all = errors.saturating_add(warnings);
-    if all == 0 {
-        return Ok(());
-    }
-    write!(text, "lc3lab: {file}: ")?;
-    if errors > 0 {
-        push_count(text, errors, "error")?;
-    }
-    if errors > 0 && warnings > 0 {
-        text.push_str(", ")?;
-    }
-    if warnings > 0 {
-        push_count(text, warnings, "warning")?;
-    }
+    let (faulty, warned) = (Counted(errors, "error"), Counted(warnings, "warning"));
+    match (errors, warnings) {
+        (0, 0) => return Ok(()),
+        (_, 0) => write!(text, "lc3lab: {file}: {faulty}"),
+        (0, _) => write!(text, "lc3lab: {file}: {warned}"),
+        _ => write!(text, "lc3lab: {file}: {faulty}, {warned}"),
+    }?;
     if all > MOST {
         write!(text, " ({MOST} of {all} are shown)")?;
     }
@@ -130,17 +111,17 @@ fn message_of<'a>(
     line: &'a str,
     finding: Finding,
 ) -> Result<Message, AllocError> {
-    match finding.what {
-        What::Fault(fault) => {
-            let remark = remark(alloc, source, finding.line, fault)?;
-            Ok(message_on(line, finding.line, Kind::Fault(fault), remark))
-        }
-        What::Warning(warning) => {
-            let remark = warning_remark(alloc, source, line, warning)?;
-            let kind = Kind::Warning(warning.name());
-            Ok(message_on(line, finding.line, kind, remark))
-        }
-    }
+    let (kind, remark) = match finding.what {
+        What::Fault(fault) => (
+            Kind::Fault(fault),
+            remark(alloc, source, finding.line, fault)?,
+        ),
+        What::Warning(warning) => (
+            Kind::Warning(warning.name()),
+            warning_remark(alloc, source, line, warning)?,
+        ),
+    };
+    Ok(message_on(line, finding.line, kind, remark))
 }
 
 fn push_messages(
@@ -230,18 +211,6 @@ fn no_utf8(alloc: Global, bytes: &[u8], first: Option<&u8>) -> Result<String, Al
     }
 }
 
-fn no_text(alloc: Global, bytes: &[u8], place: usize) -> Result<Message, AllocError> {
-    let (front, rest) = bytes.split_at(place.min(bytes.len()));
-    let (line, before) = end_of(std::str::from_utf8(front).unwrap_or(""));
-    Ok(Message {
-        line,
-        column: before.saturating_add(1),
-        mark: None,
-        kind: Kind::NotUtf8,
-        text: no_utf8(alloc, bytes, rest.first())?,
-    })
-}
-
 fn no_text_report(
     alloc: Global,
     file: &str,
@@ -250,7 +219,15 @@ fn no_text_report(
 ) -> Result<Report, AllocError>
     ensures one { IfOk result (λ r. (r.errors ≡ 1) × (r.warnings ≡ 0)) }
 {
-    let message = no_text(alloc, bytes, place)?;
+    let (front, rest) = bytes.split_at(place.min(bytes.len()));
+    let (line, before) = end_of(std::str::from_utf8(front).unwrap_or(""));
+    let message = Message {
+        line,
+        column: before.saturating_add(1),
+        mark: None,
+        kind: Kind::NotUtf8,
+        text: no_utf8(alloc, bytes, rest.first())?,
+    };
     let mut text = String::new(alloc);
     push_message(&mut text, file, "", &message)?;
     push_counts(&mut text, file, 1, 0)?;

@@ -2,7 +2,7 @@
 use crate::characters::{Number, is_typographic_quote, picture};
 use crate::message::{Remark, Span};
 use crate::parts::Part;
-use lc3_asm::Token;
+use lc3_asm::{Token, first_character};
 use std::alloc::{AllocError, Global};
 
 /// What is bad in a string.
@@ -22,26 +22,21 @@ impl Bad {
     }
 }
 
-fn first_bad(text: &str) -> Option<(usize, Bad)> {
-    let mut backslash = None;
-    for (i, character) in text.char_indices() {
-        match backslash {
-            Some(at) => {
-                if !matches!(
-                    character,
-                    'n' | 't' | 'r' | 'a' | 'b' | 'f' | 'v' | 'e' | '0' | '"' | '\\'
-                ) {
-                    return Some((at, Bad::Escape(character)));
-                }
-                backslash = None;
-            }
-            None if character == '\\' => backslash = Some(i),
-            None => if !matches!(character, ' '..='~' | '\t') {
-                return Some((i, Bad::Character(character)));
-            },
-        }
+/// The place of what is bad in a string, and what it is.
+fn first_bad(text: &str) -> (usize, Bad) {
+    let mut rest = text.as_bytes();
+    while !rest.is_empty() {
+        let Some((_, after)) = first_character(rest) else {
+            break;
+        };
+        rest = after;
     }
-    None
+    let place = text.len().saturating_sub(rest.len());
+    let mut left = text.get(place..).unwrap_or("").chars();
+    match (left.next(), left.next()) {
+        (Some('\\'), Some(character)) => (place, Bad::Escape(character)),
+        (first, _) => (place, Bad::Character(first.unwrap_or('"'))),
+    }
 }
 
 fn unclosed(alloc: Global, text: &str) -> Result<String, AllocError> {
@@ -80,7 +75,7 @@ pub(crate) fn bad_string(alloc: Global, part: Part<'_>) -> Result<Remark, AllocE
     };
     let end = part.word.len().saturating_sub(1);
     let content = part.word.get(1..end).unwrap_or("");
-    let (place, bad) = first_bad(content).unwrap_or((0, Bad::Character('"')));
+    let (place, bad) = first_bad(content);
     let start = part.span.start.saturating_add(place).saturating_add(1);
     Ok(Remark {
         mark: Some(Span {

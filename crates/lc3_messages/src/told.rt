@@ -68,11 +68,7 @@ fn is_told_behind(
     ensures left_out { IfOk result (λ is_told. is_told ≡ false
         → (names_a_label fault.kind ≡ true) × (0 < length told.now)) }
 {
-    if told.is_empty() {
-        return Ok(true);
-    }
-    let follows = may_follow(alloc, source, fault)?;
-    Ok(!follows)
+    Ok(told.is_empty() || !may_follow(alloc, source, fault)?)
 }
 
 /// The faults that aren't told only because of an earlier one: the first, and all that are about no label.
@@ -180,13 +176,10 @@ fn push_warnings(found: &mut Vec<Finding>, warnings: &[Warning]) -> Result<(), A
 pub(crate) fn error_count(found: &[Finding]) -> usize
     ensures count { result ≡ error_count found.now }
 {
-    let mut count = 0;
-    for finding in found {
-        if finding.what.is_error() {
-            count += 1;
-        }
-    }
-    count
+    found
+        .iter()
+        .filter(|finding| finding.what.is_error())
+        .count()
 }
 
 /// What is told of a text with these faults, by its lines; in one line the fault comes first.

@@ -4,10 +4,11 @@ use crate::message::Remark;
 use crate::operations::name_of;
 use crate::parts::{Part, operation_number, parts_of};
 use crate::texts::{Source, line_at};
-use crate::words::{did_you_mean, name_meant};
+use crate::words::{DidYouMean, name_meant};
 use lc3_spelling::BARE_OPERATIONS;
 use lc3_warnings::{Kind, push_text};
 use std::alloc::{AllocError, Global};
+use std::fmt::Write;
 
 /// The token of a line that a warning is about: the first, the number at the end, or the operation.
 fn part_marked(alloc: Global, line: &str, kind: Kind) -> Result<Option<Part<'_>>, AllocError> {
@@ -28,8 +29,8 @@ fn warning_text(alloc: Global, kind: Kind, word: &str) -> Result<String, AllocEr
     let mut text = String::new(alloc);
     push_text(&mut text, kind, &shown)?;
     if matches!(kind, Kind::Misspelt) {
-        let meant = name_meant(alloc, word, &BARE_OPERATIONS)?;
-        text.push_str(did_you_mean(alloc, meant)?.as_str())?;
+        let mean = DidYouMean(name_meant(alloc, word, &BARE_OPERATIONS)?);
+        write!(text, "{mean}")?;
     }
     Ok(text)
 }

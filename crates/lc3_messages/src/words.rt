@@ -4,6 +4,7 @@ use lc3_asm::{Token, register, token_operation};
 use lc3_spelling::{OPERATIONS, shown, suggestion};
 use lc3_word::number_of;
 use std::alloc::{AllocError, Global};
+use std::fmt;
 
 pub(crate) fn upper(alloc: Global, word: &[u8]) -> Result<String, AllocError> {
     word.iter()
@@ -49,10 +50,16 @@ pub(crate) fn said_of(alloc: Global, word: &str, said: &str) -> Result<String, A
     format!(in alloc; "{shown}{said}")
 }
 
-pub(crate) fn did_you_mean(alloc: Global, name: Option<&str>) -> Result<String, AllocError> {
-    match name {
-        Some(name) => format!(in alloc; "; did you mean {name}?"),
-        None => Ok(String::new(alloc)),
+/// The question behind a text whether a name was meant, if one is near.
+#[derive(Clone, Copy)]
+pub(crate) struct DidYouMean<'a>(pub Option<&'a str>);
+
+impl fmt::Display for DidYouMean<'_> {
+    fn fmt<W: fmt::Write>(&self, f: &mut fmt::Formatter<W>) -> fmt::Result {
+        match self.0 {
+            Some(name) => write!(f, "; did you mean {name}?"),
+            None => Ok(()),
+        }
     }
 }
 
@@ -74,9 +81,6 @@ fn turned(alloc: Global, word: &str, end: usize) -> Result<Option<String>, Alloc
     let prefix = word.get(1..end).unwrap_or("");
     let digits = word.get(end..).unwrap_or("");
     let signed = format!(in alloc; "{prefix}-{digits}")?;
-    Ok(if is_number(signed.as_bytes()) {
-        Some(signed)
-    } else {
-        None
-    })
+    let is_number = is_number(signed.as_bytes());
+    Ok(if is_number { Some(signed) } else { None })
 }
