@@ -6,7 +6,7 @@ use crate::words::{NO_LABEL_BUT_OPERATION, is_operation, is_register, number_mea
 use lc3_asm::is_label;
 use lc3_table::Form;
 use std::alloc::{AllocError, Global};
-use std::fmt;
+use std::fmt::Write;
 
 /// What may stand as an operand.
 fn form_text(form: Form) -> &'static str {
@@ -24,17 +24,24 @@ fn form_text(form: Form) -> &'static str {
     }
 }
 
-/// A number, or this word where it is 0.
-#[derive(Clone, Copy)]
-struct NumberOr(usize, &'static str);
-
-impl fmt::Display for NumberOr {
-    fn fmt<W: fmt::Write>(&self, f: &mut fmt::Formatter<W>) -> fmt::Result {
-        match *self {
-            NumberOr(0, none) => write!(f, "{none}"),
-            NumberOr(number, _) => write!(f, "{number}"),
-        }
+/// Adds a number, or this word where it is 0.
+fn push_number(text: &mut String, number: usize, none: &str) -> Result<(), AllocError> {
+    if number == 0 {
+        text.push_str(none)
+    } else {
+        write!(text, "{number}")
     }
+}
+
+fn push_counts(text: &mut String, taken: usize, given: usize) -> Result<(), AllocError> {
+    push_number(text, taken, "no")?;
+    text.push_str(if taken == 1 {
+        " operand, here "
+    } else {
+        " operands, here "
+    })?;
+    text.push_str(if given > 1 { "are " } else { "is " })?;
+    push_number(text, given, "none")
 }
 
 fn other_count(alloc: Global, place: Place<'_>) -> Result<String, AllocError> {
@@ -47,14 +54,10 @@ fn other_count(alloc: Global, place: Place<'_>) -> Result<String, AllocError> {
         return said_of(alloc, place.part.word, NO_LABEL_BUT_OPERATION);
     }
     let given = place.parts.len().saturating_sub(place.at.saturating_add(1));
-    let taken = place.forms.len();
-    let operands = if taken == 1 { "operand" } else { "operands" };
-    let are = if given > 1 { "are" } else { "is" };
-    let shown = Excerpt(place.part.word);
-    let (counted, found) = (NumberOr(taken, "no"), NumberOr(given, "none"));
-    let mut text = format!(in alloc; "{shown} takes {counted} {operands}, here {are} {found}")?;
+    let mut text = said_of(alloc, place.part.word, " takes ")?;
+    push_counts(&mut text, place.forms.len(), given)?;
     push_forms(&mut text, place.forms)?;
-    if given > taken {
+    if given > place.forms.len() {
         text.push_str(" (a comment begins with ;)")?;
     }
     Ok(text)

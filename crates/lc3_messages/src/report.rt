@@ -15,7 +15,7 @@ use crate::warned::warning_remark;
 use lc3_asm::{faults_of, reading};
 use lc3_table::Profile;
 use std::alloc::{AllocError, Global};
-use std::fmt::{self, Write};
+use std::fmt::Write;
 
 /// The most messages of a source that are written.
 const MOST: usize = 100;
@@ -43,14 +43,28 @@ pub struct Report {
 
 /// Adds a line as it is shown, and a `^` below each character of the mark.
 fn push_marked(text: &mut String, line: &str, mark: Span) -> Result<(), AllocError> {
-    let alloc = *text.allocator();
-    let shown: String = line.chars().map(picture).collect(alloc)?;
-    let before = line.get(..mark.start).unwrap_or("").chars();
-    let blanks: String = before
-        .map(|it| if it == '\t' { it } else { ' ' })
-        .collect(alloc)?;
-    let carets: String = mark.text_in(line).chars().map(|_| '^').collect(alloc)?;
-    write!(text, "{shown}\n{blanks}{carets}\n")
+    push_shown(text, line)?;
+    text.push('\n')?;
+    for character in line.get(..mark.start).unwrap_or("").chars() {
+        text.push(if character == '\t' { '\t' } else { ' ' })?;
+    }
+    let count = mark.text_in(line).chars().count();
+    push_carets(text, count)?;
+    text.push('\n')
+}
+
+fn push_shown(text: &mut String, line: &str) -> Result<(), AllocError> {
+    for character in line.chars() {
+        text.push(picture(character))?;
+    }
+    Ok(())
+}
+
+fn push_carets(text: &mut String, count: usize) -> Result<(), AllocError> {
+    for _ in 0..count {
+        text.push('^')?;
+    }
+    Ok(())
 }
 
 fn push_message(
@@ -71,16 +85,11 @@ fn push_message(
     }
 }
 
-/// So many of this name.
-#[derive(Clone, Copy)]
-struct Counted(usize, &'static str);
-
-impl fmt::Display for Counted {
-    fn fmt<W: fmt::Write>(&self, f: &mut fmt::Formatter<W>) -> fmt::Result {
-        match *self {
-            Counted(1, name) => write!(f, "1 {name}"),
-            Counted(count, name) => write!(f, "{count} {name}s"),
-        }
+fn push_count(text: &mut String, count: usize, name: &str) -> Result<(), AllocError> {
+    if count == 1 {
+        write!(text, "1 {name}")
+    } else {
+        write!(text, "{count} {name}s")
     }
 }
 
@@ -92,13 +101,19 @@ fn push_counts(
     warnings: usize,
 ) -> Result<(), AllocError> {
     let all = errors.saturating_add(warnings);
-    let (faulty, warned) = (Counted(errors, "error"), Counted(warnings, "warning"));
-    match (errors, warnings) {
-        (0, 0) => return Ok(()),
-        (_, 0) => write!(text, "lc3lab: {file}: {faulty}"),
-        (0, _) => write!(text, "lc3lab: {file}: {warned}"),
-        _ => write!(text, "lc3lab: {file}: {faulty}, {warned}"),
-    }?;
+    if all == 0 {
+        return Ok(());
+    }
+    write!(text, "lc3lab: {file}: ")?;
+    if errors > 0 {
+        push_count(text, errors, "error")?;
+    }
+    if errors > 0 && warnings > 0 {
+        text.push_str(", ")?;
+    }
+    if warnings > 0 {
+        push_count(text, warnings, "warning")?;
+    }
     if all > MOST {
         write!(text, " ({MOST} of {all} are shown)")?;
     }
