@@ -9,7 +9,7 @@ use Rattle.lab_questions.specs.declared.json.left.Left.{Left}
 use Rattle.lab_questions.specs.Left.{is_text, left_lines}
 use Rattle.lab_questions.specs.LeftMembers.{left_json, left_places, place_json, put_left, put_place}
 use Rattle.lab_questions.specs.Orders.{comes_before}
-use Rattle.lab_questions.specs.Private.Lefts.{IsFor, AreLeft, AreThese, PutsLeft, lefts_json}
+use Rattle.lab_questions.specs.Private.Lefts.{IsFor, AreLeft, AreThese, PutsLeft}
 use Rattle.lab_questions.specs.Values.{values_json}
 
 -- a text is one unless its length is 0
@@ -79,8 +79,8 @@ lefts-next k n olds news put these = subst (λ m. AreLeft k m news) (add-one-is 
     add-one-is n = omega arith
 
 -- what is told of all places
-pub lefts_told : (k : KernelState) (lefts : List Left) → AreLeft k object_places lefts → lefts_json k lefts ≡ left_json k
-unfolding lefts_json
+pub lefts_told : (k : KernelState) (lefts : List Left) → AreLeft k object_places lefts
+    → values_json (map (λ l. place_json (place_at k.places l.place)) lefts) ≡ left_json k
 lefts_told k lefts these = ap values_json (each lefts ∙ ap (map place_json) these.held)
   where
     each : (ls : List Left) → map (λ l. place_json (place_at k.places l.place)) ls ≡ map place_json (map (λ l. place_at k.places l.place) ls)

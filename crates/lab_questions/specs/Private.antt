@@ -1,7 +1,6 @@
 -- Definitions that only contracts inside the crate cite.
 pub mod Told
 pub mod Presences
-pub mod Values
 pub mod Lefts
 pub mod Readings
 pub mod CallFailures

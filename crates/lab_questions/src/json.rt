@@ -1,27 +1,24 @@
 //! The answers as one object.
-ghost use Rattle.std.specs.Prelude.{◌≡◌, ◌++◌, IfOk, OnOk, codes, string_bytes};
-ghost use Rattle.std.specs.Fmt.{decimal};
+ghost use Rattle.std.specs.Prelude.{◌≡◌, ◌++◌, IfOk, OnOk, codes, map, string_bytes};
 ghost use Rattle.std.specs.Option.{option_copied};
-ghost use Rattle.lab_questions.specs.EndTexts.{extent_text};
 ghost use Rattle.lab_questions.specs.Findings.{unit_text, extent_members, found_members, answers_line};
-ghost use Rattle.lab_questions.specs.Values.{further_json, member, name_json, values_json};
+ghost use Rattle.lab_questions.specs.Members.{last_members};
+ghost use Rattle.lab_questions.specs.Values.{array_json, further_json, member, values_json};
 
-mod calls;
 mod closing;
 mod ends;
 mod faults;
 mod left;
 mod limit;
-mod reached;
 mod reasons;
 mod values;
 
-use crate::json::closing::push_last;
-use crate::json::ends::push_ends;
-use crate::json::faults::push_faults;
-use crate::json::limit::push_limit;
-use crate::json::reached::push_reached;
-use crate::json::reasons::push_limits;
+use crate::json::closing::{holds_name, lasso_json, objects_told};
+use crate::json::ends::ends_told;
+use crate::json::faults::{never_told, required_told};
+use crate::json::limit::Limit;
+use crate::json::reasons::limits_told;
+use crate::json::values::{Array, Quoted, Truth};
 use crate::lines::extent_of;
 use crate::{Answers, LimitMet, Reach};
 use lab_worlds::{Exploration, Walks};
@@ -38,32 +35,7 @@ fn unit_of(walks: Option<Walks>) -> &'static str
     }
 }
 
-/// Begins the object with whether everything was visited.
-fn push_search(text: &mut String, complete: bool) -> Result<(), AllocError>
-    ensures text { OnOk result (string_bytes text.new ≡ string_bytes text.old
-        ++ codes "{" ++ member (codes "search") (name_json (extent_text complete))) }
-{
-    let search = extent_of(complete);
-    match write!(text, "{{\"search\":\"{search}\"") {
-        Ok(()) => Ok(()),
-        Err(error) => Err(error),
-    }
-}
-
-/// Adds how many worlds or walks there were.
-fn push_count(text: &mut String, walks: Option<Walks>, count: u32) -> Result<(), AllocError>
-    ensures text { OnOk result (string_bytes text.new ≡ string_bytes text.old
-        ++ (codes "," ++ member (unit_text walks) (decimal count))) }
-{
-    let unit = unit_of(walks);
-    match write!(text, ",\"{unit}\":{count}") {
-        Ok(()) => Ok(()),
-        Err(error) => Err(error),
-    }
-}
-
 /// Begins the object with how far the exploration went.
-#[tactic(auto, using(crate::proofs::MemberLemmas::extent_told))]
 fn push_extent(
     alloc: Global,
     text: &mut String,
@@ -74,11 +46,28 @@ fn push_extent(
     ensures text { OnOk result (string_bytes text.new ≡ string_bytes text.old
         ++ codes "{" ++ values_json (extent_members found.now reach (option_copied limit.entry))) }
 {
-    push_search(text, found.complete)?;
-    push_limits(alloc, text, found, reach)?;
-    push_limit(text, limit)?;
-    push_count(text, reach.walks, found.worlds)?;
+    let search = Quoted(extent_of(found.complete));
+    let limits = limits_told(alloc, found, reach)?;
+    let limits = Array(&limits);
+    let limit = Limit(limit);
+    let unit = unit_of(reach.walks);
+    let count = found.worlds;
+    write!(
+        text,
+        "{{\"search\":{search},\"limits\":{limits},\"limit\":{limit},\"{unit}\":{count}"
+    )?;
     Ok(())
+}
+
+fn push_array(text: &mut String, name: &str, values: &[String]) -> Result<(), AllocError>
+    ensures text { OnOk result (string_bytes text.new ≡ string_bytes text.old
+        ++ (codes "," ++ member name.now (array_json (map string_bytes values.now)))) }
+{
+    let values = Array(values);
+    match write!(text, ",\"{name}\":{values}") {
+        Ok(()) => Ok(()),
+        Err(error) => Err(error),
+    }
 }
 
 /// Adds the ends, and what isn't as it has to be.
@@ -88,9 +77,30 @@ fn push_found(alloc: Global, text: &mut String, answers: &Answers) -> Result<(),
         ≡ string_bytes text.old ++ further_json (found_members answers.now)) }
 {
     let found = &answers.exploration;
-    push_ends(alloc, text, answers.asked.show, &found.ends, &answers.told)?;
-    push_faults(alloc, text, answers)?;
-    push_reached(alloc, text, answers)?;
+    let ends = ends_told(alloc, answers.asked.show, &found.ends, &answers.told)?;
+    push_array(text, "ends", &ends)?;
+    let faults = required_told(alloc, answers)?;
+    push_array(text, "not", &faults)?;
+    let reached = never_told(alloc, answers)?;
+    push_array(text, "reached", &reached)
+}
+
+/// Adds the last members, and the end of the line.
+#[tactic(auto, using(crate::proofs::MemberLemmas::last_told))]
+fn push_last(alloc: Global, text: &mut String, answers: &Answers) -> Result<(), AllocError>
+    ensures text { OnOk result (string_bytes text.new
+        ≡ string_bytes text.old ++ further_json (last_members answers.now) ++ codes "}\n") }
+{
+    let found = &answers.exploration;
+    let unopened = objects_told(alloc, &answers.unopened)?;
+    let unopened = Array(&unopened);
+    let fair = Truth(found.fair);
+    let endless = lasso_json(alloc, &found.lasso)?;
+    let holds = holds_name(answers.asked.judges(), answers.failure);
+    write!(
+        text,
+        ",\"unopened\":{unopened},\"fair\":{fair},\"endless\":{endless},\"holds\":{holds}}}\n"
+    )?;
     Ok(())
 }
 

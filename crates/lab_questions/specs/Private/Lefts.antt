@@ -5,9 +5,8 @@ use Rattle.ipc_kernel.specs.Places.{place_at}
 use Rattle.ipc_kernel.specs.declared.place.Place.{Place}
 use Rattle.lab_questions.specs.declared.json.left.Left.{Left}
 use Rattle.lab_questions.specs.Left.{left_lines}
-use Rattle.lab_questions.specs.LeftMembers.{left_places, place_json, put_left}
+use Rattle.lab_questions.specs.LeftMembers.{left_places, put_left}
 use Rattle.lab_questions.specs.Orders.{comes_before}
-use Rattle.lab_questions.specs.Values.{values_json}
 
 -- so many stand before the first of the lines that these come before
 pub record IsFor (lines : List ℕ) (all : List (List ℕ)) (i : ℕ) : Type 0 where
@@ -27,7 +26,3 @@ AreLeft k n lefts = AreThese k (left_places n k) lefts
 -- one place is put among places
 abbrev pub PutsLeft : KernelState → ℕ → List Left → List Left → Type 0
 PutsLeft k n olds news = (ps : List Place) → AreThese k ps olds → AreThese k (put_left (place_at k.places n) ps) news
-
--- the messages in these places
-unfoldable pub lefts_json : KernelState → List Left → List ℕ
-lefts_json k lefts = values_json (map (λ l. place_json (place_at k.places l.place)) lefts)

@@ -1,252 +1,276 @@
-//! What is required and isn't so, as JSON.
-ghost use Rattle.std.specs.Prelude.{◌≡◌, ◌++◌, ◌∷◌, [], IfOk, OnOk, codes, string_bytes};
-ghost use Rattle.lab_questions.specs.declared.asked.Word.TheVariants.{Same};
-ghost use Rattle.lab_questions.specs.Findings.{required_json, fault_schedules, fault_told, faults_told, output_told, outputs_told, required_told};
-ghost use Rattle.lab_questions.specs.Texts.{schedule_at, word_text};
-ghost use Rattle.lab_questions.specs.Values.{text_json, array_json, member, schedule_json, values_json};
-ghost use Rattle.lab_questions.specs.Private.Values.{value_behind, told_after, AddsValues};
+//! What isn't as it has to be, as JSON.
+ghost use Rattle.std.specs.Prelude.{◌≡◌, ◌++◌, ◌∷◌, [], IfOk, OnOk, map, option_map, string_bytes};
+ghost use Rattle.std.specs.Option.{option_to_list};
+ghost use Rattle.lab_questions.specs.Findings.{required_json, never_json, call_json, call_told, calls_told, fault_schedules, fault_told, faults_told, output_told, outputs_told, reached_if, reached_told, required_told, never_told};
+ghost use Rattle.lab_questions.specs.Texts.{schedule_at};
+ghost use Rattle.lab_questions.specs.Values.{schedule_json};
 
-use crate::json::calls::push_calls;
-use crate::json::values::{push_comma, push_schedule, push_text};
-use crate::{Answer, Answers, OutputNeed, Word};
+use crate::json::values::{Array, Text, schedule_json};
+use crate::{Answer, Answers, CallWord, OutputNeed, Word};
+use lab_conditions::Never;
 use lab_sched::Schedule;
+use lab_ways::Ways;
 use lab_worlds::End;
 use std::alloc::{AllocError, Global};
 
-/// Adds what is required, as it was written, up to the schedules that show that it isn't so.
-fn push_require(text: &mut String, asked: &[u8]) -> Result<(), AllocError>
-    ensures text { OnOk result (string_bytes text.new ≡ string_bytes text.old
-        ++ codes "{\"require\":" ++ text_json asked.now ++ codes ",\"schedules\":[") }
+/// Adds a value, if there is one.
+fn push_some(values: &mut Vec<String>, value: Option<String>) -> Result<(), AllocError>
+    ensures added { OnOk result (map string_bytes values.new.items
+        ≡ map string_bytes values.old.items
+        ++ option_to_list (option_map string_bytes value)) }
 {
-    text.push_str("{\"require\":")?;
-    push_text(text, asked)?;
-    text.push_str(",\"schedules\":[")
-}
-
-/// Adds what is required, as it was written, and isn't so, with a schedule that shows it.
-#[tactic(auto, using(crate::proofs::MemberLemmas::required_told))]
-pub(crate) fn push_required(
-    alloc: Global,
-    text: &mut String,
-    asked: &[u8],
-    schedule: &Schedule,
-) -> Result<(), AllocError>
-    ensures text { OnOk result (string_bytes text.new ≡ string_bytes text.old
-        ++ required_json asked.now (schedule_json schedule.now ∷ [])) }
-{
-    push_require(text, asked)?;
-    push_schedule(alloc, text, schedule)?;
-    text.push_str("]}")?;
+    if let Some(value) = value {
+        values.push(value)?;
+    }
     Ok(())
 }
 
-/// Adds the schedule of end number `number`, counted from 0.
-fn push_schedule_at(
-    alloc: Global,
-    text: &mut String,
-    ends: &[End],
-    number: usize,
-) -> Result<(), AllocError>
-    ensures text { OnOk result (string_bytes text.new
-        ≡ string_bytes text.old ++ schedule_json (schedule_at ends.now number)) }
+/// What is required, as it was written, and isn't so, with schedules that show it.
+#[tactic(auto, using(crate::proofs::MemberLemmas::required_told))]
+fn required_json(alloc: Global, asked: &[u8], schedules: &[String]) -> Result<String, AllocError>
+    ensures value { IfOk result (λ value. string_bytes value
+        ≡ required_json asked.now (map string_bytes schedules.now)) }
+{
+    let asked = Text(asked);
+    let schedules = Array(schedules);
+    format!(in alloc; "{{\"require\":{asked},\"schedules\":{schedules}}}")
+}
+
+/// What is required, as it was written, and isn't so, with a schedule that shows it.
+fn required_by(alloc: Global, asked: &[u8], schedule: &Schedule) -> Result<String, AllocError>
+    ensures value { IfOk result (λ value. string_bytes value
+        ≡ required_json asked.now (schedule_json schedule.now ∷ [])) }
+{
+    let schedule = schedule_json(alloc, schedule)?;
+    let schedules = vec![in alloc; schedule]?;
+    required_json(alloc, asked, &schedules)
+}
+
+/// What must never be so, as it was written, and is, with a schedule that shows it.
+#[tactic(auto, using(crate::proofs::MemberLemmas::never_told))]
+fn never_json(alloc: Global, asked: &[u8], schedule: &Schedule) -> Result<String, AllocError>
+    ensures value { IfOk result (λ value.
+        string_bytes value ≡ never_json asked.now schedule.now) }
+{
+    let asked = Text(asked);
+    let schedule = schedule_json(alloc, schedule)?;
+    format!(in alloc; "{{\"never\":{asked},\"schedule\":{schedule}}}")
+}
+
+/// The schedule of end number `number`, counted from 0.
+fn schedule_at(alloc: Global, ends: &[End], number: usize) -> Result<String, AllocError>
+    ensures value { IfOk result (λ value.
+        string_bytes value ≡ schedule_json (schedule_at ends.now number)) }
 {
     match ends.get(number) {
-        Some(end) => push_schedule(alloc, text, &end.schedule),
-        None => push_schedule(alloc, text, &Schedule::new(alloc)),
+        Some(end) => schedule_json(alloc, &end.schedule),
+        None => schedule_json(alloc, &Schedule::new(alloc)),
     }
 }
 
-/// Adds the schedules of the first end and of another, which differ.
-fn push_both(
+/// The schedules that show that a word isn't so.
+fn fault_schedules(
     alloc: Global,
-    text: &mut String,
-    ends: &[End],
-    number: usize,
-) -> Result<(), AllocError>
-    ensures text { OnOk result (string_bytes text.new ≡ string_bytes text.old
-        ++ values_json (fault_schedules ends.now Same number)) }
-{
-    push_schedule_at(alloc, text, ends, 0)?;
-    text.push_str(",")?;
-    push_schedule_at(alloc, text, ends, number)
-}
-
-/// Adds the schedules that show that a word isn't so.
-fn push_schedules(
-    alloc: Global,
-    text: &mut String,
     ends: &[End],
     word: Word,
     number: usize,
-) -> Result<(), AllocError>
-    ensures text { OnOk result (string_bytes text.new ≡ string_bytes text.old
-        ++ values_json (fault_schedules ends.now word number)) }
+) -> Result<Vec<String>, AllocError>
+    ensures values { IfOk result (λ values.
+        map string_bytes values.items ≡ fault_schedules ends.now word number) }
 {
+    let other = schedule_at(alloc, ends, number)?;
     match word {
-        Word::Same => push_both(alloc, text, ends, number),
-        Word::Ended | Word::Stuck | Word::Halted | Word::Empty => {
-            push_schedule_at(alloc, text, ends, number)
+        Word::Same => {
+            let first = schedule_at(alloc, ends, 0)?;
+            Ok(vec![in alloc; first, other]?)
         }
+        Word::Ended | Word::Stuck | Word::Halted | Word::Empty => Ok(vec![in alloc; other]?),
     }
 }
 
-/// Adds a word that isn't so.
-#[tactic(auto, using(crate::proofs::MemberLemmas::required_told))]
-fn push_fault(
-    alloc: Global,
-    text: &mut String,
-    ends: &[End],
-    word: Word,
-    number: usize,
-) -> Result<(), AllocError>
-    ensures text { OnOk result (string_bytes text.new ≡ string_bytes text.old
-        ++ required_json (word_text word) (fault_schedules ends.now word number)) }
-{
-    push_require(text, word.text().as_bytes())?;
-    push_schedules(alloc, text, ends, word, number)?;
-    text.push_str("]}")?;
-    Ok(())
-}
-
-/// Adds a word, if it isn't so, behind a comma unless it is the first; and gives 1 once one is
-/// told.
-fn push_answer(
-    alloc: Global,
-    text: &mut String,
-    ends: &[End],
-    answer: Answer,
-    told: usize,
-) -> Result<usize, AllocError>
-    ensures text { OnOk result (string_bytes text.new ≡ string_bytes text.old
-        ++ value_behind told (fault_told ends.now answer.word answer.fault)) }
-    ensures told { IfOk result (λ after.
-        after ≡ told_after told (fault_told ends.now answer.word answer.fault)) }
+/// A word, if it isn't so.
+fn fault_told(alloc: Global, ends: &[End], answer: Answer) -> Result<Option<String>, AllocError>
+    ensures value { IfOk result (λ value. option_map string_bytes value
+        ≡ fault_told ends.now answer.word answer.fault) }
 {
     let Some(number) = answer.fault else {
-        return Ok(told);
+        return Ok(None);
     };
-    push_comma(text, told)?;
-    push_fault(alloc, text, ends, answer.word, number)?;
-    Ok(1)
+    let schedules = fault_schedules(alloc, ends, answer.word, number)?;
+    let value = required_json(alloc, answer.word.text().as_bytes(), &schedules)?;
+    Ok(Some(value))
 }
 
-/// Adds the words that aren't so, with commas between them, and gives 1 if there is one.
-fn push_words(
+/// What is required of an output, if it isn't so.
+fn output_told(
     alloc: Global,
-    text: &mut String,
-    ends: &[End],
-    answers: &[Answer],
-) -> Result<usize, AllocError>
-    ensures added { IfOk result (λ told. AddsValues 0 (string_bytes text.old)
-        (string_bytes text.new) told (faults_told ends.now answers.now)) }
-{
-    let mut told = 0;
-    for answer in answers {
-        told = push_answer(alloc, text, ends, *answer, told)?;
-    }
-    Ok(told)
-}
-
-/// Adds what is required of an output and isn't so.
-fn push_output(
-    alloc: Global,
-    text: &mut String,
-    ends: &[End],
-    need: &OutputNeed,
-    number: usize,
-) -> Result<(), AllocError>
-    ensures text { OnOk result (string_bytes text.new ≡ string_bytes text.old ++ required_json
-        (string_bytes need.now.text) (schedule_json (schedule_at ends.now number) ∷ [])) }
-{
-    let asked = need.text.as_bytes();
-    match ends.get(number) {
-        Some(end) => push_required(alloc, text, asked, &end.schedule),
-        None => push_required(alloc, text, asked, &Schedule::new(alloc)),
-    }
-}
-
-/// Adds what is required of an output, if it isn't so, behind a comma unless it is the first; and
-/// gives 1 once one is told.
-fn push_need(
-    alloc: Global,
-    text: &mut String,
     ends: &[End],
     need: &OutputNeed,
     fault: Option<usize>,
-    told: usize,
-) -> Result<usize, AllocError>
-    ensures text { OnOk result (string_bytes text.new ≡ string_bytes text.old
-        ++ value_behind told (output_told ends.now need.now fault)) }
-    ensures told { IfOk result (λ after.
-        after ≡ told_after told (output_told ends.now need.now fault)) }
+) -> Result<Option<String>, AllocError>
+    ensures value { IfOk result (λ value. option_map string_bytes value
+        ≡ output_told ends.now need.now fault) }
 {
     let Some(number) = fault else {
-        return Ok(told);
+        return Ok(None);
     };
-    push_comma(text, told)?;
-    push_output(alloc, text, ends, need, number)?;
-    Ok(1)
+    let schedule = schedule_at(alloc, ends, number)?;
+    let schedules = vec![in alloc; schedule]?;
+    let value = required_json(alloc, need.text.as_bytes(), &schedules)?;
+    Ok(Some(value))
 }
 
-/// Adds what is required of outputs and isn't so, behind so many words.
-fn push_needs(
+/// What is asked of calls and isn't so on a way.
+fn call_json(alloc: Global, word: &CallWord, schedule: &Schedule) -> Result<String, AllocError>
+    ensures value { IfOk result (λ value.
+        string_bytes value ≡ call_json word.now schedule.now) }
+{
+    if word.never {
+        never_json(alloc, word.text.as_bytes(), schedule)
+    } else {
+        required_by(alloc, word.text.as_bytes(), schedule)
+    }
+}
+
+/// What is asked of calls, if a way shows that it isn't so, of what must never be so, or of what must.
+fn call_told(
     alloc: Global,
-    text: &mut String,
+    never: bool,
+    word: &CallWord,
+    ways: &Ways,
+) -> Result<Option<String>, AllocError>
+    ensures value { IfOk result (λ value. option_map string_bytes value
+        ≡ call_told never word.now ways.now) }
+{
+    let Ways::Without(schedule) = ways else {
+        return Ok(None);
+    };
+    if word.never != never {
+        return Ok(None);
+    }
+    let value = call_json(alloc, word, schedule)?;
+    Ok(Some(value))
+}
+
+/// A condition that must never be so, if it was reached.
+fn reached_if(
+    alloc: Global,
+    condition: &Never,
+    reached: &Option<Schedule>,
+) -> Result<Option<String>, AllocError>
+    ensures value { IfOk result (λ value. option_map string_bytes value
+        ≡ reached_if condition.now reached.now) }
+{
+    let Some(schedule) = reached else {
+        return Ok(None);
+    };
+    let value = never_json(alloc, condition.text().as_bytes(), schedule)?;
+    Ok(Some(value))
+}
+
+/// Adds the words that aren't so.
+fn push_words(
+    alloc: Global,
+    values: &mut Vec<String>,
+    ends: &[End],
+    answers: &[Answer],
+) -> Result<(), AllocError>
+    ensures added { OnOk result (map string_bytes values.new.items
+        ≡ map string_bytes values.old.items ++ faults_told ends.now answers.now) }
+{
+    for answer in answers {
+        let value = fault_told(alloc, ends, *answer)?;
+        push_some(values, value)?;
+    }
+    Ok(())
+}
+
+/// Adds what is required of outputs and isn't so.
+fn push_outputs(
+    alloc: Global,
+    values: &mut Vec<String>,
     ends: &[End],
     needs: &[OutputNeed],
     faults: &[Option<usize>],
-    words: usize,
-) -> Result<usize, AllocError>
-    ensures added { IfOk result (λ told. AddsValues words (string_bytes text.old)
-        (string_bytes text.new) told (outputs_told ends.now needs.now faults.now)) }
+) -> Result<(), AllocError>
+    ensures added { OnOk result (map string_bytes values.new.items
+        ≡ map string_bytes values.old.items ++ outputs_told ends.now needs.now faults.now) }
 {
-    let mut told = words;
     for number in 0..needs.len().min(faults.len()) {
-        told = push_need(alloc, text, ends, &needs[number], faults[number], told)?;
+        let value = output_told(alloc, ends, &needs[number], faults[number])?;
+        push_some(values, value)?;
     }
-    Ok(told)
+    Ok(())
 }
 
-/// Adds all that is required and isn't so, with commas between: words, then of outputs, then of
-/// calls.
-#[tactic(auto, using(crate::proofs::ValueLemmas::three_told))]
-fn push_all_required(alloc: Global, text: &mut String, answers: &Answers) -> Result<(), AllocError>
-    ensures text { OnOk result (string_bytes text.new
-        ≡ string_bytes text.old ++ values_json (required_told answers.now)) }
+/// Adds what calls must never be made and are, or what must be made and aren't.
+fn push_calls(
+    alloc: Global,
+    values: &mut Vec<String>,
+    never: bool,
+    words: &[CallWord],
+    ways: &[Ways],
+) -> Result<(), AllocError>
+    ensures added { OnOk result (map string_bytes values.new.items
+        ≡ map string_bytes values.old.items ++ calls_told never words.now ways.now) }
+{
+    for number in 0..words.len().min(ways.len()) {
+        let value = call_told(alloc, never, &words[number], &ways[number])?;
+        push_some(values, value)?;
+    }
+    Ok(())
+}
+
+/// Adds the conditions that were reached.
+fn push_reached(
+    alloc: Global,
+    values: &mut Vec<String>,
+    conditions: &[Never],
+    reached: &[Option<Schedule>],
+) -> Result<(), AllocError>
+    ensures added { OnOk result (map string_bytes values.new.items
+        ≡ map string_bytes values.old.items ++ reached_told conditions.now reached.now) }
+{
+    for number in 0..conditions.len().min(reached.len()) {
+        let value = reached_if(alloc, &conditions[number], &reached[number])?;
+        push_some(values, value)?;
+    }
+    Ok(())
+}
+
+/// All that is required and isn't so: words, then of outputs, then of calls.
+pub(crate) fn required_told(alloc: Global, answers: &Answers) -> Result<Vec<String>, AllocError>
+    ensures values { IfOk result (λ values.
+        map string_bytes values.items ≡ required_told answers.now) }
 {
     let asked = &answers.asked;
     let ends = &answers.exploration.ends;
-    let words = push_words(alloc, text, ends, &answers.answers)?;
-    let outputs = push_needs(
+    let mut values = Vec::new(alloc);
+    push_words(alloc, &mut values, ends, &answers.answers)?;
+    push_outputs(
         alloc,
-        text,
+        &mut values,
         ends,
         &asked.outputs,
         &answers.output_faults,
-        words,
     )?;
-    push_calls(
-        alloc,
-        text,
-        &asked.call_words,
-        &answers.ways,
-        false,
-        outputs,
-    )?;
-    Ok(())
+    push_calls(alloc, &mut values, false, &asked.call_words, &answers.ways)?;
+    Ok(values)
 }
 
-/// Adds the member for what is required and isn't so.
-pub(crate) fn push_faults(
-    alloc: Global,
-    text: &mut String,
-    answers: &Answers,
-) -> Result<(), AllocError>
-    ensures text { OnOk result (string_bytes text.new ≡ string_bytes text.old
-        ++ (codes "," ++ member (codes "not") (array_json (required_told answers.now)))) }
+/// All that must never be so and is: conditions, then of calls.
+pub(crate) fn never_told(alloc: Global, answers: &Answers) -> Result<Vec<String>, AllocError>
+    ensures values { IfOk result (λ values.
+        map string_bytes values.items ≡ never_told answers.now) }
 {
-    text.push_str(",\"not\":[")?;
-    push_all_required(alloc, text, answers)?;
-    text.push_str("]")?;
-    Ok(())
+    let asked = &answers.asked;
+    let mut values = Vec::new(alloc);
+    push_reached(
+        alloc,
+        &mut values,
+        &asked.never,
+        &answers.exploration.reached,
+    )?;
+    push_calls(alloc, &mut values, true, &asked.call_words, &answers.ways)?;
+    Ok(values)
 }

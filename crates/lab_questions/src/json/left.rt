@@ -1,23 +1,20 @@
 //! Messages that are left, as JSON.
-ghost use Rattle.std.specs.Prelude.{ℕ, ◌≡◌, ◌++◌, false, true, OnOk, IfOk, IsTrue, codes, map, insert, string_bytes};
-ghost use Rattle.std.specs.Fmt.{decimal};
+ghost use Rattle.std.specs.Prelude.{ℕ, ◌≡◌, false, true, Some, OnOk, IfOk, IsTrue, map, insert, string_bytes};
 ghost use Rattle.std.specs.Option.{option_copied};
 ghost use Rattle.ipc_kernel.specs.Limits.{object_places};
 ghost use Rattle.ipc_kernel.specs.Places.{place_at};
 ghost use Rattle.lab_questions.specs.Left.{is_text};
 ghost use Rattle.lab_questions.specs.LeftMembers.{place_json, left_json};
 ghost use Rattle.lab_questions.specs.ProcessMembers.{name_or_null, word_json, message_json};
-ghost use Rattle.lab_questions.specs.Values.{member, values_json};
-ghost use Rattle.lab_questions.specs.Private.Lefts.{IsFor, AreLeft, PutsLeft, lefts_json};
+ghost use Rattle.lab_questions.specs.Private.Lefts.{IsFor, AreLeft, PutsLeft};
 
-use crate::json::values::{push_comma, push_text};
+use crate::json::values::{Array, Listed, Text, WordValue};
 use crate::left::left_lines;
 use ipc_kernel::{Kernel, OBJECT_PLACES};
 use ipc_names::Name;
 use ipc_objects::Queue;
-use lc3_word::Hex;
 use std::alloc::{AllocError, Global};
-use std::fmt::Write;
+use std::fmt;
 
 /// A place with messages, and their lines.
 #[derive(Drop)]
@@ -26,93 +23,82 @@ struct Left {
     place: u8,
 }
 
-fn push_name(text: &mut String, name: Option<&Name>) -> Result<(), AllocError>
-    ensures text { OnOk result (string_bytes text.new
-        ≡ string_bytes text.old ++ name_or_null (option_copied name.entry)) }
-{
-    match name {
-        Some(name) => push_text(text, name.text().as_bytes()),
-        None => text.push_str("null"),
+/// The name of a queue, or `null`.
+#[derive(Clone, Copy)]
+struct QueueName<'a>(Option<&'a Name>);
+
+impl fmt::Display for QueueName<'_> {
+    ghost output = { λ n. Some (name_or_null (option_copied n.0)) };
+
+    fn fmt<W: fmt::Write>(&self, f: &mut fmt::Formatter<W>) -> fmt::Result {
+        match self.0 {
+            Some(name) => {
+                let name = Text(name.text().as_bytes());
+                write!(f, "{name}")
+            }
+            None => write!(f, "null"),
+        }
     }
 }
 
-fn push_word(text: &mut String, word: u16) -> Result<(), AllocError>
-    ensures text { OnOk result (string_bytes text.new ≡ string_bytes text.old ++ word_json word) }
+fn words_of(alloc: Global, words: &[u16]) -> Result<Vec<String>, AllocError>
+    ensures values { IfOk result (λ values.
+        map string_bytes values.items ≡ map word_json words.now) }
 {
-    let word = Hex(word);
-    match write!(text, "\"{word}\"") {
-        Ok(()) => Ok(()),
-        Err(error) => Err(error),
+    let mut values = Vec::new(alloc);
+    for word in words {
+        let word = WordValue(*word);
+        let value = format!(in alloc; "{word}")?;
+        values.push(value)?;
     }
+    Ok(values)
 }
 
-fn push_words(text: &mut String, words: &[u16]) -> Result<(), AllocError>
-    ensures text { OnOk result (string_bytes text.new
-        ≡ string_bytes text.old ++ values_json (map word_json words.now)) }
-{
-    for at in 0..words.len() {
-        push_comma(text, at)?;
-        push_word(text, words[at])?;
-    }
-    Ok(())
-}
-
-fn push_priority(text: &mut String, priority: u16) -> Result<(), AllocError>
-    ensures text { OnOk result (string_bytes text.new ≡ string_bytes text.old
-        ++ (codes "," ++ member (codes "priority") (decimal priority))) }
-{
-    match write!(text, ",\"priority\":{priority}") {
-        Ok(()) => Ok(()),
-        Err(error) => Err(error),
-    }
-}
-
-/// Adds a message in a queue of this name, or of none.
+/// A message in a queue of this name, or of none.
 #[tactic(auto, using(crate::proofs::MemberLemmas::message_told))]
-fn push_message(
-    text: &mut String,
+fn message_json(
+    alloc: Global,
     name: Option<&Name>,
     priority: u16,
     words: &[u16],
-) -> Result<(), AllocError>
-    ensures text { OnOk result (string_bytes text.new ≡ string_bytes text.old
-        ++ message_json (option_copied name.entry) (record { priority = priority; words = words.now })) }
+) -> Result<String, AllocError>
+    ensures value { IfOk result (λ value. string_bytes value ≡ message_json
+        (option_copied name.entry) (record { priority = priority; words = words.now })) }
 {
-    text.push_str("{\"queue\":")?;
-    push_name(text, name)?;
-    push_priority(text, priority)?;
-    text.push_str(",\"words\":[")?;
-    push_words(text, words)?;
-    text.push_str("]}")?;
-    Ok(())
+    let words = words_of(alloc, words)?;
+    let words = Array(&words);
+    let name = QueueName(name);
+    format!(in alloc; "{{\"queue\":{name},\"priority\":{priority},\"words\":{words}}}")
 }
 
-/// Adds the messages in a queue of this name, or of none, in the order in which they would be
-/// received, with commas between them.
-fn push_messages(text: &mut String, name: Option<&Name>, queue: &Queue) -> Result<(), AllocError>
-    ensures text { OnOk result (string_bytes text.new ≡ string_bytes text.old
-        ++ values_json (map (message_json (option_copied name.entry)) queue.now.messages)) }
+/// The messages in a queue of this name, or of none, in the order in which they would be received.
+fn messages_of(alloc: Global, name: Option<&Name>, queue: &Queue) -> Result<Vec<String>, AllocError>
+    ensures values { IfOk result (λ values. map string_bytes values.items
+        ≡ map (message_json (option_copied name.entry)) queue.now.messages) }
 {
+    let mut values = Vec::new(alloc);
     let (_, _, count) = queue.attr();
     for at in 0..usize::from(count) {
         let Some((priority, words)) = queue.entry(at) else {
-            return Ok(());
+            return Ok(values);
         };
-        push_comma(text, at)?;
-        push_message(text, name, priority, words)?;
+        let value = message_json(alloc, name, priority, words)?;
+        values.push(value)?;
     }
-    Ok(())
+    Ok(values)
 }
 
-/// Adds the messages in a place.
-fn push_place(text: &mut String, kernel: &Kernel, place: u8) -> Result<(), AllocError>
-    ensures text { OnOk result (string_bytes text.new
-        ≡ string_bytes text.old ++ place_json (place_at kernel.now.places place)) }
+/// The messages in a place, with commas between them.
+fn place_json(alloc: Global, kernel: &Kernel, place: u8) -> Result<String, AllocError>
+    ensures value { IfOk result (λ value.
+        string_bytes value ≡ place_json (place_at kernel.now.places place)) }
 {
-    match kernel.queue_at(place) {
-        Some((name, queue)) => push_messages(text, name, queue),
-        None => Ok(()),
-    }
+    let Some((name, queue)) = kernel.queue_at(place) else {
+        return Ok(String::new(alloc));
+    };
+    let messages = messages_of(alloc, name, queue)?;
+    let messages = Listed(&messages);
+    format!(in alloc; "{messages}")
 }
 
 /// The number of those before the first whose lines these come before.
@@ -173,26 +159,25 @@ fn lefts_of(alloc: Global, kernel: &Kernel) -> Result<Vec<Left>, AllocError>
     Ok(lefts)
 }
 
-/// Adds the messages in places, with commas between them.
-#[tactic(auto, unfolding(crate::specs::Private::Lefts::lefts_json))]
-fn push_places(text: &mut String, kernel: &Kernel, lefts: &[Left]) -> Result<(), AllocError>
-    ensures text { OnOk result (string_bytes text.new
-        ≡ string_bytes text.old ++ lefts_json kernel.now lefts.now) }
+/// The messages in each of these places.
+fn places_told(alloc: Global, kernel: &Kernel, lefts: &[Left]) -> Result<Vec<String>, AllocError>
+    ensures values { IfOk result (λ values. map string_bytes values.items
+        ≡ map (λ left. place_json (place_at kernel.now.places left.place)) lefts.now) }
 {
-    for (at, left) in lefts.iter().enumerate() {
-        push_comma(text, at)?;
-        push_place(text, kernel, left.place)?;
+    let mut values = Vec::new(alloc);
+    for left in lefts {
+        let value = place_json(alloc, kernel, left.place)?;
+        values.push(value)?;
     }
-    Ok(())
+    Ok(values)
 }
 
-/// Adds the messages that are left in the queues of a kernel, in the order in which their lines
-/// stand, with commas between them.
-#[tactic(auto, using(crate::proofs::LeftOrder::lefts_told))]
-pub(crate) fn push_left(alloc: Global, text: &mut String, kernel: &Kernel) -> Result<(), AllocError>
-    ensures text { OnOk result (string_bytes text.new
-        ≡ string_bytes text.old ++ left_json kernel.now) }
+/// The messages that are left in the queues of a kernel, in the order in which their lines stand, with commas between them.
+pub(crate) fn left_json(alloc: Global, kernel: &Kernel) -> Result<String, AllocError>
+    ensures value { IfOk result (λ value. string_bytes value ≡ left_json kernel.now) }
 {
     let lefts = lefts_of(alloc, kernel)?;
-    push_places(text, kernel, &lefts)
+    let places = places_told(alloc, kernel, &lefts)?;
+    let places = Listed(&places);
+    format!(in alloc; "{places}")
 }

@@ -1,77 +1,54 @@
 //! The limit that a search met, as JSON.
-ghost use Rattle.std.specs.Prelude.{◌≡◌, ◌++◌, OnOk, codes, string_bytes};
-ghost use Rattle.std.specs.Fmt.{decimal};
+ghost use Rattle.std.specs.Prelude.{Some};
 ghost use Rattle.std.specs.Option.{option_copied};
-ghost use Rattle.lab_questions.specs.Findings.{number_or_null, standing_json, limit_json};
-ghost use Rattle.lab_questions.specs.Values.{member};
+ghost use Rattle.lab_questions.specs.Findings.{number_or_null, limit_json};
 
-use crate::json::values::push_text;
-use crate::{LimitMet, Standing};
-use std::alloc::AllocError;
-use std::fmt::Write;
+use crate::LimitMet;
+use crate::json::values::Text;
+use std::fmt;
 
-fn push_number(text: &mut String, number: Option<usize>) -> Result<(), AllocError>
-    ensures text { OnOk result (string_bytes text.new
-        ≡ string_bytes text.old ++ number_or_null number) }
-{
-    let Some(number) = number else {
-        return text.push_str("null");
-    };
-    match write!(text, "{number}") {
-        Ok(()) => Ok(()),
-        Err(error) => Err(error),
+/// A number, or `null`.
+#[derive(Clone, Copy)]
+struct Number(Option<usize>);
+
+impl fmt::Display for Number {
+    ghost output = { λ n. Some (number_or_null n.0) };
+
+    fn fmt<W: fmt::Write>(&self, f: &mut fmt::Formatter<W>) -> fmt::Result {
+        match self.0 {
+            Some(number) => write!(f, "{number}"),
+            None => write!(f, "null"),
+        }
     }
 }
 
-fn push_process(text: &mut String, process: usize) -> Result<(), AllocError>
-    ensures text { OnOk result (string_bytes text.new ≡ string_bytes text.old
-        ++ (codes "{\"met\":\"steps\",\"process\":" ++ decimal process)) }
-{
-    match write!(text, "{{\"met\":\"steps\",\"process\":{process}") {
-        Ok(()) => Ok(()),
-        Err(error) => Err(error),
+/// The limit that a search met, or `null`.
+#[derive(Clone, Copy)]
+pub(crate) struct Limit<'a>(pub Option<&'a LimitMet>);
+
+impl fmt::Display for Limit<'_> {
+    ghost output = { λ l. Some (limit_json (option_copied l.0)) };
+
+    #[tactic(auto, unfolding(crate::specs::Findings::standing_json))]
+    fn fmt<W: fmt::Write>(&self, f: &mut fmt::Formatter<W>) -> fmt::Result {
+        match self.0 {
+            None => write!(f, "null"),
+            Some(LimitMet::Worlds { .. }) => write!(f, "{{\"met\":\"worlds\"}}"),
+            Some(
+                LimitMet::Steps {
+                    process,
+                    standing,
+                    ..
+                },
+            ) => {
+                let place = Text(standing.place.as_bytes());
+                let line = Number(standing.line);
+                write!(
+                    f,
+                    "{{\"met\":\"steps\",\"process\":{process},\"place\":{place},\"line\":{line}}}"
+                )
+            }
+            Some(LimitMet::StepsOrMemory { .. }) => write!(f, "{{\"met\":\"steps or memory\"}}"),
+        }
     }
-}
-
-/// Adds where a process stands that took too many steps without a call.
-#[tactic(auto, using(crate::proofs::MemberLemmas::place_told))]
-fn push_standing(text: &mut String, process: usize, standing: &Standing) -> Result<(), AllocError>
-    ensures text { OnOk result (string_bytes text.new
-        ≡ string_bytes text.old ++ standing_json process standing.now) }
-{
-    push_process(text, process)?;
-    text.push_str(",\"place\":")?;
-    push_text(text, standing.place.as_bytes())?;
-    text.push_str(",\"line\":")?;
-    push_number(text, standing.line)?;
-    text.push_str("}")?;
-    Ok(())
-}
-
-/// Adds the limit that a search met, or `null`.
-fn push_met(text: &mut String, limit: Option<&LimitMet>) -> Result<(), AllocError>
-    ensures text { OnOk result (string_bytes text.new
-        ≡ string_bytes text.old ++ limit_json (option_copied limit.entry)) }
-{
-    match limit {
-        None => text.push_str("null"),
-        Some(LimitMet::Worlds { .. }) => text.push_str("{\"met\":\"worlds\"}"),
-        Some(
-            LimitMet::Steps {
-                process,
-                standing,
-                ..
-            },
-        ) => push_standing(text, *process, standing),
-        Some(LimitMet::StepsOrMemory { .. }) => text.push_str("{\"met\":\"steps or memory\"}"),
-    }
-}
-
-/// Adds the member for the limit that a search met.
-pub(crate) fn push_limit(text: &mut String, limit: Option<&LimitMet>) -> Result<(), AllocError>
-    ensures text { OnOk result (string_bytes text.new ≡ string_bytes text.old
-        ++ (codes "," ++ member (codes "limit") (limit_json (option_copied limit.entry)))) }
-{
-    text.push_str(",\"limit\":")?;
-    push_met(text, limit)
 }

@@ -1,13 +1,12 @@
 //! Why an exploration isn't complete.
-ghost use Rattle.std.specs.Prelude.{◌≡◌, ◌++◌, IfOk, OnOk, codes, map, string_bytes};
+ghost use Rattle.std.specs.Prelude.{◌≡◌, IfOk, map, string_bytes};
 ghost use Rattle.lab_questions.specs.Findings.{stops_named, walk_limits, search_limits, limits_met};
-ghost use Rattle.lab_questions.specs.Values.{array_json, member, name_json, values_json};
+ghost use Rattle.lab_questions.specs.Values.{name_json};
 
 use crate::Reach;
-use crate::json::values::push_comma;
+use crate::json::values::Quoted;
 use lab_worlds::{Exploration, Limits};
 use std::alloc::{AllocError, Global};
-use std::fmt::Write;
 
 /// The names of the limits that walks met: so many were to be taken, or, where something was found,
 /// no more.
@@ -91,43 +90,29 @@ fn limits_of(
     }
 }
 
-fn push_name(text: &mut String, name: &str) -> Result<(), AllocError>
-    ensures text { OnOk result (string_bytes text.new
-        ≡ string_bytes text.old ++ name_json name.now) }
+fn names_told(alloc: Global, names: &[&str]) -> Result<Vec<String>, AllocError>
+    ensures values { IfOk result (λ values.
+        map string_bytes values.items ≡ map (λ name. name_json name.now) names.now) }
 {
-    match write!(text, "\"{name}\"") {
-        Ok(()) => Ok(()),
-        Err(error) => Err(error),
+    let mut values = Vec::new(alloc);
+    for name in names {
+        let name = Quoted(name);
+        let value = format!(in alloc; "{name}")?;
+        values.push(value)?;
     }
+    Ok(values)
 }
 
-fn push_names(text: &mut String, names: &[&str]) -> Result<(), AllocError>
-    ensures text { OnOk result (string_bytes text.new ≡ string_bytes text.old
-        ++ values_json (map (λ name. name_json name.now) names.now)) }
-{
-    for (at, name) in names.iter().enumerate() {
-        push_comma(text, at)?;
-        push_name(text, name)?;
-    }
-    Ok(())
-}
-
-/// Adds the names of the limits that were met, where not everything was visited, with commas
-/// between them.
+/// The names of the limits that were met, where not everything was visited, as texts.
 #[tactic(auto, using(crate::proofs::MemberLemmas::names_told))]
-pub(crate) fn push_limits(
+pub(crate) fn limits_told(
     alloc: Global,
-    text: &mut String,
     found: &Exploration,
     reach: Reach,
-) -> Result<(), AllocError>
-    ensures text { OnOk result (string_bytes text.new ≡ string_bytes text.old
-        ++ (codes "," ++ member (codes "limits") (array_json (map name_json
-        (limits_met found.now reach.limits reach.is_stage reach.walks))))) }
+) -> Result<Vec<String>, AllocError>
+    ensures values { IfOk result (λ values. map string_bytes values.items ≡ map name_json
+        (limits_met found.now reach.limits reach.is_stage reach.walks)) }
 {
     let names = limits_of(alloc, found, reach)?;
-    text.push_str(",\"limits\":[")?;
-    push_names(text, &names)?;
-    text.push_str("]")?;
-    Ok(())
+    names_told(alloc, &names)
 }

@@ -1,12 +1,12 @@
 //! Values of JSON.
-ghost use Rattle.std.specs.Prelude.{◌≡◌, ◌++◌, Some, OnOk, string_bytes, flat_map};
-ghost use Rattle.lab_questions.specs.Values.{number_json, character_json, text_json, schedule_json, truth_json};
-ghost use Rattle.lab_questions.specs.Private.Values.{first_comma};
+ghost use Rattle.std.specs.Prelude.{◌≡◌, Some, IfOk, flat_map, map, string_bytes};
+ghost use Rattle.lab_questions.specs.ProcessMembers.{word_json};
+ghost use Rattle.lab_questions.specs.Values.{number_json, character_json, text_json, schedule_json, truth_json, further_json, values_json, array_json, name_json};
 
 use lab_sched::Schedule;
+use lc3_word::Hex;
 use std::alloc::{AllocError, Global};
 use std::fmt;
-use std::fmt::Write;
 
 /// A character by its number.
 #[derive(Clone, Copy)]
@@ -22,82 +22,146 @@ impl fmt::Display for Number {
     }
 }
 
-fn push_number(text: &mut String, character: u8) -> Result<(), AllocError>
-    ensures text { OnOk result
-        (string_bytes text.new ≡ string_bytes text.old ++ number_json character) }
-{
-    let number = Number(character);
-    match write!(text, "{number}") {
-        Ok(()) => Ok(()),
-        Err(error) => Err(error),
+/// A character, by its number, as it stands in a text.
+#[derive(Clone, Copy)]
+struct Character(u8);
+
+impl fmt::Display for Character {
+    ghost output = { λ c. Some (character_json c.0) };
+
+    #[tactic(auto, unfolding(crate::specs::Values::character_json))]
+    fn fmt<W: fmt::Write>(&self, f: &mut fmt::Formatter<W>) -> fmt::Result {
+        if self.0 == b'"' {
+            write!(f, "\\\"")
+        } else if self.0 == b'\\' {
+            write!(f, "\\\\")
+        } else if b' ' <= self.0 && self.0 <= b'~' {
+            let character = char::from(self.0);
+            write!(f, "{character}")
+        } else {
+            let number = Number(self.0);
+            write!(f, "{number}")
+        }
     }
 }
 
-/// Adds a character, by its number, as it stands in a text.
-#[tactic(auto, unfolding(crate::specs::Values::character_json))]
-fn push_character(text: &mut String, character: u8) -> Result<(), AllocError>
-    ensures text { OnOk result
-        (string_bytes text.new ≡ string_bytes text.old ++ character_json character) }
-{
-    if character == b'"' {
-        return text.push_str("\\\"");
+#[derive(Clone, Copy)]
+struct Characters<'a>(&'a [u8]);
+
+impl fmt::Display for Characters<'_> {
+    ghost output = { λ c. Some (flat_map character_json c.0.now) };
+
+    fn fmt<W: fmt::Write>(&self, f: &mut fmt::Formatter<W>) -> fmt::Result {
+        for number in self.0 {
+            let character = Character(*number);
+            write!(f, "{character}")?;
+        }
+        Ok(())
     }
-    if character == b'\\' {
-        return text.push_str("\\\\");
-    }
-    if b' ' <= character && character <= b'~' {
-        return text.push(char::from(character));
-    }
-    push_number(text, character)
 }
 
-/// Adds characters, by their numbers, as they stand in a text.
-fn push_characters(text: &mut String, characters: &[u8]) -> Result<(), AllocError>
-    ensures text { OnOk result (string_bytes text.new
-        ≡ string_bytes text.old ++ flat_map character_json characters.now) }
-{
-    for character in characters {
-        push_character(text, *character)?;
+/// The text of characters, by their numbers.
+#[derive(Clone, Copy)]
+pub(crate) struct Text<'a>(pub &'a [u8]);
+
+impl fmt::Display for Text<'_> {
+    ghost output = { λ t. Some (text_json t.0.now) };
+
+    #[tactic(auto, unfolding(crate::specs::Values::text_json))]
+    fn fmt<W: fmt::Write>(&self, f: &mut fmt::Formatter<W>) -> fmt::Result {
+        let characters = Characters(self.0);
+        write!(f, "\"{characters}\"")
     }
-    Ok(())
 }
 
-/// Adds the text of characters, by their numbers.
-#[tactic(auto, unfolding(crate::specs::Values::text_json))]
-pub(crate) fn push_text(text: &mut String, characters: &[u8]) -> Result<(), AllocError>
-    ensures text { OnOk result
-        (string_bytes text.new ≡ string_bytes text.old ++ text_json characters.now) }
-{
-    text.push_str("\"")?;
-    push_characters(text, characters)?;
-    text.push_str("\"")
+/// A name as a text, none of whose characters stands otherwise there.
+#[derive(Clone, Copy)]
+pub(crate) struct Quoted<'a>(pub &'a str);
+
+impl fmt::Display for Quoted<'_> {
+    ghost output = { λ n. Some (name_json n.0.now) };
+
+    fn fmt<W: fmt::Write>(&self, f: &mut fmt::Formatter<W>) -> fmt::Result {
+        let name = self.0;
+        write!(f, "\"{name}\"")
+    }
 }
 
-pub(crate) fn push_schedule(
-    alloc: Global,
-    text: &mut String,
-    schedule: &Schedule,
-) -> Result<(), AllocError>
-    ensures text { OnOk result
-        (string_bytes text.new ≡ string_bytes text.old ++ schedule_json schedule.now) }
+/// A word of a machine as a text.
+#[derive(Clone, Copy)]
+pub(crate) struct WordValue(pub u16);
+
+impl fmt::Display for WordValue {
+    ghost output = { λ w. Some (word_json w.0) };
+
+    fn fmt<W: fmt::Write>(&self, f: &mut fmt::Formatter<W>) -> fmt::Result {
+        let word = Hex(self.0);
+        write!(f, "\"{word}\"")
+    }
+}
+
+#[derive(Clone, Copy)]
+pub(crate) struct Truth(pub bool);
+
+impl fmt::Display for Truth {
+    ghost output = { λ t. Some (truth_json t.0) };
+
+    fn fmt<W: fmt::Write>(&self, f: &mut fmt::Formatter<W>) -> fmt::Result {
+        let truth = self.0;
+        write!(f, "{truth}")
+    }
+}
+
+/// Values behind others, each behind a comma.
+#[derive(Clone, Copy)]
+struct Further<'a>(&'a [String]);
+
+impl fmt::Display for Further<'_> {
+    ghost output = { λ v. Some (further_json (map string_bytes v.0.now)) };
+
+    fn fmt<W: fmt::Write>(&self, f: &mut fmt::Formatter<W>) -> fmt::Result {
+        for value in self.0 {
+            write!(f, ",{value}")?;
+        }
+        Ok(())
+    }
+}
+
+/// Values with commas between them.
+#[derive(Clone, Copy)]
+pub(crate) struct Listed<'a>(pub &'a [String]);
+
+impl fmt::Display for Listed<'_> {
+    ghost output = { λ v. Some (values_json (map string_bytes v.0.now)) };
+
+    fn fmt<W: fmt::Write>(&self, f: &mut fmt::Formatter<W>) -> fmt::Result {
+        match self.0.split_first() {
+            Some((first, rest)) => {
+                let rest = Further(rest);
+                write!(f, "{first}{rest}")
+            }
+            None => Ok(()),
+        }
+    }
+}
+
+/// An array of values.
+#[derive(Clone, Copy)]
+pub(crate) struct Array<'a>(pub &'a [String]);
+
+impl fmt::Display for Array<'_> {
+    ghost output = { λ v. Some (array_json (map string_bytes v.0.now)) };
+
+    fn fmt<W: fmt::Write>(&self, f: &mut fmt::Formatter<W>) -> fmt::Result {
+        let values = Listed(self.0);
+        write!(f, "[{values}]")
+    }
+}
+
+pub(crate) fn schedule_json(alloc: Global, schedule: &Schedule) -> Result<String, AllocError>
+    ensures value { IfOk result (λ value. string_bytes value ≡ schedule_json schedule.now) }
 {
     let steps = schedule.text(alloc)?;
-    push_text(text, steps.as_bytes())
-}
-
-pub(crate) fn truth_name(truth: bool) -> &'static str
-    ensures text { result.now ≡ truth_json truth }
-{
-    if truth { "true" } else { "false" }
-}
-
-/// Adds a comma before each value of a list but the first.
-pub(crate) fn push_comma(text: &mut String, at: usize) -> Result<(), AllocError>
-    ensures text { OnOk result
-        (string_bytes text.new ≡ string_bytes text.old ++ first_comma at) }
-{
-    if at == 0 {
-        return Ok(());
-    }
-    text.push_str(",")
+    let steps = Text(steps.as_bytes());
+    format!(in alloc; "{steps}")
 }
