@@ -14,7 +14,7 @@ use crate::failure::whole_failure;
 use crate::judging::fault_in;
 use crate::output::faults_in;
 use crate::shown::shown_text;
-use crate::texts::tell;
+use crate::texts::{Judged, tell};
 use crate::{Asked, Failure, Object, Waiter, Word};
 use lab_sched::World;
 use lab_ways::Ways;
@@ -123,7 +123,14 @@ pub(crate) fn said_of(
 {
     let answers = answers_on(alloc, &asked.words, &asked.waiters, &found.ends)?;
     let output_faults = faults_in(alloc, &asked.outputs, &found.ends)?;
-    let told = tell(alloc, asked, found, &answers, &output_faults, ways, walks)?;
+    let judged = Judged {
+        asked,
+        found,
+        answers: &answers,
+        faults: &output_faults,
+        ways,
+    };
+    let told = tell(alloc, judged, walks)?;
     let failure = whole_failure(found, &answers, &output_faults, ways, asked.plain);
     Ok(Said {
         answers,

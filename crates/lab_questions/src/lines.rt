@@ -1,6 +1,6 @@
 //! The lines of the text.
 ghost use Rattle.std.specs.Prelude.{◌≡◌, ◌++◌, OnOk, string_bytes};
-ghost use Rattle.lab_questions.specs.EndTexts.{schedule_line, end_lines, lasso_line, lasso_text, extent_text, extent_line};
+ghost use Rattle.lab_questions.specs.EndTexts.{schedule_line, end_lines, lasso_text, extent_text, extent_line};
 
 use lab_sched::Schedule;
 use lab_worlds::Lasso;
@@ -39,20 +39,7 @@ pub(crate) fn push_end(
     push_schedule(alloc, text, schedule)
 }
 
-/// Adds the line of the steps of a lasso.
 #[tactic(auto, unfolding(crate::specs::EndTexts::lasso_line))]
-fn push_steps(alloc: Global, text: &mut String, steps: &Schedule) -> Result<(), AllocError>
-    ensures text { OnOk result (string_bytes text.new
-        ≡ string_bytes text.old ++ lasso_line steps.now) }
-{
-    let steps = steps.text(alloc)?;
-    match write!(text, "round {steps}\n") {
-        Ok(()) => Ok(()),
-        Err(error) => Err(error),
-    }
-}
-
-/// Adds the lines of a lasso, if there is one.
 pub(crate) fn push_lasso(
     alloc: Global,
     text: &mut String,
@@ -66,7 +53,9 @@ pub(crate) fn push_lasso(
     };
     text.push_str("endless\n")?;
     push_schedule(alloc, text, &lasso.schedule)?;
-    push_steps(alloc, text, &lasso.steps)
+    let steps = lasso.steps.text(alloc)?;
+    write!(text, "round {steps}\n")?;
+    Ok(())
 }
 
 /// Whether an exploration is complete, in a word.

@@ -1,7 +1,7 @@
 //! The lines of answers.
-ghost use Rattle.std.specs.Prelude.{◌≡◌, ◌<◌, ◌++◌, Some, length, slice_get, OnOk, IfOk, IfSome, All, string_bytes, flat_map};
+ghost use Rattle.std.specs.Prelude.{◌≡◌, ◌<◌, ◌++◌, Some, length, OnOk, IfOk, IfSome, All, string_bytes, flat_map};
 ghost use Rattle.lab_questions.specs.EndTexts.{schedule_line, AreTold};
-ghost use Rattle.lab_questions.specs.Texts.{schedule_at, first_lines, fault_lines, answer_lines, need_lines, needs_lines, condition_lines, reached_lines, word_lines, walks_line, last_lines, judged_lines, answers_text};
+ghost use Rattle.lab_questions.specs.Texts.{schedule_at, first_lines, fault_lines, answer_lines, need_lines, needs_lines, condition_lines, reached_lines, word_lines, last_lines, judged_lines, answers_text};
 
 use crate::called::push_calls;
 use crate::lines::{push_extent, push_lasso, push_schedule};
@@ -14,7 +14,16 @@ use lab_worlds::{End, Exploration};
 use std::alloc::{AllocError, Global};
 use std::fmt::Write;
 
-/// Adds the line of the schedule of an end, by its number, counted from 0.
+/// What was asked and found, with the answers on words, outputs and calls.
+#[derive(Clone, Copy)]
+pub(crate) struct Judged<'a> {
+    pub asked: &'a Asked,
+    pub found: &'a Exploration,
+    pub answers: &'a [Answer],
+    pub faults: &'a [Option<usize>],
+    pub ways: &'a [Ways],
+}
+
 fn push_schedule_at(
     alloc: Global,
     text: &mut String,
@@ -90,42 +99,24 @@ fn push_answers(
     Ok(())
 }
 
-/// Adds the lines of what is required of an output and isn't so at an end.
-fn push_unwritten(
-    alloc: Global,
-    text: &mut String,
-    ends: &[End],
-    need: &OutputNeed,
-    number: usize,
-) -> Result<(), AllocError>
-    requires there { number < length ends.now }
-    ensures text { OnOk result (string_bytes text.new ≡ string_bytes text.old
-        ++ need_lines ends.now (Some need.now) (Some (Some number))) }
-{
-    let name = need.text.as_str();
-    write!(text, "not {name}\n")?;
-    push_schedule_at(alloc, text, ends, number)
-}
-
-/// Adds the lines of what is required of an output, by its number, counted from 0, if an end shows that it isn't so.
+/// Adds the lines of what is required of an output, if an end shows that it isn't so.
 fn push_need(
     alloc: Global,
     text: &mut String,
     ends: &[End],
-    needs: &[OutputNeed],
-    faults: &[Option<usize>],
-    number: usize,
+    need: &OutputNeed,
+    fault: Option<usize>,
 ) -> Result<(), AllocError>
-    requires there { All (λ f. IfSome f (λ i. i < length ends.now)) faults.now }
-    requires need { number < length needs.now }
-    requires fault { number < length faults.now }
-    ensures text { OnOk result (string_bytes text.new ≡ string_bytes text.old
-        ++ need_lines ends.now (slice_get needs.now number) (slice_get faults.now number)) }
+    requires there { IfSome fault (λ i. i < length ends.now) }
+    ensures text { OnOk result (string_bytes text.new
+        ≡ string_bytes text.old ++ need_lines ends.now (Some need.now) (Some fault)) }
 {
-    match faults[number] {
-        Some(at) => push_unwritten(alloc, text, ends, &needs[number], at),
-        None => Ok(()),
-    }
+    let Some(number) = fault else {
+        return Ok(());
+    };
+    let name = need.text.as_str();
+    write!(text, "not {name}\n")?;
+    push_schedule_at(alloc, text, ends, number)
 }
 
 /// Adds the lines of what is required of outputs and isn't so.
@@ -142,42 +133,26 @@ fn push_needs(
         ≡ string_bytes text.old ++ needs_lines ends.now needs.now faults.now) }
 {
     for number in 0..needs.len().min(faults.len()) {
-        push_need(alloc, text, ends, needs, faults, number)?;
+        push_need(alloc, text, ends, &needs[number], faults[number])?;
     }
     Ok(())
 }
 
-/// Adds the lines of what must never be so and was reached.
-fn push_reached(
-    alloc: Global,
-    text: &mut String,
-    condition: &Never,
-    schedule: &Schedule,
-) -> Result<(), AllocError>
-    ensures text { OnOk result (string_bytes text.new ≡ string_bytes text.old
-        ++ condition_lines (Some condition.now) (Some (Some schedule.now))) }
-{
-    write!(text, "reached {condition}\n")?;
-    push_schedule(alloc, text, schedule)
-}
-
-/// Adds the lines of what must never be so, by its number, counted from 0, if it was reached.
+/// Adds the lines of what must never be so, if it was reached.
 fn push_condition(
     alloc: Global,
     text: &mut String,
-    conditions: &[Never],
-    reached: &[Option<Schedule>],
-    number: usize,
+    condition: &Never,
+    reached: &Option<Schedule>,
 ) -> Result<(), AllocError>
-    requires there { number < length conditions.now }
-    requires reached { number < length reached.now }
-    ensures text { OnOk result (string_bytes text.new ≡ string_bytes text.old
-        ++ condition_lines (slice_get conditions.now number) (slice_get reached.now number)) }
+    ensures text { OnOk result (string_bytes text.new
+        ≡ string_bytes text.old ++ condition_lines (Some condition.now) (Some reached.now)) }
 {
-    match &reached[number] {
-        Some(schedule) => push_reached(alloc, text, &conditions[number], schedule),
-        None => Ok(()),
-    }
+    let Some(schedule) = reached else {
+        return Ok(());
+    };
+    write!(text, "reached {condition}\n")?;
+    push_schedule(alloc, text, schedule)
 }
 
 /// Adds the lines of what must never be so and was reached.
@@ -192,21 +167,9 @@ fn push_conditions(
         ≡ string_bytes text.old ++ reached_lines conditions.now reached.now) }
 {
     for number in 0..conditions.len().min(reached.len()) {
-        push_condition(alloc, text, conditions, reached, number)?;
+        push_condition(alloc, text, &conditions[number], &reached[number])?;
     }
     Ok(())
-}
-
-/// Adds the last line where so many walks were taken.
-#[tactic(auto, unfolding(crate::specs::Texts::walks_line))]
-fn push_walks(text: &mut String, walks: u32) -> Result<(), AllocError>
-    ensures text { OnOk result (string_bytes text.new
-        ≡ string_bytes text.old ++ walks_line walks) }
-{
-    match write!(text, "incomplete {walks} walks\n") {
-        Ok(()) => Ok(()),
-        Err(error) => Err(error),
-    }
 }
 
 /// Adds the lines of answers, unless no more is asked than the ends.
@@ -228,27 +191,25 @@ fn push_words(
 }
 
 /// Adds the lines of words, outputs and calls that aren't so.
-fn push_judged(
-    alloc: Global,
-    text: &mut String,
-    asked: &Asked,
-    found: &Exploration,
-    answers: &[Answer],
-    faults: &[Option<usize>],
-    ways: &[Ways],
-) -> Result<(), AllocError>
-    requires there { All (λ a. IfSome a.fault (λ i. i < length found.now.ends.items)) answers.now }
-    requires outputs { All (λ f. IfSome f (λ i. i < length found.now.ends.items)) faults.now }
+fn push_judged(alloc: Global, text: &mut String, judged: Judged<'_>) -> Result<(), AllocError>
+    requires there { All (λ a. IfSome a.fault (λ i. i < length judged.found.now.ends.items))
+        judged.answers.now }
+    requires outputs { All (λ f. IfSome f (λ i. i < length judged.found.now.ends.items))
+        judged.faults.now }
     ensures text { OnOk result (string_bytes text.new
         ≡ string_bytes text.old
-        ++ judged_lines asked.now found.now answers.now faults.now ways.now) }
+        ++ judged_lines judged.entry.asked.now judged.entry.found.now judged.entry.answers.now
+        judged.entry.faults.now judged.entry.ways.now) }
 {
-    push_words(alloc, text, asked.plain, &found.ends, answers)?;
-    push_needs(alloc, text, &found.ends, &asked.outputs, faults)?;
-    push_calls(alloc, text, &asked.call_words, ways)
+    let asked = judged.asked;
+    let ends = &judged.found.ends;
+    push_words(alloc, text, asked.plain, ends, judged.answers)?;
+    push_needs(alloc, text, ends, &asked.outputs, judged.faults)?;
+    push_calls(alloc, text, &asked.call_words, judged.ways)
 }
 
 /// Adds the last lines: of walks how many were taken; else what was reached, a lasso, and whether everything was visited.
+#[tactic(auto, unfolding(crate::specs::Texts::walks_line))]
 fn push_last(
     alloc: Global,
     text: &mut String,
@@ -260,7 +221,9 @@ fn push_last(
         ≡ string_bytes text.old ++ last_lines walks never.now found.now) }
 {
     if walks {
-        return push_walks(text, found.worlds);
+        let walks = found.worlds;
+        write!(text, "incomplete {walks} walks\n")?;
+        return Ok(());
     }
     push_conditions(alloc, text, never, &found.reached)?;
     push_lasso(alloc, text, &found.lasso)?;
@@ -268,24 +231,20 @@ fn push_last(
 }
 
 /// Tells what was found, by walks or by a search, and answers.
-pub(crate) fn tell(
-    alloc: Global,
-    asked: &Asked,
-    found: &Exploration,
-    answers: &[Answer],
-    faults: &[Option<usize>],
-    ways: &[Ways],
-    walks: bool,
-) -> Result<Told, AllocError>
-    requires there { All (λ a. IfSome a.fault (λ i. i < length found.now.ends.items)) answers.now }
-    requires outputs { All (λ f. IfSome f (λ i. i < length found.now.ends.items)) faults.now }
+pub(crate) fn tell(alloc: Global, judged: Judged<'_>, walks: bool) -> Result<Told, AllocError>
+    requires there { All (λ a. IfSome a.fault (λ i. i < length judged.found.now.ends.items))
+        judged.answers.now }
+    requires outputs { All (λ f. IfSome f (λ i. i < length judged.found.now.ends.items))
+        judged.faults.now }
     ensures text { IfOk result (λ told. string_bytes told.text
-        ≡ answers_text walks asked.now found.now answers.now faults.now ways.now) }
-    ensures told { IfOk result (λ told.
-        AreTold asked.now.show found.now.ends.items told.numbers.items) }
+        ≡ answers_text walks judged.entry.asked.now judged.entry.found.now
+        judged.entry.answers.now judged.entry.faults.now judged.entry.ways.now) }
+    ensures told { IfOk result (λ told. AreTold judged.entry.asked.now.show
+        judged.entry.found.now.ends.items told.numbers.items) }
 {
+    let Judged { asked, found, .. } = judged;
     let mut told = told_of(alloc, asked.show, &found.ends)?;
-    push_judged(alloc, &mut told.text, asked, found, answers, faults, ways)?;
+    push_judged(alloc, &mut told.text, judged)?;
     push_last(alloc, &mut told.text, walks, &asked.never, found)?;
     Ok(told)
 }

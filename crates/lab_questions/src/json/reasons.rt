@@ -1,11 +1,11 @@
 //! Why an exploration isn't complete.
 ghost use Rattle.std.specs.Prelude.{◌≡◌, IfOk, map, string_bytes};
-ghost use Rattle.lab_questions.specs.Findings.{stops_named, walk_limits, search_limits, limits_met};
+ghost use Rattle.lab_questions.specs.Findings.{stops_named, walk_limits, limits_met};
 ghost use Rattle.lab_questions.specs.Values.{name_json};
 
 use crate::Reach;
 use crate::json::values::Quoted;
-use lab_worlds::{Exploration, Limits};
+use lab_worlds::Exploration;
 use std::alloc::{AllocError, Global};
 
 /// The names of the limits that walks met: so many were to be taken, or, where something was found,
@@ -58,24 +58,6 @@ fn stops_of(
     Ok(met)
 }
 
-/// The names of the limits that a search met, if it didn't visit everything: where something was
-/// found it was to visit no more worlds than so many.
-fn limits_of_worlds(
-    alloc: Global,
-    found: &Exploration,
-    limits: Limits,
-    first: bool,
-) -> Result<Vec<&'static str>, AllocError>
-    ensures names { IfOk result (λ met.
-        map (λ name. name.now) met.items ≡ search_limits found.now limits first) }
-{
-    if found.complete {
-        return Ok(Vec::new(alloc));
-    }
-    stops_of(alloc, found.worlds >= limits.worlds, found.refused, first)
-}
-
-/// The names of the limits that were met.
 fn limits_of(
     alloc: Global,
     found: &Exploration,
@@ -86,7 +68,13 @@ fn limits_of(
 {
     match reach.walks {
         Some(walks) => limits_of_walks(alloc, found, walks.count, reach.is_stage),
-        None => limits_of_worlds(alloc, found, reach.limits, reach.is_stage),
+        None if found.complete => Ok(Vec::new(alloc)),
+        None => stops_of(
+            alloc,
+            found.worlds >= reach.limits.worlds,
+            found.refused,
+            reach.is_stage,
+        ),
     }
 }
 

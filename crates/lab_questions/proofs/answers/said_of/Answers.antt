@@ -1,4 +1,4 @@
-use Rattle.std.proofs.Common.{◌≡◌, ◌<◌, All, IfSome, length, subst, sym}
+use Rattle.std.proofs.Common.{◌<◌, All, IfSome, length, subst, sym}
 use Rattle.lab_worlds.specs.Calls.{Alongside}
 use Rattle.lab_questions.specs.Judgments.{IsAnswer}
 use Rattle.lab_questions.specs.Outputs.{IsOutputAnswer}
