@@ -6,7 +6,7 @@ ghost use Rattle.lc3_word.specs.Blanks.{words_between};
 ghost use Rattle.lab_questions.specs.CallWords.{call_count, kind_words, without, Say, SayOf, Asks, forbids};
 ghost use Rattle.lab_ways.specs.declared.wanted.Pattern.{Pattern as Calls};
 
-use crate::reading::process_in;
+use crate::reading::{is_word, process_in};
 use ipc_names::Name;
 use ipc_traps::Service;
 use lab_ways::{CallKind, Pattern, Wanted};
@@ -18,14 +18,6 @@ const MOST_CALLS: u32 = 1_000;
 
 /// The most semaphores of which it can be asked whether they are held at one time.
 const MOST_NAMES: usize = 8;
-
-#[tactic(auto, using(crate::proofs::ReadingLemmas::same_word, crate::proofs::ReadingLemmas::other_word))]
-fn is_word(name: &str, word: &[u8]) -> bool
-    ensures same { IsTrue result → word.now ≡ name.now }
-    ensures other { result ≡ false → name.now ≡ word.now → ⊥ }
-{
-    name.as_bytes() == word
-}
 
 /// The call with a vector, if this is its name.
 fn service_at(vector: u8, word: &[u8]) -> Option<Service>
@@ -135,7 +127,6 @@ fn kinds_in(alloc: Global, words: &[&[u8]]) -> Result<Option<Vec<CallKind>>, All
     Ok(Some(kinds))
 }
 
-/// Kinds of calls, of which there is one at least.
 fn some_kinds_in(alloc: Global, words: &[&[u8]]) -> Result<Option<Vec<CallKind>>, AllocError>
     ensures words { IfOk result (λ read. IfSome read (λ kinds.
         map (λ word. word.now) words.now ≡ flat_map kind_words kinds.items)) }
@@ -146,7 +137,6 @@ fn some_kinds_in(alloc: Global, words: &[&[u8]]) -> Result<Option<Vec<CallKind>>
     kinds_in(alloc, words)
 }
 
-/// Names, one behind the other.
 fn names_in(alloc: Global, words: &[&[u8]]) -> Result<Option<Vec<Name>>, AllocError>
     ensures names { IfOk result (λ read. IfSome read (λ names.
         map (λ word. word.now) words.now ≡ names.items)) }
@@ -161,7 +151,6 @@ fn names_in(alloc: Global, words: &[&[u8]]) -> Result<Option<Vec<Name>>, AllocEr
     Ok(Some(names))
 }
 
-/// Adds a word, if it isn't this one.
 fn push_other<'a>(words: &mut Vec<&'a [u8]>, name: &str, word: &'a [u8]) -> Result<(), AllocError>
     ensures added { OnOk result (map (λ w. w.now) words.new.items
         ≡ map (λ w. w.now) words.old.items ++ without name.now (word.now ∷ [])) }
@@ -173,7 +162,6 @@ fn push_other<'a>(words: &mut Vec<&'a [u8]>, name: &str, word: &'a [u8]) -> Resu
     Ok(())
 }
 
-/// The words that aren't this one.
 fn without<'a>(alloc: Global, name: &str, words: &[&'a [u8]]) -> Result<Vec<&'a [u8]>, AllocError>
     ensures words { IfOk result (λ found. map (λ word. word.now) found.items
         ≡ without name.now (map (λ word. word.now) words.now)) }
@@ -300,7 +288,6 @@ fn none_of(alloc: Global, words: &[&[u8]]) -> Result<Option<Pattern>, AllocError
     }
 }
 
-/// What must be so on every way.
 fn required_in(alloc: Global, words: &[&[u8]]) -> Result<Option<Pattern>, AllocError>
     ensures pattern { IfOk result (λ read. IfSome read (λ pattern.
         Say (map (λ word. word.now) words.now) pattern)) }

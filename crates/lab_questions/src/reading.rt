@@ -4,8 +4,8 @@ ghost use Rattle.lc3_word.specs.Blanks.{words_between};
 ghost use Rattle.std.specs.List.{before_first, after_first};
 ghost use Rattle.std.specs.Option.{option_map};
 ghost use Rattle.lc3_table.specs.Statements.{escape, is_string_byte};
-ghost use Rattle.lab_questions.specs.Private.Readings.{joined, ended, left};
-ghost use Rattle.lab_questions.specs.Written.{is_quote, before, string_in, relation_in, process_in, subject_in, linked, heading_in, front_in, with_part, need_in, Part, part_read, parts_read, need_read};
+ghost use Rattle.lab_questions.specs.Private.Readings.{ended, left};
+ghost use Rattle.lab_questions.specs.Written.{is_quote, before, string_in, relation_in, process_in, subject_in, linked, heading_in, front_in, need_in, part_read, parts_read, need_read};
 
 use crate::{Alternative, OutputNeed, OutputPart, OutputRelation};
 use lc3_word::{unsigned, words_between};
@@ -87,8 +87,11 @@ fn string_in<'a>(alloc: Global, text: &'a [u8]) -> Result<Option<Quoted<'a>>, Al
     Ok(Some(Quoted { bytes, rest }))
 }
 
-fn is_word(name: &str, word: &[u8]) -> bool
+#[tactic(auto, using(crate::proofs::ReadingLemmas::same_word, crate::proofs::ReadingLemmas::other_word))]
+pub(crate) fn is_word(name: &str, word: &[u8]) -> bool
     ensures value { result ≡ bytes_eq name.now word.now }
+    ensures same { IsTrue result → word.now ≡ name.now }
+    ensures other { result ≡ false → name.now ≡ word.now → ⊥ }
 {
     name.as_bytes() == word
 }
