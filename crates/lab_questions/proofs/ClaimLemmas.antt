@@ -1,5 +1,5 @@
 -- What the text says of programs, by what was found of them.
-use Rattle.std.proofs.Common.{ℕ, ◌≡◌, ◌+◌, Bool, true, false, List, [], ◌∷◌, ◌++◌, Option, Some, None, get_or, slice_get, length, All, refl, sym, ap, subst, ◌∙◌, append_assoc, append-nil, flat_map, codes, decimal, string_bytes, arith, ◌≤◌}
+use Rattle.std.proofs.Common.{ℕ, ◌≡◌, ◌+◌, Bool, true, false, List, [], ◌∷◌, ◌++◌, Option, Some, None, get_or, slice_get, All, refl, sym, ap, subst, ◌∙◌, append_assoc, append-nil, flat_map, codes, decimal, string_bytes, arith, ◌≤◌}
 use Rattle.std.specs.List.Sorted.{IsNonDecreasingBy}
 use Rattle.std.proofs.lemmas.Option.{slice_get_within, get_or_from_slice_get}
 use Rattle.ipc_kernel.specs.Kernel.{KernelState}

@@ -1,12 +1,12 @@
 -- Why not all is as it is required, and that nothing is wrong where there is no such reason.
-use Rattle.std.proofs.Common.{ℕ, ◌≡◌, ◌≢◌, ◌⊎◌, inl, inr, Bool, true, false, List, [], Option, Some, None, All, Any, IfSome, get_or, slice_get, length, arith, refl, sym, ap, subst, ◌∙◌}
+use Rattle.std.proofs.Common.{ℕ, ◌≡◌, ◌≢◌, inl, inr, Bool, true, false, List, [], Option, Some, None, All, IfSome, get_or, slice_get, arith, refl, sym, ap, subst, ◌∙◌}
 use Rattle.std.proofs.lemmas.List.{get_or_default}
 use Rattle.std.proofs.lemmas.Option.{slice_get_within, get_or_from_slice_get}
 use Rattle.lab_sched.specs.declared.schedule.block.Block.{Block}
 use Rattle.lab_sched.specs.declared.verdict.Verdict.TheVariants as verdict
 use Rattle.lab_sched.specs.Worlds.{Process, Running, Waiting, WorldState}
 use Rattle.lab_sched.specs.Worlds as world
-use Rattle.lab_sched.specs.Verdicts.{IsVerdict, HasEnded, HaveEnded, AreStuck}
+use Rattle.lab_sched.specs.Verdicts.{IsVerdict, HasEnded, AreStuck}
 use Rattle.lab_worlds.specs.declared.ends.End.{End}
 use Rattle.lab_worlds.specs.declared.exploration.Exploration.{Exploration}
 use Rattle.lab_worlds.specs.Ends.{IsEnd, AreEnds}
@@ -20,7 +20,7 @@ use Rattle.lab_questions.specs.declared.failure.Failure.TheVariants.{Not, Output
 use Rattle.lab_questions.specs.Requirements.{HasSettled, HaveSettled}
 use Rattle.lab_questions.specs.Judgments.{Meets, IsFault, IsFaultIn, IsAnswer, HasOtherVerdict, verdict_asked}
 use Rattle.lab_ways.specs.declared.ways.Ways.{Ways}
-use Rattle.lab_ways.specs.declared.ways.Ways.TheVariants.{Always, Without, Unknown}
+use Rattle.lab_ways.specs.declared.ways.Ways.TheVariants.{Always, Without}
 use Rattle.lab_questions.specs.Called.{AreAlways, IsAgainst, NothingElse, IsFailureOfAll}
 use Rattle.lab_questions.specs.Private.CallFailures.{CallFails}
 use Rattle.lab_questions.specs.Outputs.{IsUnwritten}

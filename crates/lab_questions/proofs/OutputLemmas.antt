@@ -8,8 +8,7 @@ use Rattle.lab_worlds.specs.Closed.{AreAtRest}
 use Rattle.lab_worlds.specs.Ends.{IsEnd, AreEnds, HaveAllEnds}
 use Rattle.lab_questions.specs.declared.output.OutputNeed.{OutputNeed}
 use Rattle.lab_questions.specs.declared.output.OutputPart.{OutputPart}
-use Rattle.lab_questions.specs.Requirements.{outputs}
-use Rattle.lab_questions.specs.Outputs.{Fits, HasOutput, HasWritten, IsWrittenAt, IsOutputFault, IsOutputAnswer, AlwaysWritten, IsOutputRefuted}
+use Rattle.lab_questions.specs.Outputs.{Fits, HasOutput, HasWritten, IsWrittenAt, IsOutputAnswer, AlwaysWritten, IsOutputRefuted}
 use Rattle.lab_questions.specs.Texts.{schedule_of, schedule_at}
 use Rattle.lab_questions.proofs.AnswerLemmas.{all_at}
 

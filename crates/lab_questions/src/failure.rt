@@ -1,7 +1,7 @@
 //! Why ends aren't as they are required to be.
-ghost use Rattle.std.specs.Prelude.{◌≡◌, ◌≢◌, ◌↔◌, false, List, Some, None, All, Any, IfSome, IsTrue, slice_get};
+ghost use Rattle.std.specs.Prelude.{◌≡◌, ◌↔◌, false, List, Some, None, All, Any, IfSome, IsTrue, slice_get};
 ghost use Rattle.lab_sched.specs.declared.schedule.block.Block.{Block};
-ghost use Rattle.lab_questions.specs.Programs.{AsksRest, Passes, IsEndless, IsUnmet, IsReached, IsFailure};
+ghost use Rattle.lab_questions.specs.Programs.{AsksRest, Passes, IsEndless, IsUnmet, IsFailure};
 ghost use Rattle.lab_questions.specs.Outputs.{IsUnwritten};
 ghost use Rattle.lab_questions.specs.Called.{AreAlways, IsFailureOfAll};
 ghost use Rattle.lab_questions.specs.Private.CallFailures.{CallFails};
@@ -29,7 +29,6 @@ pub enum Failure {
     Incomplete,
 }
 
-/// The first word that isn't so.
 fn unmet_word(answers: &[Answer]) -> Option<Word>
     ensures none { result ≡ None → All (λ a. a.fault ≡ None) answers.now }
     ensures some { IfSome result (λ word.
@@ -83,7 +82,6 @@ fn asks_rest(word: Word) -> bool
     matches!(word, Word::Ended | Word::Stuck | Word::Halted)
 }
 
-/// Whether some word asks that each run comes to rest.
 fn ask_rest(answers: &[Answer]) -> bool
     ensures asked { IsTrue result ↔ Any (λ a. AsksRest a.word) answers.now }
 {

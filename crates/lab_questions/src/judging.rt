@@ -1,5 +1,5 @@
 //! Ends, judged.
-ghost use Rattle.std.specs.Prelude.{◌≡◌, ◌↔◌, IsTrue, IfSome, Some, slice_get};
+ghost use Rattle.std.specs.Prelude.{◌↔◌, IsTrue, Some};
 ghost use Rattle.lab_sched.specs.Verdicts.{AreStuck};
 ghost use Rattle.lab_questions.specs.Judgments.{Meets, IsFaultIn};
 

@@ -57,7 +57,6 @@ pub(crate) fn left_lines(alloc: Global, kernel: &Kernel, place: u8) -> Result<St
     Ok(text)
 }
 
-/// Adds a text, if it isn't empty.
 fn push_text(texts: &mut Vec<String>, text: String) -> Result<(), AllocError>
     ensures texts { OnOk result (map string_bytes texts.new.items
         ≡ map string_bytes texts.old.items ++ filter is_text (string_bytes text ∷ [])) }

@@ -1,5 +1,5 @@
 //! Semaphores and queues that conditions name.
-ghost use Rattle.std.specs.Prelude.{◌≡◌, [], ◌∷◌, ◌++◌, All, AllPairs, Contains, IfOk, OnOk, flat_map};
+ghost use Rattle.std.specs.Prelude.{◌≡◌, ◌++◌, All, AllPairs, Contains, IfOk, OnOk, flat_map};
 ghost use Rattle.std.specs.Option.{option_to_list};
 ghost use Rattle.lab_questions.specs.Objects.{objects_in, objects_of, named, StandsBefore};
 ghost use Rattle.lab_questions.specs.Private.Presences.{AddsNew};
@@ -51,7 +51,6 @@ fn push_object(objects: &mut Vec<Object>, part: &Part) -> Result<(), AllocError>
     Ok(())
 }
 
-/// Adds the objects that parts of a condition name.
 fn push_objects(objects: &mut Vec<Object>, parts: &[Part]) -> Result<(), AllocError>
     ensures objects { OnOk result
         (objects.new.items ≡ objects.old.items ++ flat_map objects_in parts.now) }
@@ -83,7 +82,6 @@ fn all_named(alloc: Global, conditions: &[Never]) -> Result<Vec<Object>, AllocEr
     Ok(objects)
 }
 
-/// Adds an object, unless it is among the others.
 fn push_new(objects: &mut Vec<Object>, object: &Object) -> Result<(), AllocError>
     ensures added { OnOk result
         (AddsNew objects.old.items object.now objects.new.items) }

@@ -40,7 +40,6 @@ pub struct OutputNeed {
     pub alternatives: Vec<Alternative>,
 }
 
-/// Whether bytes stand at a place of an output.
 fn stand_at(bytes: &[u8], output: &[u8], place: usize) -> bool
     requires within { place ≤ length output.now }
     ensures value { result
@@ -61,7 +60,6 @@ fn are_within(bytes: &[u8], output: &[u8]) -> bool
     false
 }
 
-/// Whether an output is as a part needs it.
 fn fits(part: &OutputPart, output: &[u8]) -> bool
     ensures fits { IsTrue result ↔ Fits part.now.relation part.now.bytes.items output.now }
 {
@@ -71,7 +69,6 @@ fn fits(part: &OutputPart, output: &[u8]) -> bool
     }
 }
 
-/// Whether a process of a world has written what a part needs.
 fn has_output(part: &OutputPart, world: &World) -> bool
     ensures written { IsTrue result ↔ HasOutput part.now (outputs world.now) }
 {
@@ -88,7 +85,6 @@ fn lacks_output(part: &OutputPart, world: &World) -> bool
     !has_output(part, world)
 }
 
-/// Whether the processes of a world have written what each part needs.
 fn have_outputs(parts: &[OutputPart], world: &World) -> bool
     ensures written { IsTrue result
         ↔ All (λ part. HasOutput part (outputs world.now)) parts.now }
@@ -110,7 +106,6 @@ fn is_written(alternative: &Alternative, world: &World) -> bool
     have_outputs(&alternative.parts, world)
 }
 
-/// Whether the processes of a world have written what one of the alternatives needs.
 fn is_any_written(alternatives: &[Alternative], world: &World) -> bool
     ensures written { IsTrue result
         ↔ Any (λ a. All (λ part. HasOutput part (outputs world.now)) a.parts.items)

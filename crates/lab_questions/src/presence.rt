@@ -78,7 +78,6 @@ pub(crate) fn watch(alloc: Global, conditions: &mut Vec<Never>) -> Result<Vec<Ob
     Ok(objects)
 }
 
-/// Adds an object, unless there is a schedule for it.
 fn push_unseen(
     unseen: &mut Vec<Object>,
     object: &Object,
@@ -95,7 +94,6 @@ fn push_unseen(
     Ok(())
 }
 
-/// The objects for which there is no schedule.
 fn unseen(
     alloc: Global,
     objects: &[Object],

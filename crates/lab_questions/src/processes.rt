@@ -2,7 +2,6 @@
 ghost use Rattle.std.specs.Prelude.{◌≡◌, ◌↔◌, IsTrue, slice_get};
 ghost use Rattle.std.specs.Option.{option_map};
 ghost use Rattle.lc3_machine.specs.declared.want.How.TheVariants.{Halt};
-ghost use Rattle.lab_sched.specs.Worlds.{machine_of};
 ghost use Rattle.lab_sched.specs.Held.{process_view};
 ghost use Rattle.lab_questions.specs.Requirements.{MayWait, HasSettled, HasHalted, HaveSettled, HaveHalted, outputs};
 
@@ -10,7 +9,6 @@ use crate::Waiter;
 use lab_sched::{Process, World};
 use lc3_machine::How;
 
-/// Whether process `pid` may wait at an address.
 fn may_wait(waiters: &[Waiter], pid: usize, pc: u16) -> bool
     ensures may { IsTrue result ↔ MayWait waiters.now pid pc }
 {
@@ -82,7 +80,6 @@ pub(crate) fn output_of(world: &World, pid: usize) -> Option<&[u8]>
     }
 }
 
-/// Whether the processes of two worlds have written the same.
 pub(crate) fn have_same_outputs(world: &World, other: &World) -> bool
     ensures same { IsTrue result ↔ (outputs world.now ≡ outputs other.now) }
 {

@@ -44,7 +44,6 @@ fn head_text(alloc: Global, world: &World, out: bool) -> Result<String, AllocErr
     }
 }
 
-/// Adds the messages that are left in a world, if these are told.
 fn push_rest(alloc: Global, text: &mut String, world: &World, left: bool) -> Result<(), AllocError>
     ensures text { OnOk result (string_bytes text.new
         ≡ with_left left world.now.kernel (string_bytes text.old)) }

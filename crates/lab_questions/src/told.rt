@@ -1,7 +1,7 @@
 //! The ends that are told: each text once.
 ghost use Rattle.std.specs.Prelude.{◌≡◌, map, IfOk, OnOk, string_bytes, bytes_eq};
 ghost use Rattle.std.specs.List.{list_any};
-ghost use Rattle.lab_questions.specs.EndTexts.{text_of, told_ends, ends_text, AreTold};
+ghost use Rattle.lab_questions.specs.EndTexts.{told_ends, ends_text, AreTold};
 ghost use Rattle.lab_questions.specs.Private.Told.{TellsNext};
 
 use crate::Show;

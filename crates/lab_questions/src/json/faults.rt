@@ -13,7 +13,6 @@ use lab_ways::Ways;
 use lab_worlds::End;
 use std::alloc::{AllocError, Global};
 
-/// Adds a value, if there is one.
 fn push_some(values: &mut Vec<String>, value: Option<String>) -> Result<(), AllocError>
     ensures added { OnOk result (map string_bytes values.new.items
         ≡ map string_bytes values.old.items
@@ -68,7 +67,6 @@ fn schedule_at(alloc: Global, ends: &[End], number: usize) -> Result<String, All
     }
 }
 
-/// The schedules that show that a word isn't so.
 fn fault_schedules(
     alloc: Global,
     ends: &[End],
@@ -101,7 +99,6 @@ fn fault_told(alloc: Global, ends: &[End], answer: Answer) -> Result<Option<Stri
     Ok(Some(value))
 }
 
-/// What is required of an output, if it isn't so.
 fn output_told(
     alloc: Global,
     ends: &[End],
@@ -120,7 +117,6 @@ fn output_told(
     Ok(Some(value))
 }
 
-/// What is asked of calls and isn't so on a way.
 fn call_json(alloc: Global, word: &CallWord, schedule: &Schedule) -> Result<String, AllocError>
     ensures value { IfOk result (λ value.
         string_bytes value ≡ call_json word.now schedule.now) }
@@ -152,7 +148,6 @@ fn call_told(
     Ok(Some(value))
 }
 
-/// A condition that must never be so, if it was reached.
 fn reached_if(
     alloc: Global,
     condition: &Never,
@@ -168,7 +163,6 @@ fn reached_if(
     Ok(Some(value))
 }
 
-/// Adds the words that aren't so.
 fn push_words(
     alloc: Global,
     values: &mut Vec<String>,
@@ -185,7 +179,6 @@ fn push_words(
     Ok(())
 }
 
-/// Adds what is required of outputs and isn't so.
 fn push_outputs(
     alloc: Global,
     values: &mut Vec<String>,
@@ -221,7 +214,6 @@ fn push_calls(
     Ok(())
 }
 
-/// Adds the conditions that were reached.
 fn push_reached(
     alloc: Global,
     values: &mut Vec<String>,

@@ -148,7 +148,6 @@ fn put_left(
     insert_left(lefts, Left { lines, place })
 }
 
-/// The places in which messages are left, in the order of their lines.
 fn lefts_of(alloc: Global, kernel: &Kernel) -> Result<Vec<Left>, AllocError>
     ensures lefts { IfOk result (λ lefts. AreLeft kernel.now object_places lefts.items) }
 {

@@ -1,4 +1,4 @@
-use Rattle.std.proofs.Common.{◌≡◌, true, false, refl, subst, sym, ◌∙◌}
+use Rattle.std.proofs.Common.{◌≡◌, true, false, refl, sym, ◌∙◌}
 use Rattle.std.proofs.lemmas.List.{get_or_default}
 use Rattle.lab_ways.specs.declared.ways.Ways.TheVariants.{Always}
 use Rattle.lab_questions.proofs.ListLemmas.{all_more, all_whole}

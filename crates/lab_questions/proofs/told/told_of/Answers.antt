@@ -1,5 +1,5 @@
-use Rattle.std.proofs.Common.{ℕ, ◌≡◌, ◌∙◌, ◌+◌, [], ◌∷◌, ◌++◌, length, take, map, string_bytes, subst, sym, ap, arith}
-use Rattle.std.proofs.lemmas.List.{length-take-le, take_all, take_more}
+use Rattle.std.proofs.Common.{◌≡◌, ◌∙◌, ◌+◌, [], ◌∷◌, ◌++◌, length, take, map, string_bytes, subst, sym, ap, arith}
+use Rattle.std.proofs.lemmas.List.{length-take-le, take_more}
 use Rattle.lab_questions.specs.EndTexts.{told_ends, ends_text, AreTold}
 use Rattle.lab_questions.specs.Private.Told.{IsTold}
 use Rattle.lab_questions.proofs.told.told_of.Goals as goal
