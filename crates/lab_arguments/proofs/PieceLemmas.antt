@@ -1,7 +1,6 @@
 -- Values and pieces, one by one.
-use Rattle.std.proofs.Common.{ℕ, ◌≡◌, ◌<◌, ◌+◌, Bool, List, [], ◌∷◌, ◌++◌, get_or, length, take, filter, flat_map, cond, sym, ap, ap₂, ◌∙◌}
+use Rattle.std.proofs.Common.{ℕ, ◌≡◌, ◌<◌, ◌+◌, Bool, true, false, Bor, List, [], ◌∷◌, ◌++◌, get_or, length, take, filter, flat_map, map, cond, refl, sym, ap, ◌∙◌}
 use Rattle.std.proofs.lemmas.List.{take_more, flat_map_more}
-use Rattle.std.proofs.lemmas.List.Elements.{filter_more}
 use Rattle.lab_arguments.specs.Pieces.{pieces}
 
 -- one value more
@@ -11,9 +10,11 @@ flat_step old new xs i x added before within is =
     added ∙ ap (λ l. l ++ pieces x) before ∙ flat_map_more pieces [] (take i xs) x
     ∙ ap (flat_map pieces) (sym (take_more xs i [] within ∙ ap (λ y. take i xs ++ y ∷ []) is))
 
--- one piece more
-pub chosen_step : (p : List ℕ → Bool) (old new xs : List (List ℕ)) (i : ℕ) (x : List ℕ) (chosen : Bool) → new ≡ old ++ cond chosen (x ∷ []) [] → chosen ≡ p x
-    → old ≡ filter p (take i xs) → i < length xs → get_or xs i [] ≡ x → new ≡ filter p (take (i + 1) xs)
-chosen_step p old new xs i x chosen added value before within is =
-    added ∙ ap₂ (λ l b. l ++ cond b (x ∷ []) []) before value
-    ∙ sym (filter_more p xs i [] within ∙ ap (λ y. filter p (take i xs) ++ cond (p y) (y ∷ []) []) is)
+kept : (b : Bool) (x : Bor (List ℕ)) (xs : List (Bor (List ℕ))) (ys : List (List ℕ)) → map (λ p. p.now) xs ≡ ys → map (λ p. p.now) (cond b (x ∷ xs) xs) ≡ cond b (x.now ∷ ys) ys
+kept true x xs ys same = ap (λ l. x.now ∷ l) same
+kept false x xs ys same = same
+
+-- the texts of the pieces that are chosen
+pub texts_chosen : (p : List ℕ → Bool) (xs : List (Bor (List ℕ))) → map (λ x. x.now) (filter (λ x. p x.now) xs) ≡ filter p (map (λ x. x.now) xs)
+texts_chosen p [] = refl
+texts_chosen p (x ∷ xs) = kept (p x.now) x (filter (λ y. p y.now) xs) (filter p (map (λ y. y.now) xs)) (texts_chosen p xs)

@@ -1,64 +1,54 @@
-//! What the words of the commands ask for; those of `explore` are apart.
+//! What the words of the commands ask for.
 ghost use Rattle.std.specs.Prelude.{◌≡◌, ℕ, List, None, Some, codes};
 ghost use Rattle.clap.specs.Words.{found_of, one_text};
 ghost use Rattle.lab_arguments.specs.Private.Options.{IsNumber};
 
 use crate::MOST_STEPS_EACH;
-use crate::options::{limit_of, number_of, profile_of, setup_of, values_of};
+use crate::exploring::explore_request;
+use crate::options::{number_of, number_or, profile_of, setup_of, values_of};
 use crate::programs::Holds;
 use crate::request::{Manner, Page, Refusal, Request};
 use clap::ArgMatches;
 use std::alloc::{AllocError, Global};
 
-/// What the words of `asm` ask for.
-pub(crate) fn assemble_request<'a>(words: &ArgMatches<'a>) -> Request<'a> {
-    Request::Assemble {
-        source: words.get_str("SOURCE").unwrap_or_default(),
-        object: words.get_str("OBJECT").unwrap_or_default(),
-        list: words.get_flag("list"),
-        explain: words.get_flag("explain"),
-        profile: profile_of(words),
-    }
-}
-
-/// What the words of `check` ask for.
-pub(crate) fn check_request<'a>(
+/// What the parser's matches ask for. It has made sure that there is a command, and each required word.
+pub(crate) fn request_of<'a>(
     alloc: Global,
-    words: &ArgMatches<'a>,
+    matches: &ArgMatches<'a>,
 ) -> Result<Request<'a>, Refusal> {
-    Ok(Request::Check {
-        sources: values_of(alloc, words, "SOURCE")?,
-        profile: profile_of(words),
-        strict: words.get_flag("werror"),
-        allowed: values_of(alloc, words, "allow")?,
-    })
-}
-
-/// What the words of `dis` ask for.
-pub(crate) fn disassemble_request<'a>(words: &ArgMatches<'a>) -> Request<'a> {
-    Request::Disassemble {
-        object: words.get_str("OBJECT").unwrap_or_default(),
-    }
-}
-
-/// What the words of `step` ask for.
-pub(crate) fn step_request<'a>(
-    alloc: Global,
-    words: &ArgMatches<'a>,
-) -> Result<Request<'a>, Refusal> {
-    Ok(Request::Step {
-        setup: setup_of(alloc, words, Holds::Schedule)?,
-    })
-}
-
-/// What the words of `trace` ask for.
-pub(crate) fn trace_request<'a>(
-    alloc: Global,
-    words: &ArgMatches<'a>,
-) -> Result<Request<'a>, Refusal> {
-    Ok(Request::Trace {
-        setup: setup_of(alloc, words, Holds::Schedule)?,
-        page: page_of(alloc, words)?,
+    Ok(match matches.subcommand() {
+        Some(("asm", words)) => Request::Assemble {
+            source: words.get_str("SOURCE").unwrap_or_default(),
+            object: words.get_str("OBJECT").unwrap_or_default(),
+            list: words.get_flag("list"),
+            explain: words.get_flag("explain"),
+            profile: profile_of(words),
+        },
+        Some(("check", words)) => Request::Check {
+            sources: values_of(alloc, words, "SOURCE")?,
+            profile: profile_of(words),
+            strict: words.get_flag("werror"),
+            allowed: values_of(alloc, words, "allow")?,
+        },
+        Some(("dis", words)) => Request::Disassemble {
+            object: words.get_str("OBJECT").unwrap_or_default(),
+        },
+        Some(("step", words)) => Request::Step {
+            setup: setup_of(alloc, words, Holds::Schedule)?,
+        },
+        Some(("trace", words)) => Request::Trace {
+            setup: setup_of(alloc, words, Holds::Schedule)?,
+            page: page_of(alloc, words)?,
+        },
+        Some(("run", words)) => Request::Run {
+            setup: setup_of(alloc, words, Holds::Nothing)?,
+            manner: manner_of(words),
+        },
+        Some(("explore", words)) => explore_request(alloc, words)?,
+        Some(("debug", words)) => Request::Debug {
+            setup: setup_of(alloc, words, Holds::Commands)?,
+        },
+        _ => return Err(Refusal::Usage(String::from_str(alloc, "error: no such command\n")?)),
     })
 }
 
@@ -69,17 +59,6 @@ fn page_of<'a>(alloc: Global, words: &ArgMatches<'a>) -> Result<Option<Page<'a>>
     };
     let sources = values_of(alloc, words, "source")?;
     Ok(Some(Page { file, sources }))
-}
-
-/// What the words of `run` ask for.
-pub(crate) fn run_request<'a>(
-    alloc: Global,
-    words: &ArgMatches<'a>,
-) -> Result<Request<'a>, Refusal> {
-    Ok(Request::Run {
-        setup: setup_of(alloc, words, Holds::Nothing)?,
-        manner: manner_of(words),
-    })
 }
 
 /// How programs are run, as the words of `run` say.
@@ -94,19 +73,9 @@ fn manner_of<'a>(words: &ArgMatches<'a>) -> Manner<'a>
         → IsNumber text n → result.mix ≡ Some n }
 {
     Manner {
-        limit: limit_of(words, "limit", MOST_STEPS_EACH),
+        limit: number_or(words, "limit", MOST_STEPS_EACH),
         mix: number_of(words, "mix"),
         plain: words.get_flag("plain"),
         page: words.get_str("page"),
     }
-}
-
-/// What the words of `debug` ask for.
-pub(crate) fn debug_request<'a>(
-    alloc: Global,
-    words: &ArgMatches<'a>,
-) -> Result<Request<'a>, Refusal> {
-    Ok(Request::Debug {
-        setup: setup_of(alloc, words, Holds::Commands)?,
-    })
 }

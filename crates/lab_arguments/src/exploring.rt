@@ -1,49 +1,38 @@
 //! The command `explore`, and what its words ask for.
 ghost use Rattle.std.specs.Prelude.{◌≡◌, ℕ, List, None, Some, false, IfOk, codes, map};
 ghost use Rattle.clap.specs.Words.{first_value, found_of, one_text};
-ghost use Rattle.lab_arguments.specs.Private.Options.{IsNumber, values_in};
+ghost use Rattle.lab_arguments.specs.Private.Options.{IsNumber, usual_worlds, values_in};
 ghost use Rattle.lab_arguments.specs.Pieces.{words_in};
 ghost use Rattle.lab_arguments.specs.Private.Requirements.{nothing, outputs_in, words_of, AreRequired};
 ghost use Rattle.lab_arguments.specs.Private.Showing.{AreShown};
 ghost use Rattle.lab_arguments.specs.declared.question.Choice.TheVariants.{End};
 
 use crate::misuse::Misuse;
-use crate::options::{limit_of, number_of, setup_of, values_of};
+use crate::options::{number_of, number_or, setup_of, values_of};
 use crate::pieces::outputs_in;
 use crate::programs::Holds;
 use crate::question::{Choice, Question};
 use crate::request::{Refusal, Request};
 use crate::requirements::{Requirements, refused_in, requirements_of};
 use crate::showing::show_of;
-use crate::walks::{seed_of, worlds_of};
+use crate::walks::{USUAL_SEED, usual_worlds};
 use crate::{MOST_LOCAL_STEPS, MOST_MEMORY, MOST_WORLDS};
 use clap::ArgMatches;
 use std::alloc::{AllocError, Global};
 
-/// What each end must be like.
-#[derive(Drop)]
-struct Required<'a> {
-    words: Requirements,
-    /// What is required of outputs and calls, each as it is written.
-    outputs: Vec<&'a str>,
-}
-
 /// What each end must be like, as the words say.
-fn required_of<'a>(alloc: Global, words: &ArgMatches<'a>) -> Result<Required<'a>, Refusal>
+fn required_of<'a>(alloc: Global, words: &ArgMatches<'a>) -> Result<Requirements, Refusal>
     ensures any { IfOk result (λ r.
-        first_value (found_of words.now) (codes "require") ≡ None → r.words ≡ nothing) }
+        first_value (found_of words.now) (codes "require") ≡ None → r ≡ nothing) }
     ensures required { IfOk result (λ r.
-        AreRequired (words_in (values_in (found_of words.now) (codes "require"))) r.words) }
-    ensures outputs { IfOk result (λ r. map (λ o. o.now) r.outputs.items
-        ≡ outputs_in (values_in (found_of words.now) (codes "require"))) }
+        AreRequired (words_in (values_in (found_of words.now) (codes "require"))) r) }
 {
     let values = words.get_strs("require").unwrap_or_default();
     match requirements_of(alloc, values)? {
-        Some(words) => Ok(Required {
-            words,
-            outputs: outputs_in(alloc, values)?,
-        }),
-        None => Err(Misuse::NoRequirement(refused_in(alloc, values)?).refusal(alloc)),
+        Some(required) => Ok(required),
+        None => {
+            Err(Misuse::Value(refused_in(alloc, values)?, "require", "WORDS").refusal(alloc))
+        }
     }
 }
 
@@ -61,7 +50,7 @@ fn shown_of<'a>(alloc: Global, words: &ArgMatches<'a>) -> Result<(bool, bool), R
     };
     match show_of(alloc, text)? {
         Some(shown) => Ok(shown),
-        None => Err(Misuse::NoShow(text).refusal(alloc)),
+        None => Err(Misuse::Value(text, "show", "WORDS").refusal(alloc)),
     }
 }
 
@@ -79,7 +68,7 @@ fn choice_of<'a>(
         (Some(number @ 1..=MOST_WORLDS), _) => Ok(Some(Choice::End(number))),
         (None, None) => Ok(None),
         (None, Some("bad")) => Ok(Some(Choice::Bad)),
-        (_, text) => Err(Misuse::NoChoice(text.unwrap_or_default(), name).refusal(alloc)),
+        (_, text) => Err(Misuse::Value(text.unwrap_or_default(), name, "K|bad").refusal(alloc)),
     }
 }
 
@@ -88,6 +77,9 @@ fn question_of<'a>(alloc: Global, words: &ArgMatches<'a>) -> Result<Question<'a>
     ensures worlds { IfOk result (λ q. (text : List ℕ) (n : ℕ)
         → one_text (found_of words.now) (codes "worlds") ≡ Some text
         → IsNumber text n → q.worlds ≡ n) }
+    ensures usual_worlds { IfOk result (λ q.
+        one_text (found_of words.now) (codes "worlds") ≡ None
+        → q.worlds ≡ usual_worlds q.random) }
     ensures memory { IfOk result (λ q. (text : List ℕ) (n : ℕ)
         → one_text (found_of words.now) (codes "memory") ≡ Some text
         → IsNumber text n → q.memory ≡ n) }
@@ -134,12 +126,12 @@ fn question_of<'a>(alloc: Global, words: &ArgMatches<'a>) -> Result<Question<'a>
     let schedule = choice_of(alloc, words, "schedule")?;
     let trace = choice_of(alloc, words, "trace")?;
     Ok(Question {
-        worlds: worlds_of(words, random),
-        memory: limit_of(words, "memory", MOST_MEMORY),
-        steps: limit_of(words, "limit", MOST_LOCAL_STEPS),
+        worlds: number_or(words, "worlds", usual_worlds(random)),
+        memory: number_or(words, "memory", MOST_MEMORY),
+        steps: number_or(words, "limit", MOST_LOCAL_STEPS),
         threads: number_of(words, "threads"),
-        required: required.words,
-        outputs: required.outputs,
+        required,
+        outputs: outputs_in(alloc, words.get_strs("require").unwrap_or_default())?,
         waiters: values_of(alloc, words, "may-wait")?,
         never: values_of(alloc, words, "never")?,
         fair: words.get_flag("fair"),
@@ -147,7 +139,7 @@ fn question_of<'a>(alloc: Global, words: &ArgMatches<'a>) -> Result<Question<'a>
         left,
         first: words.get_flag("first"),
         random,
-        seed: seed_of(words),
+        seed: number_or(words, "seed", USUAL_SEED),
         schedule,
         trace,
         json: words.get_flag("json"),
@@ -172,38 +164,47 @@ pub(crate) fn explore_request<'a>(
 
 /// Which options don't go together, if some don't: of a question that has a seed.
 fn misuse_in(question: &Question<'_>, has_seed: bool) -> Option<Misuse<'static>> {
-    match question.random {
-        None if has_seed => Some(Misuse::NothingSeeded),
-        Some(_) if question.page.is_some() => Some(Misuse::PageAndRandom),
-        _ => misuse_of(question),
-    }
-}
-
-/// Which options of a question don't go together, if some don't.
-fn misuse_of(question: &Question<'_>) -> Option<Misuse<'static>> {
-    if !question.waiters.is_empty() && !question.required.lets_wait() {
-        return Some(Misuse::NobodyWaits);
-    }
-    if matches!(question.schedule, Some(Choice::Bad)) && !question.judges() {
-        return Some(Misuse::NothingJudged);
-    }
-    if matches!(question.trace, Some(Choice::Bad)) && !question.judges() {
-        return Some(Misuse::NothingTraced);
-    }
-    if question.first && !question.judges() {
-        return Some(Misuse::NothingEnds);
-    }
-    if !question.never.is_empty() && question.random.is_some() {
-        return Some(Misuse::NeverAndRandom);
-    }
-    if question.fair && question.random.is_some() {
-        return Some(Misuse::FairAndRandom);
-    }
-    if question.json && question.schedule.is_some() {
-        return Some(Misuse::JsonAndSchedule);
-    }
-    if question.json && question.trace.is_some() {
-        return Some(Misuse::JsonAndTrace);
-    }
-    None
+    let walks = question.random.is_some();
+    let judges = question.judges();
+    let rules = [
+        (has_seed && !walks, "--seed needs --random"),
+        (
+            walks && question.page.is_some(),
+            "--page and --random exclude each other",
+        ),
+        (
+            !question.waiters.is_empty() && !question.required.lets_wait(),
+            "--may-wait needs --require ended or --require halted",
+        ),
+        (
+            !judges && matches!(question.schedule, Some(Choice::Bad)),
+            "--schedule bad needs --require or --never",
+        ),
+        (
+            !judges && matches!(question.trace, Some(Choice::Bad)),
+            "--trace bad needs --require or --never",
+        ),
+        (
+            !judges && question.first,
+            "--first needs --require or --never",
+        ),
+        (
+            walks && !question.never.is_empty(),
+            "--never and --random exclude each other",
+        ),
+        (
+            walks && question.fair,
+            "--fair and --random exclude each other",
+        ),
+        (
+            question.json && question.schedule.is_some(),
+            "--json and --schedule exclude each other",
+        ),
+        (
+            question.json && question.trace.is_some(),
+            "--json and --trace exclude each other",
+        ),
+    ];
+    let rule = rules.iter().find(|rule| rule.0)?;
+    Some(Misuse::Options(rule.1))
 }

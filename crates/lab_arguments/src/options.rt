@@ -23,13 +23,13 @@ pub(crate) fn number_of(words: &ArgMatches<'_>, name: &str) -> Option<u32>
     words.get_one::<u32>(name)
 }
 
-/// The number that the words give to an option of this name, or the most where they give none.
-pub(crate) fn limit_of(words: &ArgMatches<'_>, name: &str, most: u32) -> u32
-    ensures most { one_text (found_of words.now) name.now ≡ None → result ≡ most }
+/// The number that the words give to an option of this name, or the usual one where they give none.
+pub(crate) fn number_or(words: &ArgMatches<'_>, name: &str, usual: u32) -> u32
+    ensures usual { one_text (found_of words.now) name.now ≡ None → result ≡ usual }
     ensures given { (text : List ℕ) (n : ℕ) → one_text (found_of words.now) name.now ≡ Some text
         → IsNumber text n → result ≡ n }
 {
-    number_of(words, name).unwrap_or(most)
+    number_of(words, name).unwrap_or(usual)
 }
 
 /// The values that the words give to an option or a place of this name, in their order.
@@ -62,7 +62,9 @@ fn notes_of(alloc: Global, words: &ArgMatches<'_>) -> Result<Notes, Refusal>
         one_text (found_of words.now) (codes "quiet") ≡ Some (codes "true") → notes ≡ Hidden) }
 {
     match (words.get_flag("notes"), words.get_flag("quiet")) {
-        (true, true) => Err(Misuse::NotesAndQuiet.refusal(alloc)),
+        (true, true) => Err(Misuse::Options("--notes and --quiet exclude each other").refusal(
+            alloc,
+        )),
         (true, false) => Ok(Notes::Shown),
         (false, true) => Ok(Notes::Hidden),
         (false, false) => Ok(Notes::AtTerminal),

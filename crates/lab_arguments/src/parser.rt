@@ -5,11 +5,7 @@ ghost use Rattle.std.specs.declared.alloc.Global.{Global};
 ghost use Rattle.clap.specs.declared.error.kind.ErrorKind.TheVariants.{InvalidSubcommand};
 ghost use Rattle.lab_arguments.specs.declared.request.Refusal.TheVariants.{NoCommand};
 
-use crate::commands::{
-    assemble_request, check_request, debug_request, disassemble_request, run_request, step_request,
-    trace_request,
-};
-use crate::exploring::explore_request;
+use crate::commands::request_of;
 use crate::request::{Refusal, Request};
 use crate::rows::ProgramRow;
 use crate::shown::Shown;
@@ -37,19 +33,12 @@ fn shown_error(
     words: &[String],
     error: Error,
 ) -> Result<Error, AllocError> {
-    let shown = shown_words(alloc, words)?;
+    let shown: Vec<String> = words
+        .iter()
+        .map(|word| Shown(word).to_string(alloc))
+        .try_collect(alloc)?;
     let again = program(alloc, row)?.try_get_matches_from(shown.as_slice());
     Ok(again.err().unwrap_or(error))
-}
-
-/// The words as messages show them.
-fn shown_words(alloc: Global, words: &[String]) -> Result<Vec<String>, AllocError> {
-    let mut shown = Vec::new(alloc);
-    for word in words {
-        let word = Shown(word);
-        shown.push(format!(in alloc; "{word}")?)?;
-    }
-    Ok(shown)
 }
 
 /// The text of help, or of what is wrong with the words.
@@ -69,49 +58,18 @@ fn refusal_of(alloc: Global, error: &Error) -> Refusal
     }
 }
 
-/// The program without its commands.
-fn without_commands<'a>(alloc: Global, row: &ProgramRow) -> Result<Command<'a>, AllocError> {
-    let program = Command::new(alloc, "lc3lab")
+/// The program with all its commands.
+fn program<'a>(alloc: Global, row: &ProgramRow) -> Result<Command<'a>, AllocError> {
+    let mut program = Command::new(alloc, "lc3lab")
         .about(row.about)
         .version(row.version)
         .after_help(row.example)
-        .bin_name("lc3lab")?;
-    Ok(
-        program
-            .no_binary_name(true)
-            .subcommand_required(true)
-            .override_usage("lc3lab [COMMAND]"),
-    )
-}
-
-/// The program with all its commands.
-fn program<'a>(alloc: Global, row: &ProgramRow) -> Result<Command<'a>, AllocError> {
-    let mut program = without_commands(alloc, row)?;
+        .bin_name("lc3lab")?
+        .no_binary_name(true)
+        .subcommand_required(true)
+        .override_usage("lc3lab [COMMAND]");
     for command in row.commands {
         program = program.subcommand(command_of(alloc, command)?)?;
     }
     Ok(program)
-}
-
-/// What the parser's matches ask for. It has made sure that there is a command, and each required word.
-fn request_of<'a>(alloc: Global, matches: &ArgMatches<'a>) -> Result<Request<'a>, Refusal> {
-    match matches.subcommand() {
-        Some(("asm", words)) => Ok(assemble_request(words)),
-        Some(("check", words)) => check_request(alloc, words),
-        Some(("dis", words)) => Ok(disassemble_request(words)),
-        Some(("step", words)) => step_request(alloc, words),
-        Some(("trace", words)) => trace_request(alloc, words),
-        Some(("run", words)) => run_request(alloc, words),
-        Some(("explore", words)) => explore_request(alloc, words),
-        Some(("debug", words)) => debug_request(alloc, words),
-        _ => Err(no_command(alloc)),
-    }
-}
-
-/// What is said where the words name no command.
-fn no_command(alloc: Global) -> Refusal {
-    match String::from_str(alloc, "error: no such command\n") {
-        Ok(text) => Refusal::Usage(text),
-        Err(_) => Refusal::NoMemory,
-    }
 }

@@ -132,27 +132,16 @@ fn is_output(piece: &str) -> bool
     piece.as_bytes().starts_with(b"out ") || is_of_calls(piece)
 }
 
-/// Adds a piece, if it is wanted.
-fn push_if<'a>(found: &mut Vec<&'a str>, piece: &'a str, is_wanted: bool) -> Result<(), AllocError>
-    ensures added { OnOk result (map (λ p. p.now) found.new.items
-        ≡ map (λ p. p.now) found.old.items ++ cond is_wanted (piece.now ∷ []) []) }
-{
-    if is_wanted {
-        found.push(piece)?;
-    }
-    Ok(())
-}
-
 /// Those of some pieces that say what is required of outputs and calls.
 fn outputs_among<'a>(alloc: Global, pieces: &[&'a str]) -> Result<Vec<&'a str>, AllocError>
     ensures outputs { IfOk result (λ found. map (λ p. p.now) found.items
         ≡ filter is_output (map (λ p. p.now) pieces.now)) }
 {
-    let mut found = Vec::new(alloc);
-    for piece in pieces {
-        push_if(&mut found, piece, is_output(piece))?;
-    }
-    Ok(found)
+    pieces
+        .iter()
+        .copied()
+        .filter(|piece| is_output(piece))
+        .collect(alloc)
 }
 
 /// The others.
@@ -160,11 +149,11 @@ fn words_among<'a>(alloc: Global, pieces: &[&'a str]) -> Result<Vec<&'a str>, Al
     ensures words { IfOk result (λ found. map (λ p. p.now) found.items
         ≡ filter (λ piece. not (is_output piece)) (map (λ p. p.now) pieces.now)) }
 {
-    let mut found = Vec::new(alloc);
-    for piece in pieces {
-        push_if(&mut found, piece, !is_output(piece))?;
-    }
-    Ok(found)
+    pieces
+        .iter()
+        .copied()
+        .filter(|piece| !is_output(piece))
+        .collect(alloc)
 }
 
 /// What the values of `--require` say of outputs and calls.

@@ -2,6 +2,7 @@
 use crate::requirements::Requirements;
 
 /// What is asked of an exploration.
+#[derive(Drop)]
 pub struct Question<'a> {
     /// The most worlds to visit, or those of a walk.
     pub worlds: u32,
@@ -39,31 +40,6 @@ pub struct Question<'a> {
     pub json: bool,
     /// The file of the page to write, where one is asked for.
     pub page: Option<&'a str>,
-}
-
-impl Drop for Question<'_> {
-    fn drop(self) {
-        let Question {
-            worlds: _,
-            memory: _,
-            steps: _,
-            threads: _,
-            required: _,
-            outputs: _,
-            waiters: _,
-            never: _,
-            fair: _,
-            out: _,
-            left: _,
-            first: _,
-            random: _,
-            seed: _,
-            schedule: _,
-            trace: _,
-            json: _,
-            page: _,
-        } = self;
-    }
 }
 
 /// A schedule of an exploration.

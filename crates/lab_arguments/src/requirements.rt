@@ -71,13 +71,7 @@ fn is_word(word: &str, other: &str) -> bool
 fn how_often(word: &str, words: &[&str]) -> usize
     ensures count { result ≡ how_often word.now (map (λ w. w.now) words.now) }
 {
-    let mut count = 0;
-    for other in words {
-        if is_word(word, other) {
-            count += 1;
-        }
-    }
-    count
+    words.iter().filter(|other| is_word(word, other)).count()
 }
 
 /// Whether a word stands among words, if it isn't there more than once.

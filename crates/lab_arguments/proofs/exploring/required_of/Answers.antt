@@ -6,8 +6,8 @@ use Rattle.lab_arguments.specs.Private.Requirements.{AreRequired}
 use Rattle.lab_arguments.proofs.RequiredLemmas.{no_values, nothing_required}
 use Rattle.lab_arguments.proofs.exploring.required_of.Goals as goal
 
-pub returns-in_ok-outputs_in-in-Some-clause-any : goal.returns-in_ok-outputs_in-in-Some-clause-any
-returns-in_ok-outputs_in-in-Some-clause-any c none =
+pub returns-in-Some-clause-any : goal.returns-in-Some-clause-any
+returns-in-Some-clause-any c none =
     let found = found_of c.args.words.now in
-    let required : AreRequired (words_in (values_in found (codes "require"))) c.in-Some.words = search rules in
-    nothing_required c.in-Some.words (subst (λ vs. AreRequired (words_in vs) c.in-Some.words) (no_values found (codes "require") none) required)
+    let required : AreRequired (words_in (values_in found (codes "require"))) c.in-Some.required = search rules in
+    nothing_required c.in-Some.required (subst (λ vs. AreRequired (words_in vs) c.in-Some.required) (no_values found (codes "require") none) required)

@@ -1,13 +1,16 @@
-use Rattle.std.proofs.Common.{◌<◌, [], arith, length, map}
-use Rattle.std.proofs.lemmas.List.{get_or-map, length-map}
+use Rattle.std.proofs.Common.{◌≡◌, ℕ, Bor, List, IfOk, ap, filter, map, rules, tests, ◌∙◌}
+use Rattle.std.proofs.lemmas.Iterator.{YieldsList-from_slice, items_from_collect}
+use Rattle.std.proofs.lemmas.Iterator.Consumers.{YieldsList-at, YieldsList-from_copied, YieldsList-from_filter}
+use Rattle.std.proofs.lemmas.Result.{IfOk-weaker}
 use Rattle.lab_arguments.specs.Pieces.{is_output}
-use Rattle.lab_arguments.proofs.PieceLemmas.{chosen_step}
+use Rattle.lab_arguments.proofs.PieceLemmas.{texts_chosen}
 use Rattle.lab_arguments.proofs.pieces.outputs_among.Goals as goal
 
-pub loop-piece-preserved : goal.loop-piece-preserved
-loop-piece-preserved c =
-    let pieces = map (λ p. p.now) c.args.pieces.now in
-    let i = c.loop-piece.piece-index in
-    let within : i < length pieces = omega (arith, c.loop-piece-test.true, length-map c.args.pieces.now (λ p. p.now)) in
-    chosen_step is_output _ _ pieces i _ _ c.in_ok-push_if.ensures.added c.is_output.ensures.value c.loop-piece.invariant within
-    (get_or-map (λ p. p.now) c.args.pieces.now i _ [] c.loop-piece-test.true)
+pub returns : goal.returns
+returns c =
+    let chosen : List (Bor (List ℕ)) = filter (λ p. is_output p.now) c.args.pieces.now in
+    let found : IfOk c.collect.result (λ w. w.items ≡ chosen) =
+    items_from_collect _ c.collect.ensures.ran (YieldsList-from_filter _ (λ p. is_output p.now)
+    (YieldsList-at c.filter.ensures.source (YieldsList-from_copied (YieldsList-at c.copied.ensures.source (YieldsList-from_slice c.args.pieces.now cc))))
+    c.filter.ensures.closure (λ x r q k. search (rules, tests))) in
+    record { outputs = IfOk-weaker c.collect.result (λ w. w.items ≡ chosen) _ (λ w e. ap (map (λ (p : Bor (List ℕ)). p.now)) e ∙ texts_chosen is_output c.args.pieces.now) found }
