@@ -33,23 +33,42 @@ pub(crate) fn request_of<'a>(
         Some(("dis", words)) => Request::Disassemble {
             object: words.get_str("OBJECT").unwrap_or_default(),
         },
-        Some(("step", words)) => Request::Step {
+        Some((name, words)) => program_request(alloc, name, words)?,
+        None => return Err(no_command(alloc)),
+    })
+}
+
+/// What the words of a command that runs programs ask for.
+fn program_request<'a>(
+    alloc: Global,
+    name: &str,
+    words: &ArgMatches<'a>,
+) -> Result<Request<'a>, Refusal> {
+    Ok(match name {
+        "step" => Request::Step {
             setup: setup_of(alloc, words, Holds::Schedule)?,
         },
-        Some(("trace", words)) => Request::Trace {
+        "trace" => Request::Trace {
             setup: setup_of(alloc, words, Holds::Schedule)?,
             page: page_of(alloc, words)?,
         },
-        Some(("run", words)) => Request::Run {
+        "run" => Request::Run {
             setup: setup_of(alloc, words, Holds::Nothing)?,
             manner: manner_of(words),
         },
-        Some(("explore", words)) => explore_request(alloc, words)?,
-        Some(("debug", words)) => Request::Debug {
+        "explore" => return explore_request(alloc, words),
+        "debug" => Request::Debug {
             setup: setup_of(alloc, words, Holds::Commands)?,
         },
-        _ => return Err(Refusal::Usage(String::from_str(alloc, "error: no such command\n")?)),
+        _ => return Err(no_command(alloc)),
     })
+}
+
+fn no_command(alloc: Global) -> Refusal {
+    match String::from_str(alloc, "error: no such command\n") {
+        Ok(text) => Refusal::Usage(text),
+        Err(_) => Refusal::NoMemory,
+    }
 }
 
 /// The page that the words of `trace` ask for, if they ask for one.

@@ -165,7 +165,7 @@ pub(crate) fn explore_request<'a>(
 /// Which options don't go together, if some don't: of a question that has a seed.
 fn misuse_in(question: &Question<'_>, has_seed: bool) -> Option<Misuse<'static>> {
     let walks = question.random.is_some();
-    let judges = question.judges();
+    let unjudged = !question.judges();
     let rules = [
         (has_seed && !walks, "--seed needs --random"),
         (
@@ -177,15 +177,15 @@ fn misuse_in(question: &Question<'_>, has_seed: bool) -> Option<Misuse<'static>>
             "--may-wait needs --require ended or --require halted",
         ),
         (
-            !judges && matches!(question.schedule, Some(Choice::Bad)),
+            unjudged && matches!(question.schedule, Some(Choice::Bad)),
             "--schedule bad needs --require or --never",
         ),
         (
-            !judges && matches!(question.trace, Some(Choice::Bad)),
+            unjudged && matches!(question.trace, Some(Choice::Bad)),
             "--trace bad needs --require or --never",
         ),
         (
-            !judges && question.first,
+            unjudged && question.first,
             "--first needs --require or --never",
         ),
         (

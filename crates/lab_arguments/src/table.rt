@@ -23,6 +23,11 @@ const WARNINGS: &[&str] = &[
     "after-end",
 ];
 
+/// A word at a place of its own.
+fn place<'a>(alloc: Global, row: &Row) -> Arg<'a> {
+    Arg::new(alloc, row.name).required(true).help(row.help)
+}
+
 /// An option with a value.
 fn option<'a>(alloc: Global, row: &Row, value: &'a str) -> Arg<'a> {
     Arg::new(alloc, row.name)
@@ -36,18 +41,18 @@ fn up_to<'a>(alloc: Global, row: &Row, value: &'a str, most: u32) -> Arg<'a> {
     option(alloc, row, value).value_parser(clap::value_parser!(u32).range(1..=i64::from(most)))
 }
 
-/// A row's option.
-fn arg_of<'a>(alloc: Global, row: &Row) -> Result<Arg<'a>, AllocError> {
-    let arg = Arg::new(alloc, row.name).help(row.help);
-    Ok(match row.takes {
-        Takes::Place => arg.required(true),
-        Takes::Places => arg.required(true).num_args(1..),
-        Takes::Nothing => arg.long(row.name).action(ArgAction::SetTrue),
+/// What a row says of its option, but for the other options that it needs.
+fn alone<'a>(alloc: Global, row: &Row) -> Arg<'a> {
+    match row.takes {
+        Takes::Place => place(alloc, row),
+        Takes::Places => place(alloc, row).num_args(1..),
+        Takes::Nothing => Arg::new(alloc, row.name)
+            .long(row.name)
+            .action(ArgAction::SetTrue)
+            .help(row.help),
         Takes::Text(value) => option(alloc, row, value),
         Takes::Texts(value) => option(alloc, row, value).action(ArgAction::Append),
-        Takes::Sources => option(alloc, row, "P=FILE")
-            .action(ArgAction::Append)
-            .requires_arg("page")?,
+        Takes::Sources => option(alloc, row, "P=FILE").action(ArgAction::Append),
         Takes::UpTo(value, most) => up_to(alloc, row, value, most),
         Takes::Usually(value, most, usual) => up_to(alloc, row, value, most).default_value(usual),
         Takes::Number(value) => option(alloc, row, value).value_parser(clap::value_parser!(u32)),
@@ -57,7 +62,15 @@ fn arg_of<'a>(alloc: Global, row: &Row) -> Result<Arg<'a>, AllocError> {
         Takes::Warnings => option(alloc, row, "WARNING")
             .value_parser(ValueParser::Names(WARNINGS))
             .action(ArgAction::Append),
-    })
+    }
+}
+
+/// A row's option.
+fn arg_of<'a>(alloc: Global, row: &Row) -> Result<Arg<'a>, AllocError> {
+    match row.takes {
+        Takes::Sources => alone(alloc, row).requires_arg("page"),
+        _ => Ok(alone(alloc, row)),
+    }
 }
 
 /// The command of a row, with its options.
