@@ -13,8 +13,8 @@ use crate::pieces::outputs_in;
 use crate::programs::Holds;
 use crate::question::{Choice, Question};
 use crate::request::{Refusal, Request};
-use crate::requirements::{Requirements, refused_in, requirements_of};
-use crate::showing::show_of;
+use crate::requirements::{Requirements, refused_in, requirements_of, words_of};
+use crate::showing::shown_by;
 use crate::walks::{USUAL_SEED, usual_worlds};
 use crate::{MOST_LOCAL_STEPS, MOST_MEMORY, MOST_WORLDS};
 use clap::ArgMatches;
@@ -48,7 +48,7 @@ fn shown_of<'a>(alloc: Global, words: &ArgMatches<'a>) -> Result<(bool, bool), R
     let Some(text) = words.get_str("show") else {
         return Ok((false, false));
     };
-    match show_of(alloc, text)? {
+    match shown_by(&words_of(alloc, text)?) {
         Some(shown) => Ok(shown),
         None => Err(Misuse::Value(text, "show", "WORDS").refusal(alloc)),
     }

@@ -73,14 +73,9 @@ pub(crate) fn surplus<'a>(words: &[&'a str], most: usize) -> Option<&'a str>
     ensures more { IfSome result (λ _.
         most < count_by takes_input (map (λ w. w.now) words.now)) }
 {
-    let mut count = 0;
-    for word in words {
-        if takes_input(word) {
-            if count == most {
-                return Some(word);
-            }
-            count += 1;
-        }
-    }
-    None
+    words
+        .iter()
+        .copied()
+        .filter(|word| takes_input(word))
+        .nth(most)
 }
