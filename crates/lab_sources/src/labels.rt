@@ -62,21 +62,10 @@ fn or_higher<'a>(
     ensures value { option_map (λ l. (l.0.now, l.1)) result ≡ or_higher address
         (label.entry.0.now, label.entry.1) (option_map (λ l. (l.0.now, l.1)) other.entry) }
 {
-    match other {
-        None => {
-            if label.1 <= address {
-                Some(label)
-            } else {
-                None
-            }
-        }
-        Some(found) => {
-            if label.1 <= address && found.1 <= label.1 {
-                Some(label)
-            } else {
-                Some(found)
-            }
-        }
+    if label.1 <= address && other.is_none_or(|found| found.1 <= label.1) {
+        Some(label)
+    } else {
+        other
     }
 }
 
