@@ -1,6 +1,6 @@
 //! Words with labels as addresses.
 ghost use Rattle.std.specs.Prelude.{◌≡◌, ◌<◌, length, position, option_map, is_some, IfSome};
-ghost use Rattle.lab_places.specs.Labels.{is_plus, count_in, named, label_in, in_memory, behind, labelled, in_source, source_of, address_in};
+ghost use Rattle.lab_places.specs.Labels.{is_plus, count_in, named, label_in, in_memory, labelled, in_source, source_of, address_in};
 
 use lab_sources::Source;
 use lc3_asm::is_label;
@@ -70,27 +70,18 @@ pub fn has_label(word: &[u8]) -> bool
     label_in(word).is_some()
 }
 
-fn behind(source: &Source, label: Mention<'_>) -> Option<u16>
-    ensures value { result ≡ behind source.now.assembled.symbols
-        (label.entry.name.now, label.entry.count) }
-{
-    let address = source.address_of(label.name)?;
-    in_memory(u32::from(address) + u32::from(label.count))
-}
-
 fn labelled(source: &Source, word: &[u8]) -> Option<u16>
     ensures value { result ≡ labelled source.now.assembled.symbols word.now }
 {
-    behind(source, label_in(word)?)
+    let label = label_in(word)?;
+    let address = source.address_of(label.name)?;
+    in_memory(u32::from(address) + u32::from(label.count))
 }
 
 fn source_of(sources: &[Option<Source>], pid: usize) -> Option<&Source>
     ensures source { option_map (λ s. s.now) result ≡ source_of sources.now pid }
 {
-    match sources.get(pid) {
-        Some(Some(source)) => Some(source),
-        _ => None,
-    }
+    sources.get(pid)?.as_ref()
 }
 
 /// The address that a word with a label stands for in process `pid`, by the labels of its own source: a label, or

@@ -58,27 +58,6 @@ pub fn listed<'a>(
     Ok(found)
 }
 
-/// Adds the nearest label of an address, if there is one.
-fn push_label(place: &mut String, source: &Source, address: u16) -> Result<(), AllocError>
-    ensures added { OnOk result (string_bytes place.new ≡ string_bytes place.old
-        ++ label_part address (nearest source.now.assembled address)) }
-{
-    let Some(near) = source.nearest(address) else {
-        return Ok(());
-    };
-    write!(place, ", at {near}")?;
-    Ok(())
-}
-
-/// Whether a text is that of a word.
-fn is_text_of(alloc: Global, word: u16, text: &[u8]) -> Result<bool, AllocError>
-    ensures value { IfOk result (λ value. value ≡ is_word (word_text word) text.now) }
-{
-    let word = WordText(word);
-    let expected = format!(in alloc; "{word}")?;
-    Ok(is_word(expected.as_bytes(), text))
-}
-
 /// The row whose first word is where a process stands, if the text of that word is shown.
 fn shown_row(
     alloc: Global,
@@ -91,7 +70,9 @@ fn shown_row(
     let Some(word) = source.word(standing.address) else {
         return Ok(None);
     };
-    if is_text_of(alloc, word, standing.shown)? {
+    let word = WordText(word);
+    let text = format!(in alloc; "{word}")?;
+    if is_word(text.as_bytes(), standing.shown) {
         Ok(source.row_at(standing.address))
     } else {
         Ok(None)
@@ -108,20 +89,6 @@ fn line(lines: &[String], number: usize) -> &str
     }
 }
 
-/// Adds the line of a row with its number, if there is one.
-fn push_row(place: &mut String, lines: &[String], row: Option<Row>) -> Result<(), AllocError>
-    ensures added { OnOk result (string_bytes place.new ≡ string_bytes place.old
-        ++ row_part lines.now row) }
-{
-    let Some(row) = row else {
-        return Ok(());
-    };
-    let number = row.line;
-    let line = line(lines, number);
-    write!(place, ", line {number}: {line}")?;
-    Ok(())
-}
-
 /// Where a process stands in a source: the nearest label, and the line with its number, as far as there are such.
 #[tactic(auto, unfolding(crate::specs::Placed::place_text))]
 pub(crate) fn place_text(
@@ -133,8 +100,13 @@ pub(crate) fn place_text(
         ≡ place_text source.now (standing_seen standing.entry)) }
 {
     let mut place = String::new(alloc);
-    push_label(&mut place, source.source, standing.address)?;
-    let row = shown_row(alloc, source.source, standing)?;
-    push_row(&mut place, source.lines, row)?;
+    if let Some(near) = source.source.nearest(standing.address) {
+        write!(place, ", at {near}")?;
+    }
+    if let Some(row) = shown_row(alloc, source.source, standing)? {
+        let number = row.line;
+        let line = line(source.lines, number);
+        write!(place, ", line {number}: {line}")?;
+    }
     Ok(place)
 }

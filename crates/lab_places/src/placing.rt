@@ -20,10 +20,7 @@ fn lines_of(alloc: Global, text: &[u8]) -> Result<Vec<&[u8]>, AllocError>
 fn numbered_of<'s, 'a>(sources: &'s [Option<Numbered<'a>>], pid: usize) -> Option<&'s Numbered<'a>>
     ensures source { option_map (λ s. s.now) result ≡ numbered_of sources.now pid }
 {
-    match sources.get(pid) {
-        Some(Some(source)) => Some(source),
-        _ => None,
-    }
+    sources.get(pid)?.as_ref()
 }
 
 /// Adds a line, and behind the status line of a process with a source where it stands.

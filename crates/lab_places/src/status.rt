@@ -1,6 +1,6 @@
 //! Status lines: where they say that processes stand.
 ghost use Rattle.std.specs.Prelude.{◌≡◌, ◌<◌, length, position, option_map, IfSome};
-ghost use Rattle.lab_places.specs.Statuses.{is_blank, first_word, is_word, stands, process_in, place_in, of_process, in_state, standing_in};
+ghost use Rattle.lab_places.specs.Statuses.{is_blank, first_word, is_word, stands, place_in, in_state, standing_in};
 ghost use Rattle.lab_places.specs.Private.Standings.{standing_seen};
 
 use crate::labels::in_memory;
@@ -49,12 +49,6 @@ fn stands(state: &[u8], shown: &[u8]) -> bool
         || is_word(b"ended", state) && !is_word(b"halt", shown)
 }
 
-fn process_in(word: &[u8]) -> Option<u16>
-    ensures value { result ≡ process_in word.now }
-{
-    in_memory(unsigned(10, word)?)
-}
-
 fn place_in(word: &[u8]) -> Option<u16>
     ensures value { result ≡ place_in word.now }
 {
@@ -81,19 +75,13 @@ fn in_state<'a>(pid: usize, state: &[u8], rest: &'a [u8]) -> Option<Standing<'a>
     })
 }
 
-fn of_process(rest: &[u8], pid: usize) -> Option<Standing<'_>>
-    ensures value { option_map standing_seen result ≡ of_process rest.now pid }
-{
-    let (state, rest) = first_word(rest)?;
-    in_state(pid, state, rest)
-}
-
 /// Where a line says that a process stands, if it is a status line and the process didn't end by HALT.
 #[tactic(auto, unfolding(crate::specs::Statuses::standing_in))]
 pub(crate) fn standing_in(line: &[u8]) -> Option<Standing<'_>>
     ensures value { option_map standing_seen result ≡ standing_in line.now }
 {
     let (process, rest) = first_word(line)?;
-    let pid = process_in(process)?;
-    of_process(rest, usize::from(pid))
+    let pid = in_memory(unsigned(10, process)?)?;
+    let (state, rest) = first_word(rest)?;
+    in_state(usize::from(pid), state, rest)
 }
