@@ -11,7 +11,7 @@ use Rattle.lab_sched.specs.Schedules.{most_steps}
 use Rattle.lab_sched.specs.ScheduleTexts.{reading_of_words}
 use Rattle.lab_debug.specs.declared.command.Command.{Command}
 use Rattle.lab_debug.specs.declared.command.Command.TheVariants.{Step, Run, Play, Until, Back, Regs, Mem, Dis, Procs, Mqs, Sems, Fds, Out, Raw, Where, Code, Labels, Go, Set, Unset, Marks, Steps, Taken, Profile, Help, Quit}
-use Rattle.lab_debug.specs.declared.command.Range.{Range}
+use Rattle.lab_session.specs.declared.places.Range.{Range}
 use Rattle.lab_session.specs.declared.marks.Mark.{Mark}
 use Rattle.lab_session.specs.declared.marks.MarkKind.{MarkKind}
 use Rattle.lab_session.specs.declared.marks.MarkKind.TheVariants.{Break, Watch}

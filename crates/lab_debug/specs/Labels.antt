@@ -8,7 +8,7 @@ use Rattle.lab_sources.specs.Labels.{address_of}
 use Rattle.lab_sources.specs.declared.listing.Listing.{Listing}
 use Rattle.lab_debug.specs.declared.command.Command.{Command}
 use Rattle.lab_debug.specs.declared.command.Command.TheVariants.{Until, Mem, Dis, Code, Set, Unset}
-use Rattle.lab_debug.specs.declared.command.Range.{Range}
+use Rattle.lab_session.specs.declared.places.Range.{Range}
 use Rattle.lab_debug.specs.declared.command.Refusal.{Refusal}
 use Rattle.lab_debug.specs.declared.command.Refusal.TheVariants.{BadOperands, NoLabel}
 

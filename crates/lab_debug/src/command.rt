@@ -2,21 +2,13 @@
 ghost use Rattle.std.specs.Prelude.{◌≡◌, ◌≤◌, ◌+◌, IfOk, IfSome, map, codes};
 ghost use Rattle.lab_sched.specs.ScheduleTexts.{reading_of_words};
 ghost use Rattle.lab_debug.specs.Private.Ranges.{IsCommand};
-ghost use Rattle.lab_debug.specs.Commands.{step_of, until_of, back_of, bare_of, of_process, out_of, range_of, of_range, of_blocks, read_schedule, is_named, showing_command, plain_command, command_of};
+ghost use Rattle.lab_debug.specs.Commands.{step_of, until_of, back_of, bare_of, of_process, out_of, range_of, of_blocks, read_schedule, is_named, showing_command, plain_command, command_of};
 
-use crate::operands::{address_in, count_in, number_in, one, process_in, three, two};
+use crate::operands::{address_in, count_in, number_in, process_in};
 use crate::placing::read_placing;
 use lab_sched::{MOST_STEPS, SchedFault, Schedule};
-use lab_session::{Mark, MarkKind};
+use lab_session::{Mark, MarkKind, Range};
 use std::alloc::{AllocError, Global};
-
-/// A range of memory of a process: so many words from an address on.
-#[derive(Clone, Copy)]
-pub struct Range {
-    pub pid: usize,
-    pub address: u16,
-    pub count: u32,
-}
 
 /// What a line asks for.
 #[derive(Drop)]
@@ -99,7 +91,7 @@ pub enum Command {
     Quit,
 }
 
-ghost use Rattle.lab_debug.specs.declared.command.Command.TheVariants.{Regs, Mem, Dis, Fds, Run, Play};
+ghost use Rattle.lab_debug.specs.declared.command.Command.TheVariants.{Regs, Fds, Run, Play};
 
 /// Why a line is refused, in this order.
 #[derive(Clone, Copy)]
@@ -121,9 +113,11 @@ fn read_step(operands: &[&[u8]]) -> Option<Command>
     ensures value { result ≡ step_of (map (λ word. word.now) operands.now) }
     ensures ranges { IfSome result (λ command. IsCommand command) }
 {
-    let (pid, count) = two(operands)?;
-    let pid = process_in(pid)?;
-    let count = count_in(count)?;
+    let [pid, count] = operands else {
+        return None;
+    };
+    let pid = process_in(*pid)?;
+    let count = count_in(*count)?;
     Some(Command::Step { pid, count })
 }
 
@@ -132,10 +126,12 @@ fn read_until(operands: &[&[u8]]) -> Option<Command>
     ensures value { result ≡ until_of (map (λ word. word.now) operands.now) }
     ensures ranges { IfSome result (λ command. IsCommand command) }
 {
-    let (pid, address, count) = three(operands)?;
-    let pid = process_in(pid)?;
-    let address = address_in(address)?;
-    let count = count_in(count)?;
+    let [pid, address, count] = operands else {
+        return None;
+    };
+    let pid = process_in(*pid)?;
+    let address = address_in(*address)?;
+    let count = count_in(*count)?;
     Some(Command::Until {
         pid,
         address,
@@ -148,11 +144,14 @@ fn read_back(operands: &[&[u8]]) -> Option<Command>
     ensures value { result ≡ back_of (map (λ word. word.now) operands.now) }
     ensures ranges { IfSome result (λ command. IsCommand command) }
 {
-    if operands.is_empty() {
-        return Some(Command::Back { count: 1 });
+    match operands {
+        [] => Some(Command::Back { count: 1 }),
+        [count] => {
+            let count = number_in(1, MOST_STEPS, *count)?;
+            Some(Command::Back { count })
+        }
+        _ => None,
     }
-    let count = number_in(1, MOST_STEPS, one(operands)?)?;
-    Some(Command::Back { count })
 }
 
 /// `P`, of its registers
@@ -160,7 +159,8 @@ fn read_regs(operands: &[&[u8]]) -> Option<Command>
     ensures value { result ≡ of_process Regs (map (λ word. word.now) operands.now) }
     ensures ranges { IfSome result (λ command. IsCommand command) }
 {
-    let pid = process_in(one(operands)?)?;
+    let [pid] = operands else { return None };
+    let pid = process_in(*pid)?;
     Some(Command::Regs { pid })
 }
 
@@ -169,7 +169,8 @@ fn read_fds(operands: &[&[u8]]) -> Option<Command>
     ensures value { result ≡ of_process Fds (map (λ word. word.now) operands.now) }
     ensures ranges { IfSome result (λ command. IsCommand command) }
 {
-    let pid = process_in(one(operands)?)?;
+    let [pid] = operands else { return None };
+    let pid = process_in(*pid)?;
     Some(Command::Fds { pid })
 }
 
@@ -179,18 +180,15 @@ fn read_out(operands: &[&[u8]]) -> Option<Command>
     ensures ranges { IfSome result (λ command. IsCommand command) }
 {
     match operands {
-        [flag, pid] => {
-            if is_name("--raw", *flag) {
-                let pid = process_in(*pid)?;
-                Some(Command::Raw { pid })
-            } else {
-                None
-            }
-        }
-        _ => {
-            let pid = process_in(one(operands)?)?;
+        [pid] => {
+            let pid = process_in(*pid)?;
             Some(Command::Out { pid })
         }
+        [flag, pid] if is_name("--raw", *flag) => {
+            let pid = process_in(*pid)?;
+            Some(Command::Raw { pid })
+        }
+        _ => None,
     }
 }
 
@@ -199,10 +197,12 @@ pub fn read_range(operands: &[&[u8]]) -> Option<Range>
     ensures value { result ≡ range_of (map (λ word. word.now) operands.now) }
     ensures range { IfSome result (λ range. range.address + range.count ≤ 65536) }
 {
-    let (pid, address, count) = three(operands)?;
-    let pid = process_in(pid)?;
-    let address = address_in(address)?;
-    let count = number_in(1, 256, count)?;
+    let [pid, address, count] = operands else {
+        return None;
+    };
+    let pid = process_in(*pid)?;
+    let address = address_in(*address)?;
+    let count = number_in(1, 256, *count)?;
     if u32::from(address) + count <= 65_536 {
         Some(Range {
             pid,
@@ -212,24 +212,6 @@ pub fn read_range(operands: &[&[u8]]) -> Option<Range>
     } else {
         None
     }
-}
-
-/// `P ADDR N`, of its words
-fn read_mem(operands: &[&[u8]]) -> Option<Command>
-    ensures value { result ≡ of_range Mem (map (λ word. word.now) operands.now) }
-    ensures ranges { IfSome result (λ command. IsCommand command) }
-{
-    let range = read_range(operands)?;
-    Some(Command::Mem(range))
-}
-
-/// `P ADDR N`, of its words with their texts
-fn read_dis(operands: &[&[u8]]) -> Option<Command>
-    ensures value { result ≡ of_range Dis (map (λ word. word.now) operands.now) }
-    ensures ranges { IfSome result (λ command. IsCommand command) }
-{
-    let range = read_range(operands)?;
-    Some(Command::Dis(range))
 }
 
 /// A command without operands
@@ -259,37 +241,30 @@ fn read_showing(name: &[u8], operands: &[&[u8]]) -> Result<Command, Refusal>
     ensures value { result ≡ showing_command name.now (map (λ word. word.now) operands.now) }
     ensures ranges { IfOk result (λ command. IsCommand command) }
 {
-    if is_name("regs", name) {
-        return read_regs(operands).ok_or(Refusal::BadOperands);
-    }
-    if is_name("mem", name) {
-        return read_mem(operands).ok_or(Refusal::BadOperands);
-    }
-    if is_name("dis", name) {
-        return read_dis(operands).ok_or(Refusal::BadOperands);
-    }
-    if is_name("procs", name) {
-        return read_bare(Command::Procs, operands).ok_or(Refusal::BadOperands);
-    }
-    if is_name("mqs", name) {
-        return read_bare(Command::Mqs, operands).ok_or(Refusal::BadOperands);
-    }
-    if is_name("sems", name) {
-        return read_bare(Command::Sems, operands).ok_or(Refusal::BadOperands);
-    }
-    if is_name("fds", name) {
-        return read_fds(operands).ok_or(Refusal::BadOperands);
-    }
-    if is_name("out", name) {
-        return read_out(operands).ok_or(Refusal::BadOperands);
-    }
-    if is_name("profile", name) {
-        return read_bare(Command::Profile, operands).ok_or(Refusal::BadOperands);
-    }
-    if is_name("help", name) {
-        return read_bare(Command::Help, operands).ok_or(Refusal::BadOperands);
-    }
-    read_placing(name, operands)
+    let command = if is_name("regs", name) {
+        read_regs(operands)
+    } else if is_name("mem", name) {
+        read_range(operands).map(Command::Mem)
+    } else if is_name("dis", name) {
+        read_range(operands).map(Command::Dis)
+    } else if is_name("procs", name) {
+        read_bare(Command::Procs, operands)
+    } else if is_name("mqs", name) {
+        read_bare(Command::Mqs, operands)
+    } else if is_name("sems", name) {
+        read_bare(Command::Sems, operands)
+    } else if is_name("fds", name) {
+        read_fds(operands)
+    } else if is_name("out", name) {
+        read_out(operands)
+    } else if is_name("profile", name) {
+        read_bare(Command::Profile, operands)
+    } else if is_name("help", name) {
+        read_bare(Command::Help, operands)
+    } else {
+        return read_placing(name, operands);
+    };
+    command.ok_or(Refusal::BadOperands)
 }
 
 /// A command without a schedule by its name and its operands.
@@ -298,19 +273,18 @@ fn read_plain(name: &[u8], operands: &[&[u8]]) -> Result<Command, Refusal>
     ensures value { result ≡ plain_command name.now (map (λ word. word.now) operands.now) }
     ensures ranges { IfOk result (λ command. IsCommand command) }
 {
-    if is_name("step", name) {
-        return read_step(operands).ok_or(Refusal::BadOperands);
-    }
-    if is_name("until", name) {
-        return read_until(operands).ok_or(Refusal::BadOperands);
-    }
-    if is_name("back", name) {
-        return read_back(operands).ok_or(Refusal::BadOperands);
-    }
-    if is_name("quit", name) {
-        return read_bare(Command::Quit, operands).ok_or(Refusal::BadOperands);
-    }
-    read_showing(name, operands)
+    let command = if is_name("step", name) {
+        read_step(operands)
+    } else if is_name("until", name) {
+        read_until(operands)
+    } else if is_name("back", name) {
+        read_back(operands)
+    } else if is_name("quit", name) {
+        read_bare(Command::Quit, operands)
+    } else {
+        return read_showing(name, operands);
+    };
+    command.ok_or(Refusal::BadOperands)
 }
 
 /// `BLOCKS`, a schedule

@@ -1,5 +1,5 @@
 //! What a line of a script does.
-ghost use Rattle.std.specs.Prelude.{◌≡◌, ◌≤◌, ◌<◌, true, IfOk, OnOk, length, replicate, map, option_map, ◌∷◌};
+ghost use Rattle.std.specs.Prelude.{◌≡◌, ◌≤◌, ◌<◌, true, IfOk, length, replicate, map, option_map, ◌∷◌};
 ghost use Rattle.ipc_kernel.specs.Limits.{process_max};
 ghost use Rattle.std.specs.List.{list_all};
 ghost use Rattle.lab_sched.specs.Schedules.{steps_of};
@@ -9,7 +9,7 @@ ghost use Rattle.lab_debug.specs.Commands.{step_count_max};
 ghost use Rattle.lab_texts.specs.Texts.{status_text};
 ghost use Rattle.lab_texts.specs.Verdicts.{verdict_text};
 ghost use Rattle.lab_debug.specs.Private.Replies.{effect_of};
-ghost use Rattle.lab_debug.specs.Effects.{is_there, are_there, text_effect, standing_effect, back_effect, accepted_effect, command_effect, located_effect, labelled_effect, label_among, words_effect, line_effect};
+ghost use Rattle.lab_debug.specs.Effects.{is_there, are_there, text_effect, standing_effect, back_effect, accepted_effect, command_effect, labelled_effect, label_among, words_effect, line_effect};
 ghost use Rattle.lab_debug.specs.Labels.{addressed};
 ghost use Rattle.lab_debug.specs.Private.LabelViews.{label_seen};
 ghost use Rattle.lab_debug.specs.Private.Changes.{changes};
@@ -18,34 +18,17 @@ ghost use Rattle.lab_debug.specs.Private.Ranges.{IsCommand};
 use crate::command::{Command, Refusal, read_command};
 use crate::label::{Label, address_of, second_label, with_zero};
 use crate::marking::{go, play, set, unset};
-use crate::operands::split_words;
+use crate::operands::BLANKS;
 use crate::reply::{Reply, refuse, said, written};
 use crate::showing::{shown, standing, steps_text};
 use lab_sched::{Block, Schedule, World};
 use lab_session::Session;
 use lab_texts::verdict_text;
+use lc3_word::words_between;
 use std::alloc::{AllocError, Global};
 
-/// Takes so many steps of a process.
-#[tactic(auto, unfolding(lab_sched::specs::Schedules::steps_of))]
-fn step_times(
-    alloc: Global,
-    session: &mut Session,
-    pid: usize,
-    count: u32,
-) -> Result<(), AllocError>
-    requires process { pid < process_max }
-    requires some { 1 ≤ count }
-    requires few { count ≤ step_count_max }
-    ensures state { OnOk result
-        (state_of session.new ≡ after_steps (state_of session.old) (replicate count pid)) }
-{
-    let mut schedule = Schedule::new(alloc);
-    schedule.push(pid, count)?;
-    session.run(&schedule)
-}
-
 /// Takes so many steps of a process, and shows where it stands.
+#[tactic(auto, unfolding(lab_sched::specs::Schedules::steps_of))]
 fn step(alloc: Global, session: &mut Session, pid: usize, count: u32) -> Result<Reply, AllocError>
     requires process { pid < process_max }
     requires some { 1 ≤ count }
@@ -53,7 +36,9 @@ fn step(alloc: Global, session: &mut Session, pid: usize, count: u32) -> Result<
     ensures effect { IfOk result (λ r. effect_of r (state_of session.new) ≡ standing_effect
         (status_text pid) (after_steps (state_of session.old) (replicate count pid))) }
 {
-    step_times(alloc, session, pid, count)?;
+    let mut schedule = Schedule::new(alloc);
+    schedule.push(pid, count)?;
+    session.run(&schedule)?;
     let text = standing(alloc, session, pid)?;
     Ok(written(text))
 }
@@ -196,26 +181,6 @@ fn obey(alloc: Global, session: &mut Session, command: Command) -> Result<Reply,
     }
 }
 
-/// Carries out a command at the address that its label stands for, or refuses it.
-fn obey_at(
-    alloc: Global,
-    session: &mut Session,
-    command: Command,
-    address: Result<u16, Refusal>,
-) -> Result<Reply, AllocError>
-    requires ranges { IsCommand command }
-    ensures effect { IfOk result (λ r. effect_of r (state_of session.new)
-        ≡ located_effect (state_of session.old) command address) }
-{
-    match address {
-        Ok(address) => match command.at(address) {
-            Some(command) => carry_out(alloc, session, command),
-            None => refuse(alloc, Refusal::BadOperands),
-        },
-        Err(refusal) => refuse(alloc, refusal),
-    }
-}
-
 /// Carries out a command with a label as its address, or refuses it.
 fn obey_labelled(
     alloc: Global,
@@ -230,11 +195,15 @@ fn obey_labelled(
     let Some(pid) = command.addressed() else {
         return refuse(alloc, Refusal::BadOperands);
     };
-    if is_there(session.world(), pid) {
-        let address = address_of(session, pid, label);
-        obey_at(alloc, session, command, address)
-    } else {
-        refuse(alloc, Refusal::NoProcess)
+    if !is_there(session.world(), pid) {
+        return refuse(alloc, Refusal::NoProcess);
+    }
+    match address_of(session, pid, label) {
+        Ok(address) => match command.at(address) {
+            Some(command) => carry_out(alloc, session, command),
+            None => refuse(alloc, Refusal::BadOperands),
+        },
+        Err(refusal) => refuse(alloc, refusal),
     }
 }
 
@@ -279,7 +248,7 @@ pub fn perform(alloc: Global, session: &mut Session, line: &[u8]) -> Result<Repl
     ensures effect { IfOk result (λ r. effect_of r (state_of session.new)
         ≡ line_effect (state_of session.old) line.now) }
 {
-    let words = split_words(alloc, line)?;
+    let words = words_between(alloc, BLANKS, line)?;
     let Some((name, operands)) = words.as_slice().split_first() else {
         return Ok(said(String::new(alloc)));
     };

@@ -1,22 +1,13 @@
 //! The words of a line, and operands that they write.
-ghost use Rattle.std.specs.Prelude.{◌≡◌, ◌≤◌, ◌<◌, IfOk, IfSome, map};
-ghost use Rattle.std.specs.Option.{option_map};
+ghost use Rattle.std.specs.Prelude.{◌≡◌, ◌≤◌, ◌<◌, IfSome};
 ghost use Rattle.ipc_kernel.specs.Limits.{process_max};
-ghost use Rattle.lab_debug.specs.Commands.{words_of, number_within, process_of, address_of, count_of, one_of, two_of, three_of, step_count_max};
+ghost use Rattle.lab_debug.specs.Commands.{number_within, process_of, address_of, count_of, step_count_max};
 
 use ipc_kernel::PROCESS_MAX;
-use lc3_word::{number_of, words_between};
-use std::alloc::{AllocError, Global};
+use lc3_word::number_of;
 
-/// Blank, tab, carriage return.
-const BLANKS: &[u8] = b" \t\r";
-
-/// The words of a line.
-pub fn split_words(alloc: Global, line: &[u8]) -> Result<Vec<&[u8]>, AllocError>
-    ensures words { IfOk result (λ words. map (λ word. word.now) words.items ≡ words_of line.now) }
-{
-    words_between(alloc, BLANKS, line)
-}
+/// Blank, tab, carriage return: what is between the words of a line.
+pub const BLANKS: &[u8] = b" \t\r";
 
 /// The number that a word writes, from `low` to `high`.
 #[tactic(auto, using(crate::proofs::NumberLemmas::number_within_capped))]
@@ -59,39 +50,4 @@ pub fn count_in(word: &[u8]) -> Option<u32>
     ensures range { IfSome result (λ n. (1 ≤ n) × (n ≤ step_count_max)) }
 {
     number_in(1, STEP_COUNT_MAX, word)
-}
-
-/// The operand, where there is just one.
-pub fn one<'a>(operands: &[&'a [u8]]) -> Option<&'a [u8]>
-    ensures value { option_map (λ w. w.now) result ≡ one_of (map (λ word. word.now) operands.now) }
-{
-    match operands {
-        [a] => Some(*a),
-        _ => None,
-    }
-}
-
-/// The operands, where there are just two.
-pub fn two<'a>(operands: &[&'a [u8]]) -> Option<(&'a [u8], &'a [u8])>
-    ensures value { option_map (λ w. (w.0.now, w.1.now)) result
-        ≡ two_of (map (λ word. word.now) operands.now) }
-{
-    match operands {
-        [a, b] => Some((*a, *b)),
-        _ => None,
-    }
-}
-
-/// Three operands.
-pub type Three<'a> = (&'a [u8], &'a [u8], &'a [u8]);
-
-/// The operands, where there are just three.
-pub fn three<'a>(operands: &[&'a [u8]]) -> Option<Three<'a>>
-    ensures value { option_map (λ w. (w.0.now, w.1.now, w.2.now)) result
-        ≡ three_of (map (λ word. word.now) operands.now) }
-{
-    match operands {
-        [a, b, c] => Some((*a, *b, *c)),
-        _ => None,
-    }
 }

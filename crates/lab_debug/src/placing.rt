@@ -1,39 +1,30 @@
 //! The commands on labels and lines of a source, as they are written.
 ghost use Rattle.std.specs.Prelude.{◌≡◌, ◌+◌, ◌≤◌, map, IfOk, IfSome};
 ghost use Rattle.lab_debug.specs.Private.Ranges.{IsCommand};
-ghost use Rattle.lab_debug.specs.Commands.{of_process, of_range, placing_command};
+ghost use Rattle.lab_debug.specs.Commands.{of_process, placing_command};
 ghost use Rattle.lab_debug.specs.Labels.{addressed, range_at, command_at};
-ghost use Rattle.lab_debug.specs.declared.command.Command.TheVariants.{Where, Code, Labels};
+ghost use Rattle.lab_debug.specs.declared.command.Command.TheVariants.{Where, Labels};
 
 use crate::breaking::read_breaking;
-use crate::command::{Command, Range, Refusal, is_name, read_range};
-use crate::operands::{one, process_in};
-use lab_session::Mark;
+use crate::command::{Command, Refusal, is_name, read_range};
+use crate::operands::process_in;
+use lab_session::{Mark, Range};
 
-/// `P`, of where it stands
 fn read_where(operands: &[&[u8]]) -> Option<Command>
     ensures value { result ≡ of_process Where (map (λ word. word.now) operands.now) }
     ensures ranges { IfSome result (λ command. IsCommand command) }
 {
-    let pid = process_in(one(operands)?)?;
+    let [pid] = operands else { return None };
+    let pid = process_in(*pid)?;
     Some(Command::Where { pid })
 }
 
-/// `P ADDR N`, of its words with their labels and lines
-fn read_code(operands: &[&[u8]]) -> Option<Command>
-    ensures value { result ≡ of_range Code (map (λ word. word.now) operands.now) }
-    ensures ranges { IfSome result (λ command. IsCommand command) }
-{
-    let range = read_range(operands)?;
-    Some(Command::Code(range))
-}
-
-/// `P`, of its labels
 fn read_labels(operands: &[&[u8]]) -> Option<Command>
     ensures value { result ≡ of_process Labels (map (λ word. word.now) operands.now) }
     ensures ranges { IfSome result (λ command. IsCommand command) }
 {
-    let pid = process_in(one(operands)?)?;
+    let [pid] = operands else { return None };
+    let pid = process_in(*pid)?;
     Some(Command::Labels { pid })
 }
 
@@ -43,16 +34,16 @@ pub fn read_placing(name: &[u8], operands: &[&[u8]]) -> Result<Command, Refusal>
     ensures value { result ≡ placing_command name.now (map (λ word. word.now) operands.now) }
     ensures ranges { IfOk result (λ command. IsCommand command) }
 {
-    if is_name("where", name) {
-        return read_where(operands).ok_or(Refusal::BadOperands);
-    }
-    if is_name("code", name) {
-        return read_code(operands).ok_or(Refusal::BadOperands);
-    }
-    if is_name("labels", name) {
-        return read_labels(operands).ok_or(Refusal::BadOperands);
-    }
-    read_breaking(name, operands)
+    let command = if is_name("where", name) {
+        read_where(operands)
+    } else if is_name("code", name) {
+        read_range(operands).map(Command::Code)
+    } else if is_name("labels", name) {
+        read_labels(operands)
+    } else {
+        return read_breaking(name, operands);
+    };
+    command.ok_or(Refusal::BadOperands)
 }
 
 /// A range that begins at an address, where it ends within memory.

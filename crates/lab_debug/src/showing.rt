@@ -1,19 +1,17 @@
 //! The commands that show something and change nothing.
-ghost use Rattle.std.specs.Prelude.{◌≡◌, ◌≤◌, ◌+◌, None, true, false, length, IfOk, IfSome, string_bytes};
+ghost use Rattle.std.specs.Prelude.{◌≡◌, None, true, false, length, IfOk, IfSome, string_bytes};
 ghost use Rattle.lab_session.specs.Sessions.{state_of, effective};
-ghost use Rattle.lab_session.specs.Listings.{listing_of};
-ghost use Rattle.lab_session.specs.Places.{code_text};
 ghost use Rattle.lab_session.specs.Taken.{taken_text};
 ghost use Rattle.lab_session.specs.Marks.{of_kind};
 ghost use Rattle.lab_session.specs.MarkTexts.{marks_text};
 ghost use Rattle.lab_places.specs.Placed.{listed, placed};
 ghost use Rattle.lab_texts.specs.Texts.{status_text, procs_text};
 ghost use Rattle.lab_debug.specs.Effects.{steps_text, shown_effect, accepted_effect};
-ghost use Rattle.lab_debug.specs.Outputs.{whole_lines, raw_output};
+ghost use Rattle.lab_debug.specs.Outputs.{raw_output};
 ghost use Rattle.lab_debug.specs.Private.Changes.{changes, shows_world};
 ghost use Rattle.lab_debug.specs.Private.Ranges.{IsCommand};
 
-use crate::command::{Command, Range};
+use crate::command::Command;
 use lab_places::placed_by;
 use lab_sched::World;
 use lab_session::{
@@ -24,15 +22,12 @@ use lab_texts::{
     sems_text, status_text,
 };
 use std::alloc::{AllocError, Global};
-use std::fmt::Write;
 
 /// The text of how many steps are left.
 pub fn steps_text(alloc: Global, count: u64) -> Result<String, AllocError>
     ensures text { IfOk result (λ s. string_bytes s ≡ steps_text count) }
 {
-    let mut text = String::new(alloc);
-    write!(text, "steps {count}\n")?;
-    Ok(text)
+    format!(in alloc; "steps {count}\n")
 }
 
 /// The marks of a kind.
@@ -62,27 +57,18 @@ fn steps_shown(alloc: Global, session: &Session) -> Result<String, AllocError>
     taken_text(alloc, blocks.as_slice())
 }
 
-/// Bytes, and a line feed where a line is left open.
-fn whole_lines(alloc: Global, bytes: &[u8]) -> Result<Vec<u8>, AllocError>
-    ensures lines { IfOk result (λ all. all.items ≡ whole_lines bytes.now) }
-{
-    let mut all = bytes.to_vec(alloc)?;
-    if let Some(last) = bytes.last() {
-        if *last != b'\n' {
-            all.push(b'\n')?;
-        }
-    }
-    Ok(all)
-}
-
 /// The bytes that a process has written, and a line feed where a line is left open.
 fn raw_output(alloc: Global, world: &World, pid: usize) -> Result<Vec<u8>, AllocError>
     ensures bytes { IfOk result (λ all. all.items ≡ raw_output pid world.now) }
 {
-    match world.process(pid) {
-        Some(process) => whole_lines(alloc, process.machine().output()),
-        None => Ok(Vec::new(alloc)),
+    let Some(process) = world.process(pid) else {
+        return Ok(Vec::new(alloc));
+    };
+    let mut all = process.machine().output().to_vec(alloc)?;
+    if all.last().is_some_and(|last| *last != b'\n') {
+        all.push(b'\n')?;
     }
+    Ok(all)
 }
 
 /// The status line of a process, with where it stands in its source.
@@ -131,27 +117,6 @@ fn world_shown(
     Ok(Some(text?.into_bytes()))
 }
 
-/// The words of a range, with their labels.
-fn code_shown(alloc: Global, session: &Session, range: Range) -> Result<String, AllocError>
-    requires range { range.address + range.count ≤ 65536 }
-    ensures text { IfOk result (λ s. string_bytes s ≡ code_text range.pid range.address range.count
-        (listing_of (state_of session.now).listings range.pid) (state_of session.now).world) }
-{
-    let Range {
-        pid,
-        address,
-        count,
-    } = range;
-    code_text(
-        alloc,
-        session.world(),
-        pid,
-        session.listing(pid),
-        address,
-        count,
-    )
-}
-
 /// What a command writes that changes nothing, whose processes are there.
 pub fn shown(
     alloc: Global,
@@ -170,7 +135,9 @@ pub fn shown(
         Command::Taken => steps_shown(alloc, session),
         Command::Procs => return Ok(Some(procs_shown(alloc, session)?)),
         Command::Where { pid } => where_text(alloc, session.world(), *pid, session.listing(*pid)),
-        Command::Code(range) => code_shown(alloc, session, *range),
+        Command::Code(range) => {
+            code_text(alloc, session.world(), session.listing(range.pid), *range)
+        }
         Command::Labels { pid } => labels_text(alloc, session.listing(*pid)),
         Command::Help => String::from_str(alloc, session.help()),
         _ => return world_shown(alloc, session, command),

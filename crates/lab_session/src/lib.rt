@@ -14,7 +14,7 @@ mod watches;
 
 pub use mark_texts::{marks_text, off_text, push_changes, set_text};
 pub use marks::{Mark, MarkKind, has_mark};
-pub use places::{code_text, labels_text, where_text};
+pub use places::{Range, code_text, labels_text, where_text};
 pub use playing::play_text;
 pub use state::Session;
 pub use stepping::step_count;

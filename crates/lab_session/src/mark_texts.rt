@@ -1,6 +1,6 @@
 //! The texts of marks, and of watched words that have changed.
-ghost use Rattle.std.specs.Prelude.{◌≡◌, ◌++◌, Some, IfOk, OnOk, codes, string_bytes};
-ghost use Rattle.lab_session.specs.MarkTexts.{mark_text, watched_text, set_text, marks_text, off_word, off_text, change_line, change_text, changes_text};
+ghost use Rattle.std.specs.Prelude.{◌≡◌, ◌++◌, Some, IfOk, OnOk, string_bytes};
+ghost use Rattle.lab_session.specs.MarkTexts.{mark_text, watched_text, set_text, marks_text, off_word, off_text, change_text, changes_text};
 
 use crate::marks::{Mark, MarkKind};
 use crate::state::listing_in;
@@ -52,47 +52,34 @@ impl fmt::Display for Seen<'_> {
     }
 }
 
-/// Adds the line of a break that is set, as `break 0 x3007 LOOP`.
-fn push_break(text: &mut String, listings: &[Option<Listing>], mark: Mark) -> Result<(), AllocError>
-    ensures text { OnOk result (string_bytes text.new
-        ≡ string_bytes text.old ++ (codes "break " ++ mark_text listings.now mark ++ codes "\n")) }
-{
-    let mark = Marked { listings, mark };
-    match write!(text, "break {mark}\n") {
-        Ok(()) => Ok(()),
-        Err(error) => Err(error),
-    }
-}
-
-/// Adds the line of a watch that is set, as `watch 0 x3010 COUNT x0005`.
-fn push_watch(
-    text: &mut String,
-    listings: &[Option<Listing>],
-    watched: Watched,
-) -> Result<(), AllocError>
-    ensures text { OnOk result (string_bytes text.new
-        ≡ string_bytes text.old ++ (watched_text listings.now watched ++ codes "\n")) }
-{
-    let seen = Seen { listings, watched };
-    match write!(text, "{seen}\n") {
-        Ok(()) => Ok(()),
-        Err(error) => Err(error),
-    }
-}
-
-/// Adds the line of a mark that is set.
-fn push_mark(
-    text: &mut String,
-    listings: &[Option<Listing>],
-    world: &World,
+/// The line of a mark that is set, as `break 0 x3007 LOOP` or `watch 0 x3010 COUNT x0005`.
+#[derive(Clone, Copy)]
+struct SetLine<'a> {
+    listings: &'a [Option<Listing>],
+    world: &'a World,
     mark: Mark,
-) -> Result<(), AllocError>
-    ensures text { OnOk result (string_bytes text.new
-        ≡ string_bytes text.old ++ set_text listings.now world.now mark) }
-{
-    match mark.kind {
-        MarkKind::Break => push_break(text, listings, mark),
-        MarkKind::Watch => push_watch(text, listings, watched_at(world, mark)),
+}
+
+impl fmt::Display for SetLine<'_> {
+    ghost output = { λ s. Some (set_text s.listings.now s.world.now s.mark) };
+
+    fn fmt<W: fmt::Write>(&self, f: &mut fmt::Formatter<W>) -> fmt::Result {
+        let SetLine {
+            listings,
+            world,
+            mark,
+        } = *self;
+        match mark.kind {
+            MarkKind::Break => {
+                let mark = Marked { listings, mark };
+                write!(f, "break {mark}\n")
+            }
+            MarkKind::Watch => {
+                let watched = watched_at(world, mark);
+                let seen = Seen { listings, watched };
+                write!(f, "{seen}\n")
+            }
+        }
     }
 }
 
@@ -105,9 +92,12 @@ pub fn set_text(
 ) -> Result<String, AllocError>
     ensures text { IfOk result (λ s. string_bytes s ≡ set_text listings.now world.now mark) }
 {
-    let mut text = String::new(alloc);
-    push_mark(&mut text, listings, world, mark)?;
-    Ok(text)
+    let line = SetLine {
+        listings,
+        world,
+        mark,
+    };
+    format!(in alloc; "{line}")
 }
 
 /// The word that tells that a mark of this kind is taken off.
@@ -128,11 +118,9 @@ pub fn off_text(
 ) -> Result<String, AllocError>
     ensures text { IfOk result (λ s. string_bytes s ≡ off_text listings.now mark) }
 {
-    let mut text = String::new(alloc);
     let word = off_word(mark.kind);
     let mark = Marked { listings, mark };
-    write!(text, "{word} {mark}\n")?;
-    Ok(text)
+    format!(in alloc; "{word} {mark}\n")
 }
 
 /// The lines of marks, in their order.
@@ -147,32 +135,19 @@ pub fn marks_text(
 {
     let mut text = String::new(alloc);
     for mark in marks {
-        push_mark(&mut text, listings, world, *mark)?;
+        let line = SetLine {
+            listings,
+            world,
+            mark: *mark,
+        };
+        write!(text, "{line}")?;
     }
     Ok(text)
 }
 
-/// Adds the line of a watched word that has changed, as `watch 0 x3010 COUNT x0005 -> x0006`.
+/// Adds the line of a watched word, where it has changed, as `watch 0 x3010 COUNT x0005 -> x0006`.
 #[tactic(auto, unfolding(crate::specs::MarkTexts::change_line))]
 fn push_change(
-    text: &mut String,
-    listings: &[Option<Listing>],
-    world: &World,
-    watched: Watched,
-) -> Result<(), AllocError>
-    ensures text { OnOk result (string_bytes text.new
-        ≡ string_bytes text.old ++ change_line listings.now world.now watched) }
-{
-    let seen = Seen { listings, watched };
-    let word = Hex(word_at(world, watched.mark));
-    match write!(text, "{seen} -> {word}\n") {
-        Ok(()) => Ok(()),
-        Err(error) => Err(error),
-    }
-}
-
-/// Adds the line of a watched word, where it has changed.
-fn push_if_changed(
     text: &mut String,
     listings: &[Option<Listing>],
     world: &World,
@@ -182,10 +157,11 @@ fn push_if_changed(
         ≡ string_bytes text.old ++ change_text listings.now world.now watched) }
 {
     if has_changed(world, watched) {
-        push_change(text, listings, world, watched)
-    } else {
-        Ok(())
+        let seen = Seen { listings, watched };
+        let word = Hex(word_at(world, watched.mark));
+        write!(text, "{seen} -> {word}\n")?;
     }
+    Ok(())
 }
 
 /// Adds the lines of the watched words that have changed.
@@ -199,7 +175,7 @@ pub fn push_changes(
         ≡ string_bytes text.old ++ changes_text listings.now world.now watched.now) }
 {
     for word in watched {
-        push_if_changed(text, listings, world, *word)?;
+        push_change(text, listings, world, *word)?;
     }
     Ok(())
 }

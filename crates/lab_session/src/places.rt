@@ -31,10 +31,8 @@ fn push_where(
         address,
         word,
     };
-    match write!(text, "{pid} {place} {label} {content}\n") {
-        Ok(()) => Ok(()),
-        Err(error) => Err(error),
-    }
+    write!(text, "{pid} {place} {label} {content}\n")?;
+    Ok(())
 }
 
 /// Where process `pid` stands: its program counter, the nearest label, and the line of its source
@@ -74,10 +72,8 @@ fn push_code_line(
         address,
         word,
     };
-    match write!(text, "{place} {shown} {label} {content}\n") {
-        Ok(()) => Ok(()),
-        Err(error) => Err(error),
-    }
+    write!(text, "{place} {shown} {label} {content}\n")?;
+    Ok(())
 }
 
 /// Adds the words of a range, each with its label and its line.
@@ -101,23 +97,35 @@ fn push_code(
     Ok(())
 }
 
-/// The words of a range of memory of process `pid`, each on a line with its address, its nearest
-/// label, and the line of its source there or its text. A process that isn't there has none.
+/// A range of memory of a process: so many words from an address on.
+#[derive(Clone, Copy)]
+pub struct Range {
+    pub pid: usize,
+    pub address: u16,
+    pub count: u32,
+}
+
+/// The words of a range of memory, each on a line with its address, its nearest label, and the line
+/// of its source there or its text. A process that isn't there has none.
 pub fn code_text(
     alloc: Global,
     world: &World,
-    pid: usize,
     listing: Option<&Listing>,
-    address: u16,
-    count: u32,
+    range: Range,
 ) -> Result<String, AllocError>
-    requires range { address + count ≤ 65536 }
-    ensures text { IfOk result (λ s. string_bytes s
-        ≡ code_text pid address count (option_map (λ l. l.now) listing.entry) world.now) }
+    requires range { range.address + range.count ≤ 65536 }
+    ensures text { IfOk result (λ s. string_bytes s ≡ code_text range.pid range.address range.count
+        (option_map (λ l. l.now) listing.entry) world.now) }
 {
     let mut text = String::new(alloc);
-    if let Some(process) = world.process(pid) {
-        push_code(&mut text, listing, process, u32::from(address), count)?;
+    if let Some(process) = world.process(range.pid) {
+        push_code(
+            &mut text,
+            listing,
+            process,
+            u32::from(range.address),
+            range.count,
+        )?;
     }
     Ok(text)
 }

@@ -20,6 +20,7 @@ use std::alloc::{AllocError, Global};
 
 /// A session of the debugger. It keeps the world that it began with and the steps that were taken,
 /// so that it can go back, and the sources of the programs that were given as such.
+#[derive(Drop)]
 pub struct Session {
     listings: Vec<Option<Listing>>,
     help: &'static str,
@@ -29,27 +30,11 @@ pub struct Session {
     world: World,
 }
 
-impl Drop for Session {
-    fn drop(self) {
-        let Session {
-            listings: _,
-            help: _,
-            marks: _,
-            start: _,
-            taken: _,
-            world: _,
-        } = self;
-    }
-}
-
 /// The listing of the source of process `pid`, where it was given as one.
 pub fn listing_in(listings: &[Option<Listing>], pid: usize) -> Option<&Listing>
     ensures listing { option_map (λ l. l.now) result ≡ listing_of listings.now pid }
 {
-    match listings.get(pid) {
-        Some(Some(listing)) => Some(listing),
-        _ => None,
-    }
+    listings.get(pid)?.as_ref()
 }
 
 impl Session {
@@ -95,15 +80,7 @@ impl Session {
     pub fn into_world(self) -> World
         ensures world { result ≡ (state_of self).world }
     {
-        let Session {
-            listings: _,
-            help: _,
-            marks: _,
-            start: _,
-            taken: _,
-            world,
-        } = self;
-        world
+        self.world
     }
 
     /// The world that the steps lead to.
@@ -205,18 +182,8 @@ impl Session {
         Ok((count, taken.stopped))
     }
 
-    /// Takes at most so many steps of a process, up to one that leads it to this break.
-    #[tactic(auto, using(crate::proofs::BlockLemmas::steps_both, crate::proofs::BlockLemmas::one_block))]
-    fn step_to(&mut self, alloc: Global, goal: Mark, count: u32) -> Result<(), AllocError>
-        ensures state { OnOk result (state_of self.new ≡ after_steps (state_of self.old)
-            (steps_to_stop (goal ∷ []) (state_of self.old).world (replicate count goal.pid))) }
-    {
-        let pid = goal.pid;
-        let taken = advance(alloc, &mut self.world, &[goal], &[Block { pid, count }])?;
-        self.taken.extend_from_slice(&taken.steps)
-    }
-
     /// Takes at most so many steps of a process, up to an address; none where it is there already.
+    #[tactic(auto, using(crate::proofs::BlockLemmas::steps_both, crate::proofs::BlockLemmas::one_block))]
     pub fn step_until(
         &mut self,
         alloc: Global,
@@ -229,10 +196,10 @@ impl Session {
     {
         let goal = break_at(pid, address);
         if is_at_break(&self.world, &[goal], pid) {
-            Ok(())
-        } else {
-            self.step_to(alloc, goal, count)
+            return Ok(());
         }
+        let taken = advance(alloc, &mut self.world, &[goal], &[Block { pid, count }])?;
+        self.taken.extend_from_slice(&taken.steps)
     }
 
     /// Takes the steps of a schedule.

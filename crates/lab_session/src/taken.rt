@@ -14,13 +14,10 @@ fn push_run(text: &mut String, pid: usize, count: u64) -> Result<(), AllocError>
     ensures text { OnOk result
         (string_bytes text.new ≡ string_bytes text.old ++ run_text pid count) }
 {
-    if count == 0 {
-        return Ok(());
+    if count > 0 {
+        write!(text, " {pid}*{count}")?;
     }
-    match write!(text, " {pid}*{count}") {
-        Ok(()) => Ok(()),
-        Err(error) => Err(error),
-    }
+    Ok(())
 }
 
 /// Adds the steps of blocks, where those of one process in a row are one block.
