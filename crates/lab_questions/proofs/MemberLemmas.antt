@@ -1,12 +1,14 @@
 -- Objects of JSON, member by member.
-use Rattle.std.proofs.Common.{ℕ, ◌≡◌, true, Bor, Option, List, [], ◌∷◌, ◌++◌, map, refl, sym, ap, ◌∙◌, append_assoc, append-nil}
+use Rattle.std.proofs.Common.{ℕ, ◌≡◌, true, false, Bor, Option, List, [], ◌∷◌, ◌++◌, map, refl, sym, ap, ◌∙◌, append_assoc, append-nil}
 use Rattle.std.specs.Prelude.{codes}
 use Rattle.std.specs.Fmt.{decimal}
 use Rattle.std.proofs.lemmas.List.Concat.{flat_map-append}
+use Rattle.lc3_word.specs.Words.{hexadecimal_text}
 use Rattle.ipc_kernel.specs.Kernel.{KernelState}
 use Rattle.ipc_objects.specs.declared.queue.Message.{Message}
 use Rattle.lab_sched.specs.declared.schedule.block.Block.{Block}
 use Rattle.lab_sched.specs.Verdicts.{verdict_word}
+use Rattle.lab_sched.specs.Worlds.{machine_of, Process}
 use Rattle.lab_worlds.specs.declared.ends.End.{End}
 use Rattle.lab_worlds.specs.declared.exploration.Exploration.{Exploration}
 use Rattle.lab_worlds.specs.declared.lassos.Lasso.{Lasso}
@@ -19,7 +21,7 @@ use Rattle.lab_questions.specs.Findings.{end_json, required_json, never_json, en
 use Rattle.lab_questions.specs.LeftMembers.{left_json, left_members}
 use Rattle.lab_questions.specs.Members.{last_members, cycle_json, objects_told, lasso_json, holds_json}
 use Rattle.lab_questions.specs.Programs.{judges}
-use Rattle.lab_questions.specs.ProcessMembers.{message_json, name_or_null, processes_json, word_json}
+use Rattle.lab_questions.specs.ProcessMembers.{message_json, name_or_null, process_json, processes_json, status_word, stop_member, word_json}
 use Rattle.lab_questions.specs.Values.{text_json, schedule_json, further_json, name_json, truth_json, values_json, array_json, member, object_json}
 
 -- further members, and what stands behind them
@@ -51,6 +53,14 @@ never_told asked schedule = object-row (member (codes "never") (text_json asked)
 pub cycle_told : (r : Lasso) → cycle_json r ≡ codes "{\"schedule\":" ++ (schedule_json r.schedule ++ (codes ",\"round\":" ++ (schedule_json r.steps ++ codes "}")))
 unfolding cycle_json
 cycle_told r = object-row (member (codes "schedule") (schedule_json r.schedule)) (member (codes "round") (schedule_json r.steps) ∷ [])
+
+-- a process, member by member
+pub process_told : (s : Process) → process_json false s
+    ≡ codes "{\"status\":" ++ (name_json (status_word s) ++ (codes ",\"pc\":" ++ (name_json (hexadecimal_text (machine_of s).pc) ++ (codes "," ++ (stop_member s
+    ++ (codes ",\"out\":" ++ (text_json (machine_of s).output ++ codes "}")))))))
+unfolding process_json
+process_told s = object-row (member (codes "status") (name_json (status_word s)))
+    (member (codes "pc") (name_json (hexadecimal_text (machine_of s).pc)) ∷ stop_member s ∷ member (codes "out") (text_json (machine_of s).output) ∷ [])
 
 -- a message, member by member
 pub message_told : (name : Option (List ℕ)) (m : Message) → message_json name m

@@ -59,11 +59,11 @@ fn push_extent(
     Ok(())
 }
 
-fn push_array(text: &mut String, name: &str, values: &[String]) -> Result<(), AllocError>
+fn push_array(text: &mut String, name: &str, values: Vec<String>) -> Result<(), AllocError>
     ensures text { OnOk result (string_bytes text.new ≡ string_bytes text.old
-        ++ (codes "," ++ member name.now (array_json (map string_bytes values.now)))) }
+        ++ (codes "," ++ member name.now (array_json (map string_bytes values.items)))) }
 {
-    let values = Array(values);
+    let values = Array(&values);
     match write!(text, ",\"{name}\":{values}") {
         Ok(()) => Ok(()),
         Err(error) => Err(error),
@@ -76,13 +76,14 @@ fn push_found(alloc: Global, text: &mut String, answers: &Answers) -> Result<(),
     ensures text { OnOk result (string_bytes text.new
         ≡ string_bytes text.old ++ further_json (found_members answers.now)) }
 {
-    let found = &answers.exploration;
-    let ends = ends_told(alloc, answers.asked.show, &found.ends, &answers.told)?;
-    push_array(text, "ends", &ends)?;
-    let faults = required_told(alloc, answers)?;
-    push_array(text, "not", &faults)?;
-    let reached = never_told(alloc, answers)?;
-    push_array(text, "reached", &reached)
+    let ends = &answers.exploration.ends;
+    push_array(
+        text,
+        "ends",
+        ends_told(alloc, answers.asked.show, ends, &answers.told)?,
+    )?;
+    push_array(text, "not", required_told(alloc, answers)?)?;
+    push_array(text, "reached", never_told(alloc, answers)?)
 }
 
 /// Adds the last members, and the end of the line.
@@ -100,8 +101,7 @@ fn push_last(alloc: Global, text: &mut String, answers: &Answers) -> Result<(), 
     write!(
         text,
         ",\"unopened\":{unopened},\"fair\":{fair},\"endless\":{endless},\"holds\":{holds}}}\n"
-    )?;
-    Ok(())
+    )
 }
 
 /// The answers as one line, by how far the exploration was to go, with the limit that it met, if

@@ -1,10 +1,10 @@
 //! Ends as JSON.
-ghost use Rattle.std.specs.Prelude.{◌≡◌, Some, IfOk, map, slice_get, string_bytes};
+ghost use Rattle.std.specs.Prelude.{◌≡◌, false, Some, IfOk, map, slice_get, string_bytes};
 ghost use Rattle.lab_sched.specs.Held.{process_view};
 ghost use Rattle.lab_texts.specs.Texts.{place_text};
 ghost use Rattle.lab_questions.specs.Findings.{end_json, end_or_null, ends_told};
 ghost use Rattle.lab_questions.specs.LeftMembers.{left_members};
-ghost use Rattle.lab_questions.specs.ProcessMembers.{process_json};
+ghost use Rattle.lab_questions.specs.ProcessMembers.{process_json, status_word, stop_member};
 ghost use Rattle.lab_questions.specs.Values.{further_json, name_json};
 
 use crate::Show;
@@ -38,6 +38,55 @@ impl fmt::Display for Place<'_> {
     }
 }
 
+/// The status of a process, in a word.
+fn status_name(process: &Process) -> &'static str
+    ensures text { result.now ≡ status_word (process_view process.now) }
+{
+    match process {
+        Process::Running(_) => "running",
+        Process::Waiting(_, _) => "waiting",
+        Process::Ended(_) => "ended",
+    }
+}
+
+/// The member for how a process ended, or else for what stands at its program counter.
+#[derive(Clone, Copy)]
+struct Stop<'a>(&'a Process);
+
+impl fmt::Display for Stop<'_> {
+    ghost output = { λ s. Some (stop_member (process_view s.0.now)) };
+
+    fn fmt<W: fmt::Write>(&self, f: &mut fmt::Formatter<W>) -> fmt::Result {
+        if let Process::Ended(ended) = self.0 {
+            let how = Quoted(how_name(ended.how()));
+            return write!(f, "\"how\":{how}");
+        }
+        let place = Place(self.0.machine());
+        write!(f, "\"text\":{place}")
+    }
+}
+
+/// A process, by where it stands and what it has written.
+#[derive(Clone, Copy)]
+struct Whole<'a>(&'a Process);
+
+impl fmt::Display for Whole<'_> {
+    ghost output = { λ p. Some (process_json false (process_view p.0.now)) };
+
+    #[tactic(auto, using(crate::proofs::MemberLemmas::process_told))]
+    fn fmt<W: fmt::Write>(&self, f: &mut fmt::Formatter<W>) -> fmt::Result {
+        let machine = self.0.machine();
+        let status = Quoted(status_name(self.0));
+        let pc = WordValue(machine.pc());
+        let stop = Stop(self.0);
+        let output = Text(machine.output());
+        write!(
+            f,
+            "{{\"status\":{status},\"pc\":{pc},{stop},\"out\":{output}}}"
+        )
+    }
+}
+
 /// A process, or what it has written alone.
 #[derive(Clone, Copy)]
 struct ProcessValue<'a> {
@@ -50,30 +99,12 @@ impl fmt::Display for ProcessValue<'_> {
 
     #[tactic(auto, unfolding(crate::specs::ProcessMembers::process_json))]
     fn fmt<W: fmt::Write>(&self, f: &mut fmt::Formatter<W>) -> fmt::Result {
-        let machine = self.process.machine();
-        let pc = WordValue(machine.pc());
-        let place = Place(machine);
-        let output = Text(machine.output());
         if self.out {
+            let output = Text(self.process.machine().output());
             return write!(f, "{{\"out\":{output}}}");
         }
-        match self.process {
-            Process::Running(_) => write!(
-                f,
-                "{{\"status\":\"running\",\"pc\":{pc},\"text\":{place},\"out\":{output}}}"
-            ),
-            Process::Waiting(_, _) => write!(
-                f,
-                "{{\"status\":\"waiting\",\"pc\":{pc},\"text\":{place},\"out\":{output}}}"
-            ),
-            Process::Ended(ended) => {
-                let how = Quoted(how_name(ended.how()));
-                write!(
-                    f,
-                    "{{\"status\":\"ended\",\"pc\":{pc},\"how\":{how},\"out\":{output}}}"
-                )
-            }
-        }
+        let whole = Whole(self.process);
+        write!(f, "{whole}")
     }
 }
 
