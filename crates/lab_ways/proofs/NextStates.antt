@@ -26,7 +26,7 @@ use Rattle.lab_ways.specs.declared.wanted.Pattern.{Pattern}
 use Rattle.lab_ways.specs.declared.wanted.Pattern.TheVariants.{AtLeast, InOrder, Together, NoneOf, NoneBut}
 use Rattle.lab_ways.specs.declared.wanted.Wanted.{Wanted}
 use Rattle.lab_ways.specs.Calls.{object_name, queue_behind, semaphore_behind, name_called, is_called, is_on, is_of, is_of_any, is_exit, is_success}
-use Rattle.lab_ways.specs.Wanted.{next_count, is_of_next, next_turn, next_held, next_units, are_held, next_by, next_answered, next_state}
+use Rattle.lab_ways.specs.Wanted.{is_of_next, next_turn, next_held, next_units, are_held, next_by, next_answered, next_state}
 
 -- the object behind a descriptor has its name in both kernels
 queue_alike : (f g : ℕ → ℕ) (k j : KernelState) → IsRenaming f g k j → (p d : ℕ) → queue_behind j p d ≡ queue_behind k p d
@@ -176,9 +176,6 @@ units_stay (name ∷ names) s k p c waits posts =
 either_same : (b : Bool) (s : ℕ) → (if b then s else s) ≡ s
 either_same true s = refl
 either_same false s = refl
-
-pub unread_count : (x : CallKind) (n s : ℕ) (k : KernelState) (p : ℕ) (c : Call) → is_called x.service c ≡ false → next_count x n s k p c ≡ s
-unread_count x n s k p c none = ap (λ b. if b && is_on x.object k p c then (if nat_lt s n then s + 1 else n) else s) none
 
 pub unread_turn : (xs : List CallKind) (s : ℕ) (k : KernelState) (p : ℕ) (c : Call) → list_any (λ x. is_called x.service c) xs ≡ false → next_turn xs s k p c ≡ s
 unread_turn xs s k p c none = ap (λ b. if b then (if is_of_next xs s k p c then s + 1 else length xs + 1) else s) (uncalled_kinds xs k p c none)

@@ -3,7 +3,6 @@ ghost use Rattle.std.specs.Prelude.{◌≡◌, ◌&&◌, ◌<◌, bytes_eq, leng
 ghost use Rattle.std.specs.List.{list_any};
 ghost use Rattle.std.specs.Option.{option_copied};
 ghost use Rattle.ipc_kernel.specs.Places.{place_at, is_name};
-ghost use Rattle.ipc_traps.specs.Services.{service_name};
 ghost use Rattle.lab_ways.specs.Calls.{call_name, object_name, queue_behind, semaphore_behind, name_called, is_called, is_on, is_of, is_of_any, is_success};
 
 use ipc_kernel::{Answer, Call, Kernel, Reply};

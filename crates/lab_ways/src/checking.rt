@@ -10,7 +10,6 @@ use lab_explore::Visited;
 use lab_search::Store;
 use lab_states::{Edge, place_of};
 use lab_worlds::ExploreFault;
-use std::alloc::Global;
 
 fn is_marked(marks: &Marks, row: usize, state: u32) -> bool
     ensures yes { IsTrue result → IsMarked marks.now row state }
@@ -29,7 +28,6 @@ fn is_unmarked(marks: &Marks, row: usize, state: u32) -> bool
 
 fn keeps_mark(
     store: &Store,
-    alloc: Global,
     wanted: &Wanted,
     marks: &Marks,
     edge: &Edge,
@@ -41,13 +39,13 @@ fn keeps_mark(
     if is_unmarked(marks, edge.from as usize, state) {
         return Ok(true);
     }
+    let alloc = *marks.reached.allocator();
     let next = state_along(store, alloc, wanted, edge, state)?;
     Ok((next as usize) < marks.states && is_marked(marks, edge.to as usize, next))
 }
 
 fn keeps_marks(
     store: &Store,
-    alloc: Global,
     wanted: &Wanted,
     marks: &Marks,
     edge: &Edge,
@@ -56,7 +54,7 @@ fn keeps_marks(
         → KeepsMarks wanted.now store.now marks.now edge.now) }
 {
     for state in 0..place_of(marks.states)? {
-        if !keeps_mark(store, alloc, wanted, marks, edge, state)? {
+        if !keeps_mark(store, wanted, marks, edge, state)? {
             return Ok(false);
         }
     }
@@ -64,12 +62,7 @@ fn keeps_marks(
 }
 
 /// Whether each edge leads from marked pairs to marked ones.
-fn keep_marks(
-    store: &Store,
-    alloc: Global,
-    wanted: &Wanted,
-    marks: &Marks,
-) -> Result<bool, ExploreFault>
+fn keep_marks(store: &Store, wanted: &Wanted, marks: &Marks) -> Result<bool, ExploreFault>
     ensures yes { IfOk result (λ is. IsTrue is
         → (k : ℕ) → KeepsMarksAt wanted.now store.now marks.now k) }
 {
@@ -78,7 +71,7 @@ fn keep_marks(
         let Some(edge) = store.edges.get_after(at, row) else {
             return Ok(false);
         };
-        if !keeps_marks(store, alloc, wanted, marks, &edge)? {
+        if !keeps_marks(store, wanted, marks, &edge)? {
             return Ok(false);
         }
         row = edge.from as usize;
@@ -132,7 +125,6 @@ fn are_right(visited: &Visited, wanted: &Wanted, marks: &Marks) -> Result<bool, 
 /// Whether the marks show that what is asked is so on every way.
 pub(crate) fn are_shown(
     visited: &Visited,
-    alloc: Global,
     wanted: &Wanted,
     marks: &Marks,
 ) -> Result<bool, ExploreFault>
@@ -146,7 +138,7 @@ pub(crate) fn are_shown(
     if !are_right(visited, wanted, marks)? {
         return Ok(false);
     }
-    let kept = keep_marks(&visited.store, alloc, wanted, marks)?;
+    let kept = keep_marks(&visited.store, wanted, marks)?;
     Ok(kept)
 }
 

@@ -5,7 +5,7 @@ use crate::judging::state_along;
 use crate::wanted::{MOST_STATES, Wanted};
 use lab_search::Store;
 use lab_states::{Edge, Edges, place_of, put};
-use lab_worlds::{ExploreFault, discard};
+use lab_worlds::ExploreFault;
 use std::alloc::{AllocError, Global};
 
 /// A pair that was reached: by which edge, and from which pair.
@@ -32,9 +32,7 @@ impl Marks {
         if states > MOST_STATES {
             return Err(AllocError);
         }
-        let Some(count) = rows.checked_mul(states) else {
-            return Err(AllocError);
-        };
+        let count = rows.checked_mul(states).ok_or(AllocError)?;
         Ok(Marks {
             states,
             marks: vec![in alloc; 0; count]?,
@@ -73,11 +71,11 @@ impl Marks {
     fn follow(
         &mut self,
         store: &Store,
-        alloc: Global,
         wanted: &Wanted,
         from: Reached,
         before: u32,
     ) -> Result<(), ExploreFault> {
+        let alloc = *self.reached.allocator();
         let row = from.row as usize;
         for at in store.edges.places_from(row) {
             if let Some(edge) = store.edges.get_after(at, row) {
@@ -95,7 +93,7 @@ impl Marks {
 
     /// Marks the pairs that are reached from the first row and state 0, those by fewer edges first, up to
     /// one with a state that isn't allowed.
-    fn fill(&mut self, store: &Store, alloc: Global, wanted: &Wanted) -> Result<(), ExploreFault> {
+    fn fill(&mut self, store: &Store, wanted: &Wanted) -> Result<(), ExploreFault> {
         for place in 0..self.marks.len() {
             let Some(pair) = self.reached.get(place).copied() else {
                 return Ok(());
@@ -103,7 +101,7 @@ impl Marks {
             if !wanted.pattern.allows(pair.state) {
                 return Ok(());
             }
-            self.follow(store, alloc, wanted, pair, place_of(place)?)?;
+            self.follow(store, wanted, pair, place_of(place)?)?;
         }
         Ok(())
     }
@@ -143,11 +141,6 @@ pub(crate) fn mark(store: &Store, alloc: Global, wanted: &Wanted) -> Result<Mark
         before: 0,
     };
     marks.add(first)?;
-    match marks.fill(store, alloc, wanted) {
-        Ok(()) => Ok(marks),
-        Err(fault) => {
-            discard(marks);
-            Err(fault)
-        }
-    }
+    marks.fill(store, wanted)?;
+    Ok(marks)
 }

@@ -58,13 +58,8 @@ fn next_held(name: &Name, held: u32, kernel: &Kernel, pid: usize, call: &Call) -
 fn behind(digit: u32, rest: u32) -> Result<u32, ExploreFault>
     ensures value { IfOk result (λ n. n ≡ digit + 2 * rest) }
 {
-    let Some(twice) = rest.checked_mul(2) else {
-        return Err(ExploreFault::NoMemory);
-    };
-    match twice.checked_add(digit) {
-        Some(number) => Ok(number),
-        None => Err(ExploreFault::NoMemory),
-    }
+    let twice = rest.checked_mul(2).ok_or(ExploreFault::NoMemory)?;
+    twice.checked_add(digit).ok_or(ExploreFault::NoMemory)
 }
 
 /// What is held after a call.

@@ -1,5 +1,5 @@
 //! Ways on which what is asked isn't so: the steps along edges are taken again.
-ghost use Rattle.std.specs.Prelude.{◌≡◌, IfOk, OnOk};
+ghost use Rattle.std.specs.Prelude.{IfOk, OnOk};
 ghost use Rattle.lab_sched.specs.Starts.{AreStarts, initial_world};
 ghost use Rattle.lab_ways.specs.declared.wanted.Wanted.{Wanted as Asked};
 ghost use Rattle.lab_ways.specs.Ways.{IsWayWithout};
@@ -10,7 +10,7 @@ use crate::watching::WatchedWalk;
 use lab_explore::Visited;
 use lab_sched::{Process, Schedule};
 use lab_states::{Edge, number_at, put};
-use lab_worlds::{ExploreFault, Walk, discard};
+use lab_worlds::ExploreFault;
 use std::alloc::Global;
 
 /// Takes the local steps that are left of the process of an edge; behind its step it has others.
@@ -24,12 +24,10 @@ fn go_to_edge(
 {
     let pid = edge.pid as usize;
     walk.go_on(pid, number_at(local, pid))?;
-    let Some(taken) = visited
+    let taken = visited
         .store
         .known_steps(edge.from as usize, edge.pid as u32)
-    else {
-        return Err(ExploreFault::Unvouched);
-    };
+        .ok_or(ExploreFault::Unvouched)?;
     put(local, pid, taken);
     Ok(())
 }
@@ -37,7 +35,6 @@ fn go_to_edge(
 /// Goes along edges, the last of which comes first.
 fn go_along(
     visited: &Visited,
-    alloc: Global,
     wanted: &Wanted,
     path: &[Edge],
     local: &mut Vec<u32>,
@@ -45,6 +42,7 @@ fn go_along(
 ) -> Result<(), ExploreFault>
     ensures watched { OnOk result (KeepsWatched wanted.now walk.old walk.new) }
 {
+    let alloc = *local.allocator();
     for edge in path.iter().rev() {
         go_to_edge(visited, edge, local, walk)?;
         walk.go(alloc, wanted, edge.pid as usize)?;
@@ -74,16 +72,15 @@ fn settle(
 /// Goes along edges to rest, where what is asked must not be so.
 fn go_to_rest(
     visited: &Visited,
-    alloc: Global,
     wanted: &Wanted,
     path: &[Edge],
     walk: &mut WatchedWalk,
 ) -> Result<(), ExploreFault>
     ensures against { OnOk result (ComesToEnd wanted.now walk.old walk.new) }
 {
-    let mut local = Vec::from_slice(alloc, visited.firsts.as_slice())?;
-    go_along(visited, alloc, wanted, path, &mut local, walk)?;
-    settle(alloc, wanted, local.as_slice(), walk)?;
+    let mut local = visited.firsts.clone()?;
+    go_along(visited, wanted, path, &mut local, walk)?;
+    settle(*local.allocator(), wanted, local.as_slice(), walk)?;
     if !walk.rests_unaccepted(wanted) {
         return Err(ExploreFault::Unvouched);
     }
@@ -93,27 +90,23 @@ fn go_to_rest(
 /// Goes along edges, the last step of which must lead to a state that isn't allowed.
 fn go_to_break(
     visited: &Visited,
-    alloc: Global,
     wanted: &Wanted,
     path: &[Edge],
     walk: &mut WatchedWalk,
 ) -> Result<(), ExploreFault>
     ensures against { OnOk result (ComesToEnd wanted.now walk.old walk.new) }
 {
-    let Some((last, before)) = path.split_first() else {
-        return Err(ExploreFault::Unvouched);
-    };
-    let mut local = Vec::from_slice(alloc, visited.firsts.as_slice())?;
-    go_along(visited, alloc, wanted, before, &mut local, walk)?;
+    let (last, before) = path.split_first().ok_or(ExploreFault::Unvouched)?;
+    let mut local = visited.firsts.clone()?;
+    go_along(visited, wanted, before, &mut local, walk)?;
     go_to_edge(visited, last, &mut local, walk)?;
-    walk.break_off(alloc, wanted, last.pid as usize)?;
+    walk.break_off(*local.allocator(), wanted, last.pid as usize)?;
     Ok(())
 }
 
 /// Goes along edges to a state that isn't allowed, if such a one is to come, or else to rest.
 fn go_to_end(
     visited: &Visited,
-    alloc: Global,
     wanted: &Wanted,
     path: &[Edge],
     breaks: bool,
@@ -122,30 +115,15 @@ fn go_to_end(
     ensures against { OnOk result (ComesToEnd wanted.now walk.old walk.new) }
 {
     if breaks {
-        go_to_break(visited, alloc, wanted, path, walk)
+        go_to_break(visited, wanted, path, walk)
     } else {
-        go_to_rest(visited, alloc, wanted, path, walk)
+        go_to_rest(visited, wanted, path, walk)
     }
-}
-
-/// The schedule of a walk.
-fn schedule_of(walk: WatchedWalk) -> Schedule
-    ensures schedule { result ≡ walk.walk.schedule }
-{
-    let WatchedWalk { walk, state: _ } = walk;
-    let Walk {
-        world,
-        schedule,
-        calls: _,
-    } = walk;
-    discard(world);
-    schedule
 }
 
 /// The way along edges to a state that isn't allowed, or to rest.
 pub(crate) fn way_along(
     visited: &Visited,
-    alloc: Global,
     processes: &[Process],
     wanted: &Wanted,
     path: &[Edge],
@@ -154,12 +132,7 @@ pub(crate) fn way_along(
     requires starts { AreStarts processes.now }
     ensures way { IfOk result (λ s. IsWayWithout wanted.now (initial_world processes.now) s) }
 {
-    let mut walk = WatchedWalk::start(alloc, processes)?;
-    match go_to_end(visited, alloc, wanted, path, breaks, &mut walk) {
-        Ok(()) => Ok(schedule_of(walk)),
-        Err(fault) => {
-            discard(walk);
-            Err(fault)
-        }
-    }
+    let mut walk = WatchedWalk::start(*visited.firsts.allocator(), processes)?;
+    go_to_end(visited, wanted, path, breaks, &mut walk)?;
+    Ok(walk.walk.schedule)
 }

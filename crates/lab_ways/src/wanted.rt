@@ -5,7 +5,7 @@ ghost use Rattle.ipc_kernel.specs.Kernel.{KernelState};
 ghost use Rattle.ipc_kernel.specs.declared.call.Answer.{Answer as Given};
 ghost use Rattle.lab_conditions.specs.Refusals.{is_process};
 ghost use Rattle.lab_ways.specs.Calls.{is_success};
-ghost use Rattle.lab_ways.specs.Wanted.{next_count, is_of_next, next_turn, next_by, next_answered, is_allowed, is_accepted};
+ghost use Rattle.lab_ways.specs.Wanted.{is_of_next, next_turn, next_by, next_answered, is_allowed, is_accepted};
 
 use crate::calls::{CallKind, are_called, is_called, is_of_any, is_success};
 use crate::units::{are_held, moves_units, next_units};
@@ -43,27 +43,7 @@ pub struct Wanted {
 fn one_more(number: u32) -> Result<u32, ExploreFault>
     ensures value { IfOk result (λ n. n ≡ number + 1) }
 {
-    match number.checked_add(1) {
-        Some(more) => Ok(more),
-        None => Err(ExploreFault::NoMemory),
-    }
-}
-
-fn next_count(
-    kind: &CallKind,
-    most: u32,
-    count: u32,
-    kernel: &Kernel,
-    pid: usize,
-    call: &Call,
-) -> u32
-    requires process { pid < length kernel.now.processes }
-    ensures value { result ≡ next_count kind.now most count kernel.now pid call.now }
-{
-    if !kind.is_of(kernel, pid, call) {
-        return count;
-    }
-    if count < most { count + 1 } else { most }
+    number.checked_add(1).ok_or(ExploreFault::NoMemory)
 }
 
 /// Whether a call is of the kind whose turn it is.
@@ -137,7 +117,9 @@ impl Pattern {
         ensures value { IfOk result (λ n. n ≡ next_by self.now state kernel.now pid call.now) }
     {
         match self {
-            Pattern::AtLeast(kind, most) => Ok(next_count(kind, *most, state, kernel, pid, call)),
+            Pattern::AtLeast(kind, _) if !kind.is_of(kernel, pid, call) => Ok(state),
+            Pattern::AtLeast(_, most) if state < *most => Ok(state + 1),
+            Pattern::AtLeast(_, most) => Ok(*most),
             Pattern::InOrder(kinds) => next_turn(kinds, state, kernel, pid, call),
             Pattern::Together(names) if are_held(names, state) => Ok(state),
             Pattern::Together(names) => next_units(names, state, kernel, pid, call),

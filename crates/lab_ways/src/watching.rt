@@ -1,6 +1,5 @@
 //! Walks, and the state of what is asked after their steps.
 ghost use Rattle.std.specs.Prelude.{◌≡◌, ◌++◌, [], ◌∷◌, false, IsTrue, IfOk, OnOk};
-ghost use Rattle.lab_sched.specs.Worlds.{WorldState};
 ghost use Rattle.lab_sched.specs.Schedules.{steps_of};
 ghost use Rattle.lab_sched.specs.Starts.{AreStarts, initial_world};
 ghost use Rattle.lab_sched.specs.declared.verdict.Verdict.TheVariants.{Open};
@@ -11,7 +10,7 @@ ghost use Rattle.lab_ways.specs.Private.Marked.{IsWatched, KeepsWatched, ComesTo
 use crate::wanted::Wanted;
 use lab_conditions::call_of;
 use lab_sched::{Process, Verdict};
-use lab_worlds::{ExploreFault, Walk, discard};
+use lab_worlds::{ExploreFault, Walk};
 use std::alloc::Global;
 
 /// A walk, and the state after its steps.
@@ -36,7 +35,6 @@ impl WatchedWalk {
     {
         let walk = Walk::start(alloc, processes)?;
         if !walk.has_calls(0) {
-            discard(walk);
             return Err(ExploreFault::Unvouched);
         }
         Ok(WatchedWalk { walk, state: 0 })

@@ -1,5 +1,5 @@
 //! Whether what is asked of calls is so on every way.
-ghost use Rattle.std.specs.Prelude.{◌≡◌, IsTrue, IfOk};
+ghost use Rattle.std.specs.Prelude.{IsTrue, IfOk};
 ghost use Rattle.lab_sched.specs.Starts.{AreStarts, initial_world};
 ghost use Rattle.lab_worlds.specs.Calls.{Alongside};
 ghost use Rattle.lab_search.specs.Stored.{IsStore};
@@ -13,7 +13,7 @@ use crate::wanted::Wanted;
 use ipc_kernel::Kernel;
 use lab_explore::{Visited, visit};
 use lab_sched::{Fresh, Process, Schedule};
-use lab_worlds::{ExploreFault, Limits, Observer, discard};
+use lab_worlds::{ExploreFault, Limits, Observer};
 use std::alloc::Global;
 
 /// Whether what is asked is so on every way.
@@ -28,12 +28,7 @@ pub enum Ways {
 }
 
 /// Whether the search shows that what is asked is so on every way.
-fn is_always(
-    visited: &Visited,
-    alloc: Global,
-    wanted: &Wanted,
-    marks: &Marks,
-) -> Result<bool, ExploreFault>
+fn is_always(visited: &Visited, wanted: &Wanted, marks: &Marks) -> Result<bool, ExploreFault>
     requires store { IsTrue visited.now.complete → IsStore visited.now.store }
     ensures complete { IfOk result (λ is. IsTrue is → IsTrue visited.now.complete) }
     ensures shown { IfOk result (λ is. IsTrue is
@@ -42,7 +37,7 @@ fn is_always(
     if !visited.complete {
         return Ok(false);
     }
-    are_shown(visited, alloc, wanted, marks)
+    are_shown(visited, wanted, marks)
 }
 
 /// A way on which what is asked isn't so, as the marks have it, if there is one.
@@ -65,7 +60,7 @@ fn way_against(
     };
     let path = marks.path_to(alloc, &visited.store.edges, place)?;
     let breaks = !wanted.pattern.allows(pair.state);
-    let schedule = way_along(visited, alloc, processes, wanted, path.as_slice(), breaks)?;
+    let schedule = way_along(visited, processes, wanted, path.as_slice(), breaks)?;
     Ok(Ways::Without(schedule))
 }
 
@@ -82,7 +77,7 @@ fn ways_of(
         IsFound visited.now.complete (initial_world processes.now) visited.now.store wanted.now found) }
 {
     let marks = mark(&visited.store, alloc, wanted)?;
-    if is_always(visited, alloc, wanted, &marks)? {
+    if is_always(visited, wanted, &marks)? {
         return Ok(Ways::Always);
     }
     let found = way_against(visited, alloc, processes, wanted, &marks)?;
@@ -128,14 +123,6 @@ pub fn ask_ways<O: Observer>(
     let processes = fresh.processes();
     let kernel = Kernel::new(alloc, processes.len())?;
     let visited = visit(alloc, &processes, &kernel, limits, observer, false)?;
-    match all_ways(&visited, alloc, &processes, wanted) {
-        Ok(found) => {
-            discard(visited);
-            Ok(found)
-        }
-        Err(fault) => {
-            discard(visited);
-            Err(fault)
-        }
-    }
+    let found = all_ways(&visited, alloc, &processes, wanted)?;
+    Ok(found)
 }
