@@ -12,28 +12,8 @@ use crate::picture::{Arrow, MOST_DRAWN, Node, Picture};
 use lab_explore::{Visited, depths_of};
 use lab_sched::Process;
 use lab_states::{Edge, depth_of};
-use lab_worlds::{End, ExploreFault, Walk, discard};
+use lab_worlds::{End, ExploreFault, Walk};
 use std::alloc::Global;
-
-/// The node that a walk came to, with its end.
-fn node_of(walk: Walk, end: Option<End>) -> Node
-    ensures world { result.world ≡ walk.world }
-    ensures schedule { result.schedule ≡ walk.schedule }
-    ensures calls { result.calls ≡ walk.calls }
-    ensures end { result.end ≡ end }
-{
-    let Walk {
-        world,
-        schedule,
-        calls,
-    } = walk;
-    Node {
-        world,
-        schedule,
-        calls,
-        end,
-    }
-}
 
 fn arrow_of(edge: &Edge) -> Arrow
     ensures arrow { result ≡ arrow_of edge.now }
@@ -57,13 +37,8 @@ fn walk_to(
     ensures row { IfOk result (λ w. IsLike visited.now.store at w.world) }
 {
     let mut walk = Walk::start(alloc, processes)?;
-    match visited.go_to(alloc, at, &mut walk) {
-        Ok(()) => Ok(walk),
-        Err(fault) => {
-            discard(walk);
-            Err(fault)
-        }
-    }
+    visited.go_to(alloc, at, &mut walk)?;
+    Ok(walk)
 }
 
 /// The end of a row of this depth, if no process goes on from its world.
@@ -105,16 +80,15 @@ fn node(
 {
     let walk = walk_to(visited, alloc, processes, at)?;
     if !walk.has_calls(depth) {
-        discard(walk);
         return Err(ExploreFault::Unvouched);
     }
-    match end_at(visited, alloc, processes, at, depth) {
-        Ok(end) => Ok(node_of(walk, end)),
-        Err(fault) => {
-            discard(walk);
-            Err(fault)
-        }
-    }
+    let end = end_at(visited, alloc, processes, at, depth)?;
+    Ok(Node {
+        world: walk.world,
+        schedule: walk.schedule,
+        calls: walk.calls,
+        end,
+    })
 }
 
 fn nodes(
