@@ -6,17 +6,18 @@ ghost use Rattle.ipc_traps.specs.declared.service.Service.TheVariants.{MqSend, M
 ghost use Rattle.lab_told.specs.Answers.{wants_attributes};
 ghost use Rattle.lab_told.specs.Calls.{attributes_asked, mq_open_arguments, sem_open_arguments, flags_asked, further_arguments, arguments, object_called, place_of, sent_words};
 
-use crate::attributes::{push_flags, push_sizes};
-use crate::flags::{has_flag, push_mq_flags, push_sem_flags};
+use crate::attributes::Sizes;
+use crate::flags::{AttributeFlags, MqFlags, SemFlags, has_flag};
 use crate::handles::{held_place, push_handle, push_object_or_number};
 use crate::message::push_buffer;
 use crate::text::Text;
-use crate::words::{push_address, push_bare_name, push_name, push_pointer, register};
+use crate::words::{Pointer, push_address, push_bare_name, push_name, register};
 use ipc_kernel::Kernel;
 use ipc_names::O_CREAT;
 use ipc_objects::Words;
 use ipc_traps::{Service, is_in_memory, read_words};
 use lab_sched::Process;
+use lc3_word::Hex;
 use std::alloc::{AllocError, Global};
 
 /// Adds the attributes for mq_open at an address.
@@ -26,24 +27,27 @@ fn push_sizes_at(text: &mut String, process: &Process, at: u16) -> Result<(), Al
         ++ attributes_asked (machine_of (process_view process.now)) at) }
 {
     if at == 0 || !is_in_memory(at, 4) {
-        return push_pointer(text, at);
+        let at = Pointer(at);
+        write!(text, "{at}")?;
+        return Ok(());
     }
-    push_sizes(
-        text,
-        process.machine().word(at + 1),
-        process.machine().word(at + 2),
-    )
+    let sizes = Sizes {
+        most: process.machine().word(at + 1),
+        size: process.machine().word(at + 2),
+    };
+    write!(text, "{sizes}")?;
+    Ok(())
 }
 
 #[tactic(auto, unfolding(crate::specs::Calls::mq_open_arguments))]
-fn push_mq_open(alloc: Global, text: &mut String, process: &Process) -> Result<(), AllocError>
+fn push_mq_open(text: &mut String, process: &Process) -> Result<(), AllocError>
     ensures text { OnOk result (string_bytes text.new ≡ string_bytes text.old
         ++ mq_open_arguments (machine_of (process_view process.now))) }
 {
     let flags = register(process, 1);
-    push_name(alloc, text, process, register(process, 0))?;
-    text.push_str(", ")?;
-    push_mq_flags(text, flags)?;
+    let shown = MqFlags(flags);
+    push_name(text, process, register(process, 0))?;
+    write!(text, ", {shown}")?;
     if !has_flag(O_CREAT, flags) {
         return Ok(());
     }
@@ -52,14 +56,14 @@ fn push_mq_open(alloc: Global, text: &mut String, process: &Process) -> Result<(
 }
 
 #[tactic(auto, unfolding(crate::specs::Calls::sem_open_arguments))]
-fn push_sem_open(alloc: Global, text: &mut String, process: &Process) -> Result<(), AllocError>
+fn push_sem_open(text: &mut String, process: &Process) -> Result<(), AllocError>
     ensures text { OnOk result (string_bytes text.new ≡ string_bytes text.old
         ++ sem_open_arguments (machine_of (process_view process.now))) }
 {
     let flags = register(process, 1);
-    push_name(alloc, text, process, register(process, 0))?;
-    text.push_str(", ")?;
-    push_sem_flags(text, flags)?;
+    let shown = SemFlags(flags);
+    push_name(text, process, register(process, 0))?;
+    write!(text, ", {shown}")?;
     if !has_flag(O_CREAT, flags) {
         return Ok(());
     }
@@ -69,7 +73,7 @@ fn push_sem_open(alloc: Global, text: &mut String, process: &Process) -> Result<
 }
 
 /// Adds the new mq_flags at an address.
-#[tactic(auto, unfolding(crate::specs::Calls::flags_asked))]
+#[tactic(auto, unfolding(crate::specs::Calls::flags_asked, crate::specs::Attributes::flags_field))]
 fn push_flags_asked(text: &mut String, process: &Process, at: u16) -> Result<(), AllocError>
     ensures text { OnOk result (string_bytes text.new ≡ string_bytes text.old
         ++ flags_asked (machine_of (process_view process.now)) at) }
@@ -77,19 +81,21 @@ fn push_flags_asked(text: &mut String, process: &Process, at: u16) -> Result<(),
     if !is_in_memory(at, 4) {
         return push_address(text, at);
     }
-    push_flags(text, process.machine().word(at))
+    let flags = AttributeFlags(process.machine().word(at));
+    write!(text, "{{mq_flags={flags}}}")?;
+    Ok(())
 }
 
 /// Adds what stands behind the descriptor of mq_send.
 #[tactic(auto, unfolding(crate::specs::Calls::further_arguments))]
-fn push_sent(alloc: Global, text: &mut String, process: &Process) -> Result<(), AllocError>
+fn push_sent(text: &mut String, process: &Process) -> Result<(), AllocError>
     ensures text { OnOk result (string_bytes text.new ≡ string_bytes text.old
         ++ further_arguments (machine_of (process_view process.now)) MqSend) }
 {
     let len = register(process, 2);
     let priority = register(process, 3);
     text.push_str(", ")?;
-    push_buffer(alloc, text, process, register(process, 1), len)?;
+    push_buffer(text, process, register(process, 1), len)?;
     write!(text, ", {len}, {priority}")?;
     Ok(())
 }
@@ -100,66 +106,35 @@ fn push_received(text: &mut String, process: &Process) -> Result<(), AllocError>
     ensures text { OnOk result (string_bytes text.new ≡ string_bytes text.old
         ++ further_arguments (machine_of (process_view process.now)) MqReceive) }
 {
+    let address = Hex(register(process, 1));
     let len = register(process, 2);
-    text.push_str(", ")?;
-    push_address(text, register(process, 1))?;
-    write!(text, ", {len}, ")?;
-    push_pointer(text, register(process, 3))
+    let priority = Pointer(register(process, 3));
+    write!(text, ", {address}, {len}, {priority}")?;
+    Ok(())
 }
 
 /// Adds what stands behind the descriptor or the slot.
 #[tactic(auto, unfolding(crate::specs::Calls::further_arguments))]
-fn push_further(
-    alloc: Global,
-    text: &mut String,
-    process: &Process,
-    service: Service,
-) -> Result<(), AllocError>
+fn push_further(text: &mut String, process: &Process, service: Service) -> Result<(), AllocError>
     ensures text { OnOk result (string_bytes text.new ≡ string_bytes text.old
         ++ further_arguments (machine_of (process_view process.now)) service) }
 {
     match service {
-        Service::MqSend => push_sent(alloc, text, process),
+        Service::MqSend => push_sent(text, process),
         Service::MqReceive => push_received(text, process),
         Service::MqGetattr | Service::SemGetvalue => {
-            text.push_str(", ")?;
-            push_address(text, register(process, 1))
+            let address = Hex(register(process, 1));
+            write!(text, ", {address}")?;
+            Ok(())
         }
         Service::MqSetattr => {
+            let old = Pointer(register(process, 2));
             text.push_str(", ")?;
             push_flags_asked(text, process, register(process, 1))?;
-            text.push_str(", ")?;
-            push_pointer(text, register(process, 2))
+            write!(text, ", {old}")?;
+            Ok(())
         }
         _ => Ok(()),
-    }
-}
-
-fn push_arguments(
-    alloc: Global,
-    text: &mut String,
-    kernel: &Kernel,
-    pid: usize,
-    process: &Process,
-    service: Service,
-) -> Result<(), AllocError>
-    requires process { pid < length kernel.now.processes }
-    ensures text { OnOk result (string_bytes text.new ≡ string_bytes text.old
-        ++ arguments kernel.now pid (machine_of (process_view process.now)) service) }
-{
-    match service {
-        Service::MqOpen => push_mq_open(alloc, text, process),
-        Service::SemOpen => push_sem_open(alloc, text, process),
-        Service::MqUnlink | Service::SemUnlink => push_name(
-            alloc,
-            text,
-            process,
-            register(process, 0),
-        ),
-        _ => {
-            push_handle(text, kernel, pid, service, register(process, 0))?;
-            push_further(alloc, text, process, service)
-        }
     }
 }
 
@@ -176,7 +151,16 @@ pub fn arguments_of(
         ≡ arguments kernel.now pid (machine_of (process_view process.now)) service) }
 {
     let mut text = String::new(alloc);
-    push_arguments(alloc, &mut text, kernel, pid, process, service)?;
+    let first = register(process, 0);
+    match service {
+        Service::MqOpen => push_mq_open(&mut text, process)?,
+        Service::SemOpen => push_sem_open(&mut text, process)?,
+        Service::MqUnlink | Service::SemUnlink => push_name(&mut text, process, first)?,
+        _ => {
+            push_handle(&mut text, kernel, pid, service, first)?;
+            push_further(&mut text, process, service)?;
+        }
+    }
     Ok(Text::new(text))
 }
 
@@ -195,7 +179,7 @@ pub fn object_called(
     let mut text = String::new(alloc);
     let first = register(process, 0);
     if service.is_by_name() {
-        push_bare_name(alloc, &mut text, process, first)?;
+        push_bare_name(&mut text, process, first)?;
     } else {
         let place = held_place(kernel, pid, service, first);
         push_object_or_number(&mut text, kernel, first, place)?;

@@ -2,7 +2,7 @@
 ghost use Rattle.std.specs.Prelude.{◌≡◌, ◌<◌, IfOk, length, slice_get};
 ghost use Rattle.lab_sched.specs.Held.{process_view};
 ghost use Rattle.lab_sched.specs.Worlds.{machine_of};
-ghost use Rattle.lab_told.specs.Questions.{question, before, before_in};
+ghost use Rattle.lab_told.specs.Questions.{question, before_in};
 
 use crate::arguments::{arguments_of, object_called, place_of, sent_words, wants_attributes};
 use crate::service::service_at;
@@ -67,18 +67,22 @@ fn asking_of(
     })
 }
 
-fn observed_of(
-    alloc: Global,
-    kernel: &Kernel,
-    pid: usize,
-    process: &Process,
-) -> Result<Observed, AllocError>
-    requires process { pid < length kernel.now.processes }
+/// Process `pid` of a world before its step.
+pub fn observe(alloc: Global, world: &World, pid: usize) -> Result<Observed, AllocError>
+    requires process { pid < length world.now.processes }
     ensures before { IfOk result (λ o. o
-        ≡ before kernel.now pid (machine_of (process_view process.now))) }
+        ≡ before_in world.now.kernel pid (slice_get world.now.processes pid)) }
 {
+    let Some(process) = world.process(pid) else {
+        return Ok(Observed {
+            pc: 0,
+            word: 0,
+            written: 0,
+            asking: None,
+        });
+    };
     let asking = match service_at(process) {
-        Some(service) => Some(asking_of(alloc, kernel, pid, process, service)?),
+        Some(service) => Some(asking_of(alloc, world.kernel(), pid, process, service)?),
         None => None,
     };
     let pc = process.machine().pc();
@@ -88,22 +92,4 @@ fn observed_of(
         written: process.machine().output().len(),
         asking,
     })
-}
-
-/// Process `pid` of a world before its step.
-pub fn observe(alloc: Global, world: &World, pid: usize) -> Result<Observed, AllocError>
-    requires process { pid < length world.now.processes }
-    ensures before { IfOk result (λ o. o
-        ≡ before_in world.now.kernel pid (slice_get world.now.processes pid)) }
-{
-    let kernel = world.kernel();
-    match world.process(pid) {
-        Some(process) => observed_of(alloc, kernel, pid, process),
-        None => Ok(Observed {
-            pc: 0,
-            word: 0,
-            written: 0,
-            asking: None,
-        }),
-    }
 }

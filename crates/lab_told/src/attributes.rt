@@ -1,73 +1,25 @@
 //! The attributes of a queue by their names.
-ghost use Rattle.std.specs.Prelude.{◌≡◌, ◌++◌, OnOk, string_bytes};
-ghost use Rattle.lab_told.specs.Attributes.{flags_field, most_field, size_field, count_field, sizes_text, flags_text, queue_fields, attributes_text};
+ghost use Rattle.std.specs.Prelude.{◌≡◌, ◌++◌, Some, OnOk, string_bytes};
+ghost use Rattle.lab_told.specs.Attributes.{sizes_text, attributes_text};
 
-use crate::flags::push_flag_word;
+use crate::flags::AttributeFlags;
 use std::alloc::AllocError;
+use std::fmt;
 
-#[tactic(auto, unfolding(crate::specs::Attributes::flags_field))]
-fn push_flags_field(text: &mut String, word: u16) -> Result<(), AllocError>
-    ensures text { OnOk result (string_bytes text.new ≡ string_bytes text.old ++ flags_field word) }
-{
-    text.push_str("mq_flags=")?;
-    push_flag_word(text, word)
+/// The attributes that mq_open asks for.
+#[derive(Clone, Copy)]
+pub struct Sizes {
+    pub most: u16,
+    pub size: u16,
 }
 
-#[tactic(auto, unfolding(crate::specs::Attributes::most_field))]
-fn push_most(text: &mut String, number: u16) -> Result<(), AllocError>
-    ensures text { OnOk result (string_bytes text.new ≡ string_bytes text.old
-        ++ most_field number) }
-{
-    write!(text, "mq_maxmsg={number}")?;
-    Ok(())
-}
+impl fmt::Display for Sizes {
+    ghost output = { λ x. Some (sizes_text x.most x.size) };
 
-#[tactic(auto, unfolding(crate::specs::Attributes::size_field))]
-fn push_size(text: &mut String, number: u16) -> Result<(), AllocError>
-    ensures text { OnOk result (string_bytes text.new ≡ string_bytes text.old
-        ++ size_field number) }
-{
-    write!(text, ", mq_msgsize={number}")?;
-    Ok(())
-}
-
-#[tactic(auto, unfolding(crate::specs::Attributes::count_field))]
-fn push_count(text: &mut String, number: u16) -> Result<(), AllocError>
-    ensures text { OnOk result (string_bytes text.new ≡ string_bytes text.old
-        ++ count_field number) }
-{
-    write!(text, ", mq_curmsgs={number}")?;
-    Ok(())
-}
-
-/// Adds the attributes that mq_open asks for.
-pub fn push_sizes(text: &mut String, most: u16, size: u16) -> Result<(), AllocError>
-    ensures text { OnOk result (string_bytes text.new ≡ string_bytes text.old
-        ++ sizes_text most size) }
-{
-    text.push_str("{")?;
-    push_most(text, most)?;
-    push_size(text, size)?;
-    text.push_str("}")
-}
-
-/// Adds the attribute that mq_setattr sets.
-pub fn push_flags(text: &mut String, word: u16) -> Result<(), AllocError>
-    ensures text { OnOk result (string_bytes text.new ≡ string_bytes text.old ++ flags_text word) }
-{
-    text.push_str("{")?;
-    push_flags_field(text, word)?;
-    text.push_str("}")
-}
-
-/// Adds the limits of a queue, and how many messages it has.
-fn push_queue(text: &mut String, most: u16, size: u16, count: u16) -> Result<(), AllocError>
-    ensures text { OnOk result (string_bytes text.new ≡ string_bytes text.old
-        ++ queue_fields most size count) }
-{
-    push_most(text, most)?;
-    push_size(text, size)?;
-    push_count(text, count)
+    fn fmt<W: fmt::Write>(&self, f: &mut fmt::Formatter<W>) -> fmt::Result {
+        let Sizes { most, size } = *self;
+        write!(f, "{{mq_maxmsg={most}, mq_msgsize={size}}}")
+    }
 }
 
 /// Adds all attributes, which a call gives.
@@ -81,9 +33,10 @@ pub fn push_attributes(
     ensures text { OnOk result (string_bytes text.new ≡ string_bytes text.old
         ++ attributes_text flags most size count) }
 {
-    text.push_str(" {")?;
-    push_flags_field(text, flags)?;
-    text.push_str(", ")?;
-    push_queue(text, most, size, count)?;
-    text.push_str("}")
+    let shown = AttributeFlags(flags);
+    write!(
+        text,
+        " {{mq_flags={shown}, mq_maxmsg={most}, mq_msgsize={size}, mq_curmsgs={count}}}"
+    )?;
+    Ok(())
 }

@@ -1,11 +1,11 @@
 //! Flags by their names.
-ghost use Rattle.std.specs.Prelude.{◌≡◌, ◌++◌, OnOk, string_bytes};
+ghost use Rattle.std.specs.Prelude.{◌≡◌, Some, if◌then◌else◌, []};
 ghost use Rattle.ipc_names.specs.Flags.{has_flag};
-ghost use Rattle.lab_told.specs.Flags.{bar, flag_part, rest_part, access_text, mq_flags, sem_flags, flag_word};
+ghost use Rattle.lab_told.specs.Flags.{rest_part, access_text, mq_flags, sem_flags, flag_word};
 
-use crate::words::push_address;
 use ipc_names::{O_ACCMODE, O_CREAT, O_EXCL, O_NONBLOCK};
-use std::alloc::AllocError;
+use lc3_word::Hex;
+use std::fmt;
 
 /// The bits that have no name in the flags of mq_open.
 const UNNAMED_OF_QUEUES: u16 = 0xFFFF - O_ACCMODE - O_CREAT - O_EXCL - O_NONBLOCK;
@@ -23,43 +23,33 @@ pub fn has_flag(flag: u16, word: u16) -> bool
     word & flag != 0
 }
 
-/// Adds what stands between two flags.
-fn push_bar(text: &mut String, begun: bool) -> Result<(), AllocError>
-    ensures text { OnOk result (string_bytes text.new ≡ string_bytes text.old ++ bar begun) }
+/// This text, where a flag is set.
+fn where_set(flag: u16, word: u16, text: &'static str) -> &'static str
+    ensures text { result.now ≡ (if has_flag flag word then text.now else []) }
 {
-    if begun { text.push_str("|") } else { Ok(()) }
+    if has_flag(flag, word) { text } else { "" }
 }
 
-/// Adds a flag where it is set.
-#[tactic(auto, unfolding(crate::specs::Flags::flag_part))]
-fn push_flag(
-    text: &mut String,
+/// The bits of a word that have no name, where there are any, behind a bar where a flag stands before them.
+#[derive(Clone, Copy)]
+struct Rest {
     begun: bool,
-    flag: u16,
-    name: &str,
+    unnamed: u16,
     word: u16,
-) -> Result<(), AllocError>
-    ensures text { OnOk result (string_bytes text.new ≡ string_bytes text.old
-        ++ flag_part begun flag name.now word) }
-{
-    if !has_flag(flag, word) {
-        return Ok(());
-    }
-    push_bar(text, begun)?;
-    text.push_str(name)
 }
 
-/// Adds the bits of a word that have no name, where there are any.
-#[tactic(auto, unfolding(crate::specs::Flags::rest_part))]
-fn push_rest(text: &mut String, begun: bool, unnamed: u16, word: u16) -> Result<(), AllocError>
-    ensures text { OnOk result (string_bytes text.new ≡ string_bytes text.old
-        ++ rest_part begun unnamed word) }
-{
-    if !has_flag(unnamed, word) {
-        return Ok(());
+impl fmt::Display for Rest {
+    ghost output = { λ r. Some (rest_part r.begun r.unnamed r.word) };
+
+    #[tactic(auto, unfolding(crate::specs::Flags::rest_part))]
+    fn fmt<W: fmt::Write>(&self, f: &mut fmt::Formatter<W>) -> fmt::Result {
+        if !has_flag(self.unnamed, self.word) {
+            return Ok(());
+        }
+        let bar = if self.begun { "|" } else { "" };
+        let bits = Hex(self.word & self.unnamed);
+        write!(f, "{bar}{bits}")
     }
-    push_bar(text, begun)?;
-    push_address(text, word & unnamed)
 }
 
 /// The access that bits 1 and 0 ask for.
@@ -74,49 +64,77 @@ fn access_name(access: u16) -> &'static str
     }
 }
 
-/// Adds the flags of mq_open.
-#[tactic(auto, unfolding(crate::specs::Flags::mq_flags))]
-pub fn push_mq_flags(text: &mut String, word: u16) -> Result<(), AllocError>
-    ensures text { OnOk result (string_bytes text.new ≡ string_bytes text.old ++ mq_flags word) }
-{
-    text.push_str(access_name(word & O_ACCMODE))?;
-    push_flag(text, true, O_CREAT, "O_CREAT", word)?;
-    push_flag(text, true, O_EXCL, "O_EXCL", word)?;
-    push_flag(text, true, O_NONBLOCK, "O_NONBLOCK", word)?;
-    push_rest(text, true, UNNAMED_OF_QUEUES, word)
+/// The flags of mq_open.
+#[derive(Clone, Copy)]
+pub struct MqFlags(pub u16);
+
+impl fmt::Display for MqFlags {
+    ghost output = { λ x. Some (mq_flags x.0) };
+
+    #[tactic(auto, unfolding(crate::specs::Flags::mq_flags, crate::specs::Flags::flag_part))]
+    fn fmt<W: fmt::Write>(&self, f: &mut fmt::Formatter<W>) -> fmt::Result {
+        let word = self.0;
+        let access = access_name(word & O_ACCMODE);
+        let create = where_set(O_CREAT, word, "|O_CREAT");
+        let exclusive = where_set(O_EXCL, word, "|O_EXCL");
+        let nonblock = where_set(O_NONBLOCK, word, "|O_NONBLOCK");
+        let rest = Rest {
+            begun: true,
+            unnamed: UNNAMED_OF_QUEUES,
+            word,
+        };
+        write!(f, "{access}{create}{exclusive}{nonblock}{rest}")
+    }
 }
 
-/// Adds the flags of sem_open.
-#[tactic(auto, unfolding(crate::specs::Flags::sem_flags))]
-pub fn push_sem_flags(text: &mut String, word: u16) -> Result<(), AllocError>
-    ensures text { OnOk result (string_bytes text.new ≡ string_bytes text.old ++ sem_flags word) }
-{
-    if word == 0 {
-        return text.push_str("0");
+/// The flags of sem_open.
+#[derive(Clone, Copy)]
+pub struct SemFlags(pub u16);
+
+impl fmt::Display for SemFlags {
+    ghost output = { λ x. Some (sem_flags x.0) };
+
+    #[tactic(auto, unfolding(crate::specs::Flags::sem_flags, crate::specs::Flags::flag_part))]
+    fn fmt<W: fmt::Write>(&self, f: &mut fmt::Formatter<W>) -> fmt::Result {
+        let word = self.0;
+        if word == 0 {
+            return write!(f, "0");
+        }
+        let create = where_set(O_CREAT, word, "O_CREAT");
+        let bar = if has_flag(O_CREAT, word) {
+            "|O_EXCL"
+        } else {
+            "O_EXCL"
+        };
+        let exclusive = where_set(O_EXCL, word, bar);
+        let rest = Rest {
+            begun: has_flag(O_CREAT | O_EXCL, word),
+            unnamed: UNNAMED_OF_SEMAPHORES,
+            word,
+        };
+        write!(f, "{create}{exclusive}{rest}")
     }
-    push_flag(text, false, O_CREAT, "O_CREAT", word)?;
-    push_flag(text, has_flag(O_CREAT, word), O_EXCL, "O_EXCL", word)?;
-    push_rest(
-        text,
-        has_flag(O_CREAT | O_EXCL, word),
-        UNNAMED_OF_SEMAPHORES,
-        word,
-    )
 }
 
-/// Adds mq_flags of the attributes of a queue.
-#[tactic(auto, unfolding(crate::specs::Flags::flag_word))]
-pub fn push_flag_word(text: &mut String, word: u16) -> Result<(), AllocError>
-    ensures text { OnOk result (string_bytes text.new ≡ string_bytes text.old ++ flag_word word) }
-{
-    if word == 0 {
-        return text.push_str("0");
+/// mq_flags of the attributes of a queue.
+#[derive(Clone, Copy)]
+pub struct AttributeFlags(pub u16);
+
+impl fmt::Display for AttributeFlags {
+    ghost output = { λ x. Some (flag_word x.0) };
+
+    #[tactic(auto, unfolding(crate::specs::Flags::flag_word, crate::specs::Flags::flag_part))]
+    fn fmt<W: fmt::Write>(&self, f: &mut fmt::Formatter<W>) -> fmt::Result {
+        let word = self.0;
+        if word == 0 {
+            return write!(f, "0");
+        }
+        let nonblock = where_set(O_NONBLOCK, word, "O_NONBLOCK");
+        let rest = Rest {
+            begun: has_flag(O_NONBLOCK, word),
+            unnamed: UNNAMED_OF_ATTRIBUTES,
+            word,
+        };
+        write!(f, "{nonblock}{rest}")
     }
-    push_flag(text, false, O_NONBLOCK, "O_NONBLOCK", word)?;
-    push_rest(
-        text,
-        has_flag(O_NONBLOCK, word),
-        UNNAMED_OF_ATTRIBUTES,
-        word,
-    )
 }

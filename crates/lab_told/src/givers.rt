@@ -1,17 +1,10 @@
 //! Who last posted to each semaphore, and last received from each queue.
 ghost use Rattle.std.specs.Prelude.{◌≡◌};
 ghost use Rattle.lab_told.specs.Answers.{act_done};
-ghost use Rattle.lab_told.specs.Givers.{giver_at, givers_after};
+ghost use Rattle.lab_told.specs.Givers.{givers_after};
 
 use crate::told::Act;
 use ipc_traps::Service;
-
-/// The step that last gave to the object in a place.
-pub fn giver_at(givers: &[Option<u32>], place: u8) -> Option<u32>
-    ensures value { result ≡ giver_at place givers.now }
-{
-    *givers.get(place as usize)?
-}
 
 /// Keeps what a process gave by what it did in step `number`.
 pub fn keep_givers(givers: &mut Vec<Option<u32>>, number: u32, act: &Act)

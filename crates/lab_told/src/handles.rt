@@ -3,7 +3,7 @@ ghost use Rattle.std.specs.Prelude.{◌≡◌, ◌<◌, ◌++◌, OnOk, IfSome, 
 ghost use Rattle.std.specs.Option.{option_copied};
 ghost use Rattle.ipc_kernel.specs.Limits.{object_places};
 ghost use Rattle.ipc_kernel.specs.Places.{place_at};
-ghost use Rattle.lab_told.specs.Objects.{held_place, named_text, object_text, behind_text, handle_text, object_or_number, level_at};
+ghost use Rattle.lab_told.specs.Objects.{held_place, named_text, object_text, handle_text, object_or_number, level_at};
 
 use crate::words::push_signed;
 use ipc_kernel::Kernel;
@@ -66,19 +66,6 @@ fn push_object(text: &mut String, kernel: &Kernel, place: u8) -> Result<(), Allo
     }
 }
 
-/// Adds the object behind a number that is open.
-fn push_behind(text: &mut String, kernel: &Kernel, place: Option<u8>) -> Result<(), AllocError>
-    ensures text { OnOk result (string_bytes text.new ≡ string_bytes text.old
-        ++ behind_text kernel.now place) }
-{
-    let Some(place) = place else {
-        return Ok(());
-    };
-    text.push_str("<")?;
-    push_object(text, kernel, place)?;
-    text.push_str(">")
-}
-
 /// Adds a descriptor or a slot of process `pid`, with its object.
 #[tactic(auto, unfolding(crate::specs::Objects::handle_text))]
 pub fn push_handle(
@@ -93,7 +80,12 @@ pub fn push_handle(
         ++ handle_text kernel.now pid service number) }
 {
     push_signed(text, number)?;
-    push_behind(text, kernel, held_place(kernel, pid, service, number))
+    let Some(place) = held_place(kernel, pid, service, number) else {
+        return Ok(());
+    };
+    text.push_str("<")?;
+    push_object(text, kernel, place)?;
+    text.push_str(">")
 }
 
 /// Adds the object behind a number, where it is open, else the number.

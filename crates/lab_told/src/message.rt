@@ -10,7 +10,7 @@ use crate::words::{is_quotable, push_address};
 use ipc_traps::{is_in_memory, read_words};
 use lab_sched::Process;
 use lc3_word::Hex;
-use std::alloc::{AllocError, Global};
+use std::alloc::AllocError;
 
 /// How many words of a message are shown.
 const SHOWN: usize = 16;
@@ -118,7 +118,6 @@ pub fn push_message(text: &mut String, words: &[u16]) -> Result<(), AllocError>
 /// Adds the message in a buffer of a process, or the address of a buffer that reaches the device registers.
 #[tactic(auto, unfolding(crate::specs::Calls::buffer_text))]
 pub fn push_buffer(
-    alloc: Global,
     text: &mut String,
     process: &Process,
     at: u16,
@@ -130,6 +129,6 @@ pub fn push_buffer(
     if !is_in_memory(at, len) {
         return push_address(text, at);
     }
-    let words = read_words(alloc, process.machine(), at, len)?;
+    let words = read_words(*text.allocator(), process.machine(), at, len)?;
     push_message(text, words.as_slice())
 }

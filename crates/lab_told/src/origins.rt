@@ -1,7 +1,7 @@
 //! Where the messages in queues come from.
 ghost use Rattle.std.specs.Prelude.{◌≡◌, ◌<◌, ◌==◌, OnOk, IfSome, length, position};
 ghost use Rattle.ipc_kernel.specs.Outcomes.{queue_at};
-ghost use Rattle.lab_told.specs.Origins.{is_in, is_below, origins_with, first, origins_without_queue, origins_after};
+ghost use Rattle.lab_told.specs.Origins.{is_in, is_below, origins_with, origins_without_queue, origins_after};
 
 use crate::told::Act;
 use ipc_kernel::Kernel;
@@ -56,14 +56,6 @@ fn is_unused(kernel: &Kernel, place: u8) -> bool
         }
         None => true,
     }
-}
-
-/// Where the message comes from that is first to be received from the queue in a place.
-#[tactic(auto, unfolding(crate::specs::Origins::first))]
-pub fn first_origin(origins: &[Origin], place: u8) -> Option<Origin>
-    ensures value { result ≡ first place origins.now }
-{
-    origins.iter().copied().find(|origin| origin.place == place)
 }
 
 /// Keeps where a message comes from that was sent.

@@ -1,7 +1,7 @@
 //! One step of a trace.
 ghost use Rattle.std.specs.Prelude.{◌≡◌, ◌<◌, ◌≤◌, IfOk, OnOk, ℕ, length};
 ghost use Rattle.lab_sched.specs.Worlds.{step};
-ghost use Rattle.lab_told.specs.Scenes.{scene_at, has_effect, told, next_tally};
+ghost use Rattle.lab_told.specs.Scenes.{scene_at, told, next_tally};
 ghost use Rattle.lab_told.specs.declared.told.Told.TheVariants.{Nothing};
 
 use crate::asking::observe;
@@ -9,12 +9,6 @@ use crate::tally::Tally;
 use crate::told::{Told, told_by};
 use lab_sched::{Stepped, World};
 use std::alloc::{AllocError, Global};
-
-fn has_effect(stepped: &Stepped) -> bool
-    ensures value { result ≡ has_effect stepped.now }
-{
-    !matches!(stepped, Stepped::Same)
-}
 
 /// Takes a step of process `pid` and tells what it did; the tally is that before it.
 #[tactic(auto, unfolding(crate::specs::Scenes::told))]
@@ -28,10 +22,10 @@ fn tell(alloc: Global, world: &mut World, tally: &Tally, pid: usize) -> Result<T
     let Ok(stepped) = world.step(pid) else {
         return Err(AllocError);
     };
-    if has_effect(&stepped) {
-        told_by(alloc, world, tally, pid, before, stepped)
-    } else {
+    if matches!(stepped, Stepped::Same) {
         Ok(Told::Nothing)
+    } else {
+        told_by(world, tally, pid, before, stepped)
     }
 }
 

@@ -3,11 +3,11 @@ ghost use Rattle.std.specs.Prelude.{◌≡◌, IfOk, OnOk, slice_set};
 ghost use Rattle.lab_told.specs.Givers.{giver_at};
 ghost use Rattle.lab_told.specs.Origins.{first};
 ghost use Rattle.lab_told.specs.Units.{units_of, balance};
-ghost use Rattle.lab_told.specs.Tallies.{new_tally, account_of, account_counted, waits_from, tally_with, tally_after};
+ghost use Rattle.lab_told.specs.Tallies.{new_tally, account_of, waits_from, tally_with, tally_after};
 
 use crate::answers::Outcome;
-use crate::givers::{giver_at, keep_givers};
-use crate::origins::{Origin, first_origin, keep_origins};
+use crate::givers::keep_givers;
+use crate::origins::{Origin, keep_origins};
 use crate::told::{Act, Told};
 use crate::units::{UnitCount, keep_units, units_of};
 use ipc_kernel::{Kernel, OBJECT_PLACES};
@@ -102,10 +102,14 @@ impl Tally {
     }
 
     /// Where the message comes from that is first to be received from the queue in a place.
+    #[tactic(auto, unfolding(crate::specs::Origins::first))]
     pub fn first_origin(&self, place: u8) -> Option<Origin>
         ensures value { result ≡ first place self.now.origins }
     {
-        first_origin(&self.origins, place)
+        self.origins
+            .iter()
+            .copied()
+            .find(|origin| origin.place == place)
     }
 
     /// Where the messages in queues come from, those of one queue in the order of receive.
@@ -119,14 +123,15 @@ impl Tally {
     pub fn balance(&self, place: u8, pid: usize) -> u32
         ensures value { result ≡ balance (units_of place pid self.now.units) }
     {
-        units_of(&self.units, place, pid).balance()
+        let UnitCount { taken, given, .. } = units_of(&self.units, place, pid);
+        taken.saturating_sub(given)
     }
 
     /// The step that last posted to the semaphore in a place, or last received from the queue there.
     pub fn giver(&self, place: u8) -> Option<u32>
         ensures value { result ≡ giver_at place self.now.givers }
     {
-        giver_at(&self.givers, place)
+        *self.givers.get(place as usize)?
     }
 
     /// Keeps what process `pid` did in step `number`, by the kernel after it.
@@ -150,17 +155,6 @@ impl Tally {
         keep_units(&mut self.units, kernel, pid, act)
     }
 
-    fn keep_counted(&mut self, pid: usize) -> Result<(), AllocError>
-        ensures kept { OnOk result (self.new ≡ record self.old {
-          accounts = slice_set self.old.accounts pid (account_counted (account_of self.old pid));
-        }) }
-    {
-        let Account { local, since } = self.account(pid);
-        let local = local.checked_add(1).ok_or(AllocError)?;
-        set(&mut self.accounts, pid, Account { local, since });
-        Ok(())
-    }
-
     /// Keeps what is told of step `number`, of process `pid`, by the kernel after it.
     pub fn keep(
         &mut self,
@@ -174,7 +168,12 @@ impl Tally {
     {
         match told {
             Told::Nothing => Ok(()),
-            Told::Counted => self.keep_counted(pid),
+            Told::Counted => {
+                let Account { local, since } = self.account(pid);
+                let local = local.checked_add(1).ok_or(AllocError)?;
+                set(&mut self.accounts, pid, Account { local, since });
+                Ok(())
+            }
             Told::Shown(event) => self.keep_act(kernel, number, pid, &event.act),
         }
     }

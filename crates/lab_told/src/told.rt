@@ -192,17 +192,13 @@ fn call_by(kernel: &Kernel, tally: &Tally, pid: usize, asking: Asking, outcome: 
     }
 }
 
-/// The bytes that a process wrote in its step, before which it had written so many.
-fn new_output(written: usize, after: &Process) -> &[u8]
-    ensures bytes { result.now ≡ drop written (machine_of (process_view after.now)).output }
+/// What a process did by what it wrote, where it had written so many bytes before.
+fn wrote(alloc: Global, written: usize, after: &Process) -> Result<Option<Act>, AllocError>
+    ensures act { IfOk result (λ a. a
+        ≡ wrote (drop written (machine_of (process_view after.now)).output)) }
 {
     let output = after.machine().output();
-    &output[written.min(output.len())..]
-}
-
-fn wrote(alloc: Global, bytes: &[u8]) -> Result<Option<Act>, AllocError>
-    ensures act { IfOk result (λ a. a ≡ wrote bytes.now) }
-{
+    let bytes = &output[written.min(output.len())..];
     if bytes.is_empty() {
         Ok(None)
     } else {
@@ -212,7 +208,6 @@ fn wrote(alloc: Global, bytes: &[u8]) -> Result<Option<Act>, AllocError>
 
 /// What process `pid` did in a step with an effect, if it is shown, by what the step told and by the world after it.
 fn act_by(
-    alloc: Global,
     world: &World,
     tally: &Tally,
     pid: usize,
@@ -233,14 +228,13 @@ fn act_by(
             let call = call_by(world.kernel(), tally, pid, asking, outcome);
             Ok(Some(Act::Calls(call)))
         }
-        (_, _, _) => wrote(alloc, new_output(before.written, after)),
+        (_, _, _) => wrote(tally.allocator(), before.written, after),
     }
 }
 
 /// What a trace tells of a step of process `pid` with an effect, by what the step told, the world after it and the tally
 /// before it.
 pub fn told_by(
-    alloc: Global,
     world: &World,
     tally: &Tally,
     pid: usize,
@@ -254,7 +248,7 @@ pub fn told_by(
 {
     let (pc, word) = (before.pc, before.word);
     let local = tally.account(pid).local;
-    match act_by(alloc, world, tally, pid, before, stepped)? {
+    match act_by(world, tally, pid, before, stepped)? {
         Some(act) => Ok(Told::Shown(Event {
             pc,
             word,

@@ -2,7 +2,7 @@
 ghost use Rattle.std.specs.Prelude.{◌≡◌, ◌<◌, OnOk, IfSome, length, position};
 ghost use Rattle.std.specs.List.{find};
 ghost use Rattle.lab_told.specs.Answers.{act_done};
-ghost use Rattle.lab_told.specs.Units.{is_of, units_of, balance, units_with, remaining_units, units_called, units_after};
+ghost use Rattle.lab_told.specs.Units.{is_of, units_of, units_with, remaining_units, units_called, units_after};
 
 use crate::told::Act;
 use ipc_kernel::Kernel;
@@ -20,15 +20,6 @@ pub struct UnitCount {
     pub taken: u32,
     /// How often it posted.
     pub given: u32,
-}
-
-impl UnitCount {
-    /// How many units more the process took than it gave; 0 where it gave as many or more.
-    pub fn balance(self) -> u32
-        ensures value { result ≡ balance self }
-    {
-        self.taken.saturating_sub(self.given)
-    }
 }
 
 fn is_of(count: &UnitCount, place: u8, pid: usize) -> bool

@@ -1,16 +1,17 @@
 //! Words and names, as a trace shows them.
-ghost use Rattle.std.specs.Prelude.{◌≡◌, ◌<◌, ◌++◌, true, IfSome, OnOk, IsTrue, string_bytes, flat_map};
+ghost use Rattle.std.specs.Prelude.{◌≡◌, ◌<◌, ◌++◌, true, Some, IfSome, OnOk, IsTrue, string_bytes, flat_map};
 ghost use Rattle.lab_sched.specs.Held.{process_view};
 ghost use Rattle.lab_sched.specs.Worlds.{machine_of};
 ghost use Rattle.lc3_word.specs.Words.{hexadecimal_text};
 ghost use Rattle.lc3_machine.specs.Process.{reg};
 ghost use Rattle.ipc_traps.specs.Names.{is_in_memory};
-ghost use Rattle.lab_told.specs.Words.{pointer_text, signed_text, is_quotable, character_text, string_text, name_end, name_text, bare_name_text};
+ghost use Rattle.lab_told.specs.Words.{pointer_text, signed_text, is_quotable, character_text, name_end, name_text, bare_name_text};
 
 use ipc_traps::{WINDOW_MAX, name_length, read_words};
 use lab_sched::Process;
 use lc3_word::{Hex, Reg};
-use std::alloc::{AllocError, Global};
+use std::alloc::AllocError;
+use std::fmt;
 
 /// What a register of a process holds.
 pub fn register(process: &Process, number: u16) -> u16
@@ -30,15 +31,20 @@ pub fn push_address(text: &mut String, address: u16) -> Result<(), AllocError>
     Ok(())
 }
 
-/// Adds an address, of which 0 stands for none.
-pub fn push_pointer(text: &mut String, address: u16) -> Result<(), AllocError>
-    ensures text { OnOk result (string_bytes text.new ≡ string_bytes text.old
-        ++ pointer_text address) }
-{
-    if address == 0 {
-        text.push_str("NULL")
-    } else {
-        push_address(text, address)
+/// An address, of which 0 stands for none.
+#[derive(Clone, Copy)]
+pub struct Pointer(pub u16);
+
+impl fmt::Display for Pointer {
+    ghost output = { λ p. Some (pointer_text p.0) };
+
+    fn fmt<W: fmt::Write>(&self, f: &mut fmt::Formatter<W>) -> fmt::Result {
+        let address = Hex(self.0);
+        if self.0 == 0 {
+            write!(f, "NULL")
+        } else {
+            write!(f, "{address}")
+        }
     }
 }
 
@@ -72,11 +78,11 @@ fn push_character(text: &mut String, word: u16) -> Result<(), AllocError>
         ++ character_text word) }
 {
     if is_quotable(word) {
-        text.push(char::from(word as u8))
-    } else {
-        text.push_str("\\")?;
-        push_address(text, word)
+        return text.push(char::from(word as u8));
     }
+    let word = Hex(word);
+    write!(text, "\\{word}")?;
+    Ok(())
 }
 
 /// How many words of a process stand before the zero word that ends a name, where there is one.
@@ -91,17 +97,6 @@ fn name_end(process: &Process, at: u16) -> Option<u16>
     }
 }
 
-/// Adds words between quotation marks.
-#[tactic(auto, unfolding(crate::specs::Words::string_text))]
-fn push_string(text: &mut String, words: &[u16]) -> Result<(), AllocError>
-    ensures text { OnOk result (string_bytes text.new ≡ string_bytes text.old
-        ++ string_text words.now) }
-{
-    text.push_str("\"")?;
-    push_characters(text, words)?;
-    text.push_str("\"")
-}
-
 /// Adds words, each as it stands between quotation marks.
 fn push_characters(text: &mut String, words: &[u16]) -> Result<(), AllocError>
     ensures text { OnOk result (string_bytes text.new ≡ string_bytes text.old
@@ -114,35 +109,28 @@ fn push_characters(text: &mut String, words: &[u16]) -> Result<(), AllocError>
 }
 
 /// Adds the name at an address of a process, or the address where no zero word ends one.
-pub fn push_name(
-    alloc: Global,
-    text: &mut String,
-    process: &Process,
-    at: u16,
-) -> Result<(), AllocError>
+#[tactic(auto, unfolding(crate::specs::Words::string_text))]
+pub fn push_name(text: &mut String, process: &Process, at: u16) -> Result<(), AllocError>
     ensures text { OnOk result (string_bytes text.new ≡ string_bytes text.old
         ++ name_text (machine_of (process_view process.now)).memory at) }
 {
     let Some(len) = name_end(process, at) else {
         return push_address(text, at);
     };
-    let words = read_words(alloc, process.machine(), at, len)?;
-    push_string(text, words.as_slice())
+    let words = read_words(*text.allocator(), process.machine(), at, len)?;
+    text.push_str("\"")?;
+    push_characters(text, words.as_slice())?;
+    text.push_str("\"")
 }
 
 /// Adds the name at an address of a process without quotation marks, or the address where no zero word ends one.
-pub fn push_bare_name(
-    alloc: Global,
-    text: &mut String,
-    process: &Process,
-    at: u16,
-) -> Result<(), AllocError>
+pub fn push_bare_name(text: &mut String, process: &Process, at: u16) -> Result<(), AllocError>
     ensures text { OnOk result (string_bytes text.new ≡ string_bytes text.old
         ++ bare_name_text (machine_of (process_view process.now)).memory at) }
 {
     let Some(len) = name_end(process, at) else {
         return push_address(text, at);
     };
-    let words = read_words(alloc, process.machine(), at, len)?;
+    let words = read_words(*text.allocator(), process.machine(), at, len)?;
     push_characters(text, words.as_slice())
 }
