@@ -172,10 +172,7 @@ impl Book {
         requires process { pid < self.now.count }
         ensures waits { is_some (waits self.now.history pid) ≡ result }
     {
-        match self.waits(pid) {
-            Some(_) => true,
-            None => false,
-        }
+        self.waits(pid).is_some()
     }
 
     /// Whether there is such a process, and it may make this call: one that waits may make the call

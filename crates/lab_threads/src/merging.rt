@@ -21,10 +21,7 @@ fn find(calls: &[TracedCall], at: usize, entry: &Entry) -> Option<u32>
     ensures within { IfSome result (λ n. at < length calls.now) }
     ensures few { IfSome result (λ n. n + 1 < 2 ^ 32) }
 {
-    if at >= calls.len() {
-        return None;
-    }
-    let told = &calls[at];
+    let told = calls.get(at)?;
     if told.before < u32::MAX && is_entry(told, entry) {
         Some(told.before)
     } else {

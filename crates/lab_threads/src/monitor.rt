@@ -58,10 +58,7 @@ impl SharedState {
     }
 
     fn is_blocked(&self, pid: usize) -> bool {
-        match self.blocked.get(pid) {
-            Some(blocked) => *blocked,
-            None => false,
-        }
+        self.blocked.get(pid).copied().unwrap_or(false)
     }
 
     fn begin_wait(&mut self, pid: usize) {

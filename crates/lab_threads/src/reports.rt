@@ -16,6 +16,7 @@ ghost use Rattle.lab_threads.specs.Private.WorkerResults.{AreWorkerResults};
 ghost use Rattle.lab_threads.specs.Private.Merged.{HaveAllSteps, LeadToResults};
 ghost use Rattle.lab_threads.specs.Private.Reported.{IsReportFrom, MakeLimit};
 
+use crate::context::Crew;
 use crate::merging::merge;
 use crate::monitor::Monitor;
 use crate::spawning::run_workers;
@@ -79,10 +80,6 @@ fn has_room(schedule: &Schedule, left: &[u32]) -> bool
     true
 }
 
-fn all_fit(workers: &[WorkerResult]) -> bool {
-    workers.iter().all(|worker| worker.fits)
-}
-
 fn merge_workers(
     alloc: Global,
     workers: &[WorkerResult],
@@ -94,7 +91,7 @@ fn merge_workers(
     ensures left { IfOk result (λ r. r.1.items ≡ map (λ k. k.left) workers.now) }
     ensures room { IfOk result (λ r. total_of r.0 + sum r.1.items ≤ most_steps) }
 {
-    if !all_fit(workers) {
+    if !workers.iter().all(|worker| worker.fits) {
         return Err(RunFault::Unvouched);
     }
     let left = lefts(alloc, workers)?;
@@ -180,7 +177,13 @@ fn run_starts<R: Threads + Wait + Sync, G: Gate>(
     ensures verdict { IfOk result (λ r. IsVerdict r.world r.verdict) }
 {
     let monitor = Monitor::new(alloc, Book::new(alloc, starts.len())?)?;
-    let workers = run_workers(rt, alloc, &monitor, gate, starts, limit)?;
+    let crew = Crew {
+        rt,
+        alloc,
+        monitor: &monitor,
+        gate,
+    };
+    let workers = run_workers(crew, starts, limit)?;
     let (kernel, history) = monitor.into_book().into_parts();
     report_of_workers(alloc, workers, kernel, history, limit)
 }

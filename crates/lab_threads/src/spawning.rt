@@ -4,12 +4,12 @@ ghost use Rattle.lab_sched.specs.declared.process.Process.{Process as ProcessVal
 ghost use Rattle.lab_threads.specs.Private.Promised.{ArePromised};
 ghost use Rattle.lab_threads.specs.Private.WorkerResults.{AreWorkerResults};
 
+use crate::context::{Crew, WorkerContext};
 use crate::monitor::Monitor;
 use crate::worker::work;
 use crate::worker_result::{WorkerPromise, WorkerResult};
 use crate::{Gate, RunFault};
 use lab_sched::Process;
-use std::alloc::Global;
 use std::snapshot::Snapshot;
 use std::sync::Wait;
 use std::thread;
@@ -19,15 +19,18 @@ use std::thread::{PromisedHandle, Scope, Threads};
 /// as there, and as stopped.
 fn spawn_all<'s, E, R: Threads + Wait + Sync, G: Gate>(
     scope: &Scope<'s, E>,
-    rt: &'s R,
-    alloc: Global,
-    monitor: &'s Monitor,
-    gate: &'s G,
+    crew: Crew<'s, R, G>,
     starts: Vec<Process>,
     limit: u32,
 ) -> Result<Vec<PromisedHandle<WorkerResult, WorkerPromise>>, RunFault>
     ensures promised { IfOk result (λ hs. ArePromised limit starts.items hs.items) }
 {
+    let Crew {
+        rt,
+        alloc,
+        monitor,
+        gate,
+    } = crew;
     let count = starts.len();
     let mut starts = starts;
     let Ok(mut handles) = Vec::with_capacity(alloc, count) else {
@@ -40,7 +43,16 @@ fn spawn_all<'s, E, R: Threads + Wait + Sync, G: Gate>(
             start: Snapshot::of(&start),
             limit,
         };
-        let worker = move || work(rt, alloc, monitor, gate, pid, start, limit);
+        let worker = move || {
+            let context = WorkerContext {
+                rt,
+                alloc,
+                monitor,
+                gate,
+                pid,
+            };
+            work(context, start, limit)
+        };
         let Ok(handle) = scope.spawn_with(promise, worker) else {
             stop_missing(rt, monitor, count - pid);
             return Err(RunFault::Spawn);
@@ -71,22 +83,31 @@ fn worker_results<R: Threads>(
 }
 
 pub(crate) fn run_workers<R: Threads + Wait + Sync, G: Gate>(
-    rt: &R,
-    alloc: Global,
-    monitor: &Monitor,
-    gate: &G,
+    crew: Crew<'_, R, G>,
     starts: Vec<Process>,
     limit: u32,
 ) -> Result<Vec<WorkerResult>, RunFault>
     ensures results { IfOk result (λ ws. AreWorkerResults limit starts.items ws.items) }
 {
+    let Crew {
+        rt,
+        alloc,
+        monitor,
+        gate,
+    } = crew;
     thread::scope(
         thread::scope_env(),
         rt,
         |scope| -> Result<Vec<WorkerResult>, RunFault>
             ensures results { IfOk result (λ ws. AreWorkerResults limit starts.items ws.items) }
         {
-            let handles = spawn_all(scope, rt, alloc, monitor, gate, starts, limit)?;
+            let crew = Crew {
+                rt,
+                alloc,
+                monitor,
+                gate,
+            };
+            let handles = spawn_all(scope, crew, starts, limit)?;
             worker_results(rt, handles)
         },
     )

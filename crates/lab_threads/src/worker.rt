@@ -13,14 +13,13 @@ ghost use Rattle.lab_threads.specs.Private.WorkerResults.{IsWorkerResult};
 use crate::Gate;
 use crate::book::clone_of;
 use crate::context::WorkerContext;
-use crate::monitor::{CallOutcome, Monitor};
+use crate::monitor::CallOutcome;
 use crate::worker_log::WorkerLog;
 use crate::worker_result::WorkerResult;
 use ipc_kernel::{Answer, Call};
 use ipc_traps::Asked;
 use lab_sched::{Process, Trace, answer_call, ask_call, begin_wait, end_process, local_steps};
 use lc3_machine::{How, Progress, Want};
-use std::alloc::Global;
 use std::sync::Wait;
 
 #[derive(Clone, Copy, PartialEq, Eq)]
@@ -34,7 +33,7 @@ enum Continuation {
 }
 
 /// Writes down local steps of a process. The gate is passed after the first one since a call.
-fn write_local<G: Gate>(context: &WorkerContext<'_, G>, log: &mut WorkerLog, count: u32)
+fn write_local<R, G: Gate>(context: &WorkerContext<'_, R, G>, log: &mut WorkerLog, count: u32)
     requires left { count ≤ log.old.left }
     requires few { allowance log.old < 2 ^ 32 }
     ensures alone { (x y : Seen) → AreLocal count x y → LeadsOn log.old x log.new y }
@@ -50,8 +49,7 @@ fn write_local<G: Gate>(context: &WorkerContext<'_, G>, log: &mut WorkerLog, cou
 /// Takes local steps of a running process, one where it comes from a call, or else all up to its
 /// next call; or makes its next call, or ends it.
 fn advance<R: Wait, G: Gate>(
-    rt: &R,
-    context: &WorkerContext<'_, G>,
+    context: &WorkerContext<'_, R, G>,
     process: &mut Process,
     log: &mut WorkerLog,
 ) -> Continuation
@@ -69,15 +67,14 @@ fn advance<R: Wait, G: Gate>(
         return Continuation::GoesOn;
     }
     match progress {
-        Progress::Stopped(Want::Trap(vector)) => step_trap(rt, context, process, vector, log),
-        Progress::Stopped(Want::End(how)) => step_end(rt, context, process, how, log),
+        Progress::Stopped(Want::Trap(vector)) => step_trap(context, process, vector, log),
+        Progress::Stopped(Want::End(how)) => step_end(context, process, how, log),
         Progress::Short | Progress::Moved => Continuation::Stops,
     }
 }
 
 fn step_end<R: Wait, G: Gate>(
-    rt: &R,
-    context: &WorkerContext<'_, G>,
+    context: &WorkerContext<'_, R, G>,
     process: &mut Process,
     how: How,
     log: &mut WorkerLog,
@@ -92,7 +89,7 @@ fn step_end<R: Wait, G: Gate>(
     if log.reserve().is_err() {
         return Continuation::Stops;
     }
-    match context.call(rt, &Call::Exit, false, &mut log.calls) {
+    match context.call(&Call::Exit, false, &mut log.calls) {
         CallOutcome::Answered(reply) => {
             end_process(process, how);
             log.add_call(Call::Exit, Answer::Done(reply));
@@ -105,8 +102,7 @@ fn step_end<R: Wait, G: Gate>(
 }
 
 fn step_trap<R: Wait, G: Gate>(
-    rt: &R,
-    context: &WorkerContext<'_, G>,
+    context: &WorkerContext<'_, R, G>,
     process: &mut Process,
     vector: u8,
     log: &mut WorkerLog,
@@ -123,7 +119,7 @@ fn step_trap<R: Wait, G: Gate>(
         return Continuation::Stops;
     }
     match ask_call(context.alloc, process, vector) {
-        Ok(Asked::Kernel(call)) => make_call(rt, context, process, vector, call, log),
+        Ok(Asked::Kernel(call)) => make_call(context, process, vector, call, log),
         Ok(Asked::Refused(_)) => {
             write_local(context, log, 1);
             Continuation::GoesOn
@@ -143,8 +139,7 @@ fn after_wait(fits: bool) -> Continuation {
 /// Makes the call of a process that stands before its trap, gives it the reply or lets it wait, and
 /// writes down what came of it. Where the call isn't made nothing changes.
 fn make_call<R: Wait, G: Gate>(
-    rt: &R,
-    context: &WorkerContext<'_, G>,
+    context: &WorkerContext<'_, R, G>,
     process: &mut Process,
     vector: u8,
     call: Call,
@@ -164,7 +159,7 @@ fn make_call<R: Wait, G: Gate>(
         return Continuation::Stops;
     };
     let may_wait = log.left > 1;
-    match context.call(rt, &call, may_wait, &mut log.calls) {
+    match context.call(&call, may_wait, &mut log.calls) {
         CallOutcome::NoMemory => Continuation::Stops,
         CallOutcome::Rejected => Continuation::Misfits,
         CallOutcome::Blocked { fits } => {
@@ -189,8 +184,7 @@ fn make_call<R: Wait, G: Gate>(
 /// Steps a process until it has ended, waits for good, has taken `limit` steps or was refused
 /// memory, or its call doesn't fit the book.
 fn run<R: Wait, G: Gate>(
-    rt: &R,
-    context: &WorkerContext<'_, G>,
+    context: &WorkerContext<'_, R, G>,
     start: Process,
     limit: u32,
 ) -> WorkerResult
@@ -203,12 +197,12 @@ fn run<R: Wait, G: Gate>(
         calls: 0,
     };
     let mut went = Continuation::GoesOn;
-    for _ in rt.forever() {
+    for _ in context.rt.forever() {
         if log.left == 0 || went != Continuation::GoesOn {
             break;
         }
         went = match process {
-            Process::Running(_) => advance(rt, context, &mut process, &mut log),
+            Process::Running(_) => advance(context, &mut process, &mut log),
             Process::Waiting(..) | Process::Ended(_) => break,
         };
     }
@@ -224,24 +218,14 @@ fn run<R: Wait, G: Gate>(
 /// The work of a thread: when all workers are there it steps its process, and then tells the
 /// others that it has stopped.
 pub(crate) fn work<R: Wait, G: Gate>(
-    rt: &R,
-    alloc: Global,
-    monitor: &Monitor,
-    gate: &G,
-    pid: usize,
+    context: WorkerContext<'_, R, G>,
     start: Process,
     limit: u32,
 ) -> WorkerResult
     ensures result { IsWorkerResult limit start result }
 {
-    let context = WorkerContext {
-        monitor,
-        gate,
-        alloc,
-        pid,
-    };
-    monitor.meet(rt);
-    let result = run(rt, &context, start, limit);
-    monitor.stop(rt);
+    context.monitor.meet(context.rt);
+    let result = run(&context, start, limit);
+    context.monitor.stop(context.rt);
     result
 }
