@@ -6,51 +6,42 @@ use lc3_word::unsigned;
 use std::alloc::{AllocError, Global};
 use std::fmt::Write;
 
-/// What isn't understood: a word, or the end where one is missing.
-#[derive(Clone, Copy)]
-struct Fault<'a> {
-    word: Option<&'a str>,
-    place: Place,
-}
-
-/// What isn't understood first, of words of which the first stands at this place.
-fn fault_in<'a>(first: Place, words: &[&'a str]) -> Option<Fault<'a>> {
+/// The first of some words that may not stand where it does, if there is one, and the place that is reached: the first word
+/// stands at this one.
+pub(crate) fn reached<'a>(first: Place, words: &[&'a str]) -> (Option<&'a str>, Place) {
     let mut place = first;
     for word in words {
         match place.behind(word) {
             Some(next) => place = next,
-            None => {
-                return Some(Fault {
-                    word: Some(*word),
-                    place,
-                });
-            }
+            None => return (Some(*word), place),
         }
     }
-    if place.may_end() {
-        None
-    } else {
-        Some(Fault { word: None, place })
-    }
+    (None, place)
 }
 
-/// The line that says what isn't understood in a text that begins at this place, and what was meant, if that is known.
+/// The line that says what isn't understood in words of which the first stands at this place, and what was meant, if that is
+/// known.
 pub(crate) fn line_on(
     alloc: Global,
     first: Place,
-    text: &str,
+    words: &[&str],
     meant: Option<&str>,
 ) -> Result<Option<String>, AllocError> {
-    let words = words_of(alloc, text)?;
-    match fault_in(first, &words) {
-        Some(fault) => Ok(Some(line_of(alloc, fault, meant)?)),
-        None => Ok(None),
+    let (word, place) = reached(first, words);
+    if word.is_none() && place.may_end() {
+        return Ok(None);
     }
+    Ok(Some(unknown(alloc, word, place.text(), meant)?))
 }
 
-fn line_of(alloc: Global, fault: Fault<'_>, meant: Option<&str>) -> Result<String, AllocError> {
-    let text = fault.place.text();
-    let mut line = match fault.word {
+/// Says that a word isn't understood, or is missing, what may stand there, and what was meant, if that is known.
+pub(crate) fn unknown(
+    alloc: Global,
+    word: Option<&str>,
+    text: &str,
+    meant: Option<&str>,
+) -> Result<String, AllocError> {
+    let mut line = match word {
         Some(word) => {
             let word = Shown(word);
             format!(in alloc; "lc3lab: {word}: isn't understood; {text}")?
@@ -70,19 +61,6 @@ pub(crate) fn words_of(alloc: Global, text: &str) -> Result<Vec<&str>, AllocErro
     text.split(' ')
         .filter(|piece| !piece.is_empty())
         .collect(alloc)
-}
-
-/// Words with one blank between each two.
-pub(crate) fn spaced(alloc: Global, words: &[&str]) -> Result<String, AllocError> {
-    let mut text = String::new(alloc);
-    let Some((first, rest)) = words.split_first() else {
-        return Ok(text);
-    };
-    text.push_str(first)?;
-    for word in rest {
-        write!(text, " {word}")?;
-    }
-    Ok(text)
 }
 
 /// What a text was meant to be that begins at this place, as far as each of its words can be taken for one that may stand where
@@ -112,78 +90,46 @@ fn spread(alloc: Global, text: &str) -> Result<String, AllocError> {
     Ok(spread)
 }
 
-/// A place that is meant, and by how much a number there is changed.
-#[derive(Clone, Copy)]
-struct Meant {
-    place: Place,
-    change: Change,
-}
-
-/// How a number is changed behind a sign that no condition has.
-#[derive(Clone, Copy)]
-enum Change {
-    Nothing,
-    /// Behind `>=`.
-    OneLess,
-    /// Behind `<=`.
-    OneMore,
-}
-
 fn mended(alloc: Global, first: Place, words: &[&str]) -> Result<Option<String>, AllocError> {
     let mut text = String::new(alloc);
-    let mut meant = Meant {
-        place: first,
-        change: Change::Nothing,
-    };
+    let mut place = first;
+    let mut before = "";
     for word in words {
-        match push_meant(alloc, &mut text, meant, word)? {
-            Some(next) => meant = next,
+        match push_meant(alloc, &mut text, place, before, word)? {
+            Some(next) => place = next,
             None => return Ok(None),
         }
+        before = word;
     }
     Ok(Some(text))
 }
 
-/// Adds the word that was meant by one, and gives what is meant behind it, if that word may stand there.
+/// Adds the word that was meant by one behind another, and gives the place behind it, if that word may stand there.
 fn push_meant(
     alloc: Global,
     text: &mut String,
-    meant: Meant,
+    place: Place,
+    before: &str,
     word: &str,
-) -> Result<Option<Meant>, AllocError> {
-    let mended = word_meant(alloc, meant, word)?;
+) -> Result<Option<Place>, AllocError> {
+    let mended = word_meant(alloc, place, before, word)?;
     if !text.is_empty() {
         text.push_str(" ")?;
     }
     text.push_str(&mended)?;
-    let change = match (meant.place, word) {
-        (Place::Sign, ">=") => Change::OneLess,
-        (Place::Sign, "<=") => Change::OneMore,
-        _ => Change::Nothing,
-    };
-    match meant.place.behind(&mended) {
-        Some(place) => Ok(Some(Meant { place, change })),
-        None => Ok(None),
-    }
+    Ok(place.behind(&mended))
 }
 
-/// The word that was meant by one.
-fn word_meant(alloc: Global, meant: Meant, word: &str) -> Result<String, AllocError> {
-    match meant.place {
-        Place::Name => named(alloc, word),
+/// The word that was meant by one behind another.
+fn word_meant(alloc: Global, place: Place, before: &str, word: &str) -> Result<String, AllocError> {
+    match place {
+        Place::Name if !word.starts_with('/') => format!(in alloc; "/{word}"),
+        Place::Name => String::from_str(alloc, word),
         Place::Sign => String::from_str(alloc, sign_meant(word)),
-        Place::Number => number_meant(alloc, meant.change, word),
+        Place::Number => number_meant(alloc, before, word),
         Place::Address | Place::Anywhere | Place::WaitsAt => range_meant(alloc, word),
         Place::Error => upper(alloc, word),
         _ => lower(alloc, word),
-    }
-}
-
-fn named(alloc: Global, word: &str) -> Result<String, AllocError> {
-    if word.starts_with('/') {
-        String::from_str(alloc, word)
-    } else {
-        format!(in alloc; "/{word}")
     }
 }
 
@@ -197,12 +143,12 @@ fn sign_meant(word: &str) -> &str {
 }
 
 /// A number, changed as the sign before it asks; no word where no number is so.
-fn number_meant(alloc: Global, change: Change, word: &str) -> Result<String, AllocError> {
+fn number_meant(alloc: Global, sign: &str, word: &str) -> Result<String, AllocError> {
     let number = unsigned(10, word.as_bytes());
-    let changed = match change {
-        Change::Nothing => return String::from_str(alloc, word),
-        Change::OneLess => number.and_then(|number| number.checked_sub(1)),
-        Change::OneMore => number.and_then(|number| number.checked_add(1)),
+    let changed = match sign {
+        ">=" => number.and_then(|number| number.checked_sub(1)),
+        "<=" => number.and_then(|number| number.checked_add(1)),
+        _ => return String::from_str(alloc, word),
     };
     match changed {
         Some(number) => format!(in alloc; "{number}"),
@@ -217,10 +163,9 @@ fn range_meant(alloc: Global, word: &str) -> Result<String, AllocError> {
     }
     let meant = addresses_meant(alloc, &lower(alloc, word)?)?;
     if is_labelled(&meant) {
-        String::from_str(alloc, word)
-    } else {
-        Ok(meant)
+        return String::from_str(alloc, word);
     }
+    Ok(meant)
 }
 
 fn addresses_meant(alloc: Global, word: &str) -> Result<String, AllocError> {

@@ -86,24 +86,9 @@ pub fn assemble_file<'a, T: Files, W: Write, E: Write, P: Progress>(
         return Err(Misuse::SourceName.of(assembly.object));
     }
     let assembled = accepted(job, assembly, errors)?;
-    write_assembled(job, assembly, &assembled, output)
-}
-
-fn write_assembled<'a, T: Files, W: Write, P>(
-    job: &Job<'_, T, P>,
-    assembly: Assembly<'a>,
-    assembled: &Assembled,
-    output: &mut Output<W>,
-) -> Result<(), Complaint<'a>>
-    ensures listing { OnOk result (IsTrue assembly.entry.list
-        → Appends (W.contents output.old.device) (W.contents output.new.device)
-        (listing_text assembled.now)) }
-    ensures silent { OnOk result (assembly.entry.list ≡ false
-        → W.contents output.new.device ≡ W.contents output.old.device) }
-{
     write_object(job.rt, assembly.object, assembled.image()).at(job.alloc, assembly.object)?;
     if !assembly.list {
         return Ok(());
     }
-    write_text(&listing(job.alloc, assembled)?, output)
+    write_text(&listing(job.alloc, &assembled)?, output)
 }

@@ -1,11 +1,13 @@
 //! What is advised where a word is no block of a schedule.
+use crate::advice::unknown;
 use crate::job::Job;
 use crate::progress::Progress;
-use lab_arguments::Shown;
 use lab_sched::{SchedFault, Schedule};
 use lc3_word::{WHITE_SPACE, words_between};
 use std::alloc::{AllocError, Global};
-use std::fmt::Write;
+
+/// What a block is.
+const BLOCK: &str = "a block is P*N, with P from 0 to 63 and N from 1 to 999999999, or P alone";
 
 /// How long a word may be that is shown.
 const MOST_SHOWN: usize = 80;
@@ -22,7 +24,8 @@ pub(crate) fn block_advice<T, P: Progress>(
     match fault {
         SchedFault::BadBlock { at } => {
             let word = word_at(job.alloc, text, at)?;
-            line_on(job.alloc, word).ok()
+            let meant = meant_by(job.alloc, word).ok()?;
+            unknown(job.alloc, Some(word), BLOCK, meant.as_deref()).ok()
         }
         SchedFault::TooLong { .. } | SchedFault::NoMemory => None,
     }
@@ -36,18 +39,6 @@ fn word_at(alloc: Global, text: &str, number: usize) -> Option<&str> {
         return None;
     }
     str::from_utf8(word).ok()
-}
-
-fn line_on(alloc: Global, word: &str) -> Result<String, AllocError> {
-    let shown = Shown(word);
-    let mut line = format!(in alloc;
-        "lc3lab: {shown}: isn't understood; a block is P*N, with P from 0 to 63 and N from 1 to 999999999, or P alone"
-    )?;
-    if let Some(meant) = meant_by(alloc, word)? {
-        write!(line, "; did you mean {meant}?")?;
-    }
-    line.push_str("\n")?;
-    Ok(line)
 }
 
 /// The block that was meant by a word, if that is known.

@@ -3,13 +3,12 @@ ghost use Rattle.std.specs.Prelude.{◌≡◌, ◌++◌, List, true, false, map,
 ghost use Rattle.lab_ways.specs.declared.wanted.Wanted.{Wanted as Asked};
 ghost use Rattle.lab_commands.specs.Private.Inquiries.{AsksSo, IsAskedOfCalls};
 
-use crate::advice::words_of;
+use crate::advice::{line_on, words_of};
 use crate::complaint::{Complaint, Misuse};
-use crate::outputs::unknown;
+use crate::places::Place;
 use lab_arguments::is_of_calls;
-use lab_questions::{CallWord, call_count, read_calls, service_named};
+use lab_questions::{CallWord, read_calls};
 use lab_ways::Wanted;
-use lc3_word::unsigned;
 use std::alloc::{AllocError, Global};
 
 /// What is asked of calls, as it was written, and what has to be so on every way.
@@ -92,139 +91,32 @@ pub(crate) fn wanted_in<'a>(
     ensures asks { IfOk result (λ wanted. AsksSo never word.now wanted) }
 {
     match read_calls(alloc, word, never)? {
-        Some(wanted) if is_of_run(&wanted, count) => Ok(wanted),
+        Some(wanted) if wanted.process.is_none_or(|process| process < count) => Ok(wanted),
         Some(_) if never => Err(Misuse::NoSuchProcess.of(word)),
         Some(_) => Err(Misuse::NoSuchWriter.of(word)),
-        None if never => Err(
-            Misuse::NoCondition
-                .of(word)
-                .followed(advice_on(alloc, word, never)),
-        ),
-        None => Err(
-            Misuse::NoCalls
-                .of(word)
-                .followed(advice_on(alloc, word, never)),
-        ),
-    }
-}
-
-fn is_of_run(wanted: &Wanted, count: usize) -> bool {
-    match wanted.process {
-        Some(process) => process < count,
-        None => true,
-    }
-}
-
-/// A place among words that ask of calls.
-#[derive(Clone, Copy)]
-enum Place {
-    /// At the beginning, or behind a process.
-    Verb,
-    /// Behind `calls`.
-    Calls,
-    /// Behind `in`.
-    Order,
-    /// Behind `other`.
-    Than,
-    /// Where a call stands.
-    Call,
-    /// Where a call may stand behind another.
-    List,
-    /// Behind the only call.
-    Called,
-    /// Behind the only call and its object.
-    On,
-    /// Behind `>=`.
-    Number,
-    /// Behind one of some calls, of which `or` may be between.
-    Or,
-    /// Behind `holds`, and behind `and`.
-    Name,
-    /// Behind a name.
-    And,
-    /// Behind a number.
-    Nothing,
-}
-
-impl Place {
-    /// What stands there.
-    fn text(self, never: bool) -> &'static str {
-        match self {
-            Place::Verb if never => "here stands calls",
-            Place::Verb => "here stands calls or holds",
-            Place::Calls if never => "here stands a call, as sem_wait, or other than",
-            Place::Calls => "here stands a call, as sem_wait, or in order",
-            Place::Order => "here stands order",
-            Place::Than => "here stands than",
-            Place::Call => "here stands a call, as sem_wait",
-            Place::List => "here stands a call, as sem_wait, or the name of an object",
-            Place::Called => "here stands the name of an object, as /a, or >= and a number",
-            Place::On => "here stands >= and a number, between blanks",
-            Place::Number => "here stands a number from 1 to 1000",
-            Place::Or => "here stands the name of an object, as /a, or or",
-            Place::Name => "here stands the name of a semaphore, as /a",
-            Place::And => "here stands and, and up to eight names stand in all",
-            Place::Nothing => "here stands nothing",
+        None => {
+            let misuse = if never {
+                Misuse::NoCondition
+            } else {
+                Misuse::NoCalls
+            };
+            Err(misuse.of(word).followed(advice_on(alloc, word, never)))
         }
     }
-
-    /// The place behind a word that stands at this one, if it may stand here.
-    fn behind(self, never: bool, word: &str) -> Option<Place> {
-        match (self, word) {
-            (Place::Verb, "calls") => Some(Place::Calls),
-            (Place::Verb, "holds") if !never => Some(Place::Name),
-            (Place::Calls, "in") if !never => Some(Place::Order),
-            (Place::Calls, "other") if never => Some(Place::Than),
-            (Place::Calls, word) if is_call(word) && never => Some(Place::Or),
-            (Place::Calls, word) if is_call(word) => Some(Place::Called),
-            (Place::Order, "order") | (Place::Than, "than") => Some(Place::Call),
-            (Place::Call | Place::List, word) if is_call(word) => Some(Place::List),
-            (Place::List, word) if is_name(word) => Some(Place::List),
-            (Place::Called, word) if is_name(word) => Some(Place::On),
-            (Place::Called | Place::On, ">=") => Some(Place::Number),
-            (Place::Number, word) if is_number(word) => Some(Place::Nothing),
-            (Place::Or, "or") => Some(Place::Calls),
-            (Place::Or, word) if is_name(word) => Some(Place::Or),
-            (Place::Name, word) if is_name(word) => Some(Place::And),
-            (Place::And, "and") => Some(Place::Name),
-            _ => None,
-        }
-    }
-}
-
-fn is_name(word: &str) -> bool {
-    match word.strip_prefix('/') {
-        Some(rest) => !rest.is_empty() && !rest.contains('/'),
-        None => false,
-    }
-}
-
-fn is_call(word: &str) -> bool {
-    service_named(word.as_bytes()).is_some()
-}
-
-fn is_number(word: &str) -> bool {
-    call_count(word.as_bytes()).is_some()
 }
 
 /// The line that says why a word asks nothing of calls, where memory allows it.
-fn advice_on(alloc: Global, word: &str, never: bool) -> Option<String> {
-    line_on(alloc, word, never).ok()
-}
-
-/// Says what isn't understood first.
-fn line_on(alloc: Global, text: &str, never: bool) -> Result<String, AllocError> {
-    let mut place = Place::Verb;
-    let words = words_of(alloc, text)?;
-    for (at, word) in words.iter().enumerate() {
-        let word = word.trim_matches(',');
-        let is_process = at == 0 && unsigned(10, word.as_bytes()).is_some();
-        if !is_process {
-            match place.behind(never, word) {
-                Some(next) => place = next,
-                None => return unknown(alloc, Some(word), place.text(never)),
-            }
-        }
-    }
-    unknown(alloc, None, place.text(never))
+fn advice_on(alloc: Global, text: &str, never: bool) -> Option<String> {
+    let words: Vec<&str> = words_of(alloc, text)
+        .ok()?
+        .into_iter()
+        .map(|word| word.trim_matches(','))
+        .collect(alloc)
+        .ok()?;
+    let first = if never {
+        Place::NeverCaller
+    } else {
+        Place::Caller
+    };
+    line_on(alloc, first, &words, None).ok()?
 }

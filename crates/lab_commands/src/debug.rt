@@ -12,21 +12,6 @@ use lc3_table::Profile;
 use std::alloc::{AllocError, Global};
 use std::io::{Read, Write};
 
-/// The listings of the sources that programs were given as.
-fn listings_of(
-    alloc: Global,
-    sources: Vec<Option<Source>>,
-) -> Result<Vec<Option<Listing>>, AllocError> {
-    let mut listings = Vec::new(alloc);
-    for source in sources {
-        listings.push(match source {
-            Some(source) => Some(Listing::new(alloc, source)?),
-            None => None,
-        })?;
-    }
-    Ok(listings)
-}
-
 /// The session on programs, before its first command.
 fn session_on(
     alloc: Global,
@@ -37,9 +22,14 @@ fn session_on(
     let Programs {
         programs,
         sources,
-        ..
+        lines,
     } = given;
-    let Ok(listings) = listings_of(alloc, sources) else {
+    let listings: Result<Vec<Option<Listing>>, AllocError> = sources
+        .into_iter()
+        .zip(lines)
+        .map(|(source, lines)| source.map(|source| Listing { source, lines }))
+        .collect(alloc);
+    let Ok(listings) = listings else {
         return Err(Reason::NoMemory.at("session"));
     };
     Session::new(alloc, programs, listings, help, profile).map_err(|fault| fault_of(alloc, fault))

@@ -3,7 +3,7 @@ ghost use Rattle.std.specs.Prelude.{◌≡◌, ◌++◌, List, true, false, map,
 ghost use Rattle.lab_conditions.specs.declared.never.Never.{Never as Condemned};
 ghost use Rattle.lab_commands.specs.Private.Inquiries.{required_words, IsAsked, IsAskedOfCalls};
 
-use crate::advice::{line_on, meant_by};
+use crate::advice::{line_on, meant_by, words_of};
 use crate::calls::{calls_of, wanted_in};
 use crate::complaint::{Complaint, Misuse, Reason};
 use crate::outputs::{need_in, needs_of};
@@ -85,7 +85,7 @@ pub fn asked_of<'a>(
         sources.len(),
     )?;
     Ok(Asked {
-        words: words_of(alloc, question.required)?,
+        words: words_required(alloc, question.required)?,
         outputs: demands.outputs,
         waiters: demands.waiters,
         never: demands.never,
@@ -154,7 +154,7 @@ fn refuse_requirement<'a>(alloc: Global, word: &'a str, count: usize) -> Result<
 }
 
 /// The words that requirements are, in the order in which they are answered.
-fn words_of(alloc: Global, required: Requirements) -> Result<Vec<Word>, AllocError>
+fn words_required(alloc: Global, required: Requirements) -> Result<Vec<Word>, AllocError>
     ensures words { IfOk result (λ words. words.items ≡ required_words required) }
 {
     let mut words = Vec::new(alloc);
@@ -197,7 +197,7 @@ fn refuse_waiter<'a>(alloc: Global, word: &'a str, count: usize) -> Result<(), C
         None => Err(
             Misuse::NoWaiter
                 .of(word)
-                .followed(waiter_advice(alloc, word, count)),
+                .followed(advice_on(alloc, Place::Waiter, word, count)),
         ),
         Some(waiter) if waiter.process < count => Ok(()),
         Some(_) => Err(Misuse::NoSuchWaiter.of(word)),
@@ -246,7 +246,7 @@ fn refuse_never<'a>(alloc: Global, word: &'a str, count: usize) -> Result<(), Co
             Err(
                 Misuse::NoCondition
                     .of(word)
-                    .followed(never_advice(alloc, word, count)),
+                    .followed(advice_on(alloc, Place::Start, word, count)),
             )
         }
         Err(ReadFault::NoMemory) => Err(Reason::NoMemory.at("run")),
@@ -306,41 +306,24 @@ fn never_in(alloc: Global, sources: &[Option<Source>], text: &str) -> Result<Nev
     }
 }
 
-/// The line that says why a text is no condition on so many processes, where memory allows it.
-fn never_advice(alloc: Global, text: &str, count: usize) -> Option<String> {
-    let meant = meant_by(alloc, Place::Start, text).ok()?;
+/// The line that says why a text that begins at this place asks nothing of so many processes, where memory allows it.
+fn advice_on(alloc: Global, first: Place, text: &str, count: usize) -> Option<String> {
+    let meant = meant_by(alloc, first, text).ok()?;
     let taken = meant
         .as_deref()
-        .filter(|meant| is_never(alloc, meant, count));
-    line_on(alloc, Place::Start, text, taken).ok()?
+        .filter(|meant| is_taken(alloc, first, meant, count));
+    line_on(alloc, first, &words_of(alloc, text).ok()?, taken).ok()?
 }
 
-fn is_never(alloc: Global, text: &str, count: usize) -> bool {
+/// Whether a text that begins at this place asks something of so many processes.
+fn is_taken(alloc: Global, first: Place, text: &str, count: usize) -> bool {
     let Ok(outline) = outlined(alloc, text) else {
         return false;
     };
-    match Never::read(alloc, &outline) {
-        Ok(never) => never.names_only(count),
-        Err(_) => false,
-    }
-}
-
-/// The line that says why a text names none of so many processes that may wait, where memory allows it.
-fn waiter_advice(alloc: Global, text: &str, count: usize) -> Option<String> {
-    let meant = meant_by(alloc, Place::Waiter, text).ok()?;
-    let taken = meant
-        .as_deref()
-        .filter(|meant| is_waiter(alloc, meant, count));
-    line_on(alloc, Place::Waiter, text, taken).ok()?
-}
-
-fn is_waiter(alloc: Global, text: &str, count: usize) -> bool {
-    let Ok(outline) = outlined(alloc, text) else {
-        return false;
-    };
-    match read_waiter(alloc, &outline) {
-        Ok(Some(waiter)) => waiter.process < count,
-        Ok(None) | Err(_) => false,
+    match first {
+        Place::Waiter =>
+            matches!(read_waiter(alloc, &outline), Ok(Some(waiter)) if waiter.process < count),
+        _ => Never::read(alloc, &outline).is_ok_and(|never| never.names_only(count)),
     }
 }
 

@@ -5,7 +5,7 @@ ghost use Rattle.lab_commands.specs.Told.{names_no_limit, limit_of_worlds};
 use crate::complaint::Complaint;
 use crate::explore::Search;
 use crate::job::Job;
-use crate::loops::{Loop, loop_in};
+use crate::loops::loop_in;
 use crate::programs::{Programs, laboratory};
 use crate::progress::Progress;
 use lab_arguments::MOST_WORLDS;
@@ -67,21 +67,21 @@ fn limit_of_steps(
         Some(found) => Ok(LimitMet::Steps {
             process: found.process,
             steps,
-            standing: standing_in(alloc, given, found)?,
+            standing: standing_at(
+                alloc,
+                given
+                    .sources
+                    .get(found.process)
+                    .and_then(|source| source.as_ref()),
+                found.pc,
+                found.word,
+            )?,
         }),
         None => Ok(LimitMet::StepsOrMemory {
             steps,
             memory: limits.memory,
         }),
     }
-}
-
-fn standing_in(alloc: Global, given: &Programs, found: Loop) -> Result<Standing, AllocError> {
-    let source = match given.sources.get(found.process) {
-        Some(Some(source)) => Some(source),
-        _ => None,
-    };
-    standing_at(alloc, source, found.pc, found.word)
 }
 
 /// Where an address stands: its nearest label and its line, as far as there is a source with such, and else the address.

@@ -1,8 +1,10 @@
-//! What may stand at each place of a condition.
-use crate::labels::is_labelled;
+//! What may stand at each place of the words that ask something of a run.
+use crate::labels::{ends_of, is_labelled};
+use ipc_errors::error_named;
+use lab_questions::{call_count, service_named};
 use lc3_word::unsigned;
 
-/// A place of a condition, or of the words for a process that may wait.
+/// A place among words that ask something of a run.
 #[derive(Clone, Copy)]
 pub(crate) enum Place {
     /// At the beginning of a condition.
@@ -37,7 +39,138 @@ pub(crate) enum Place {
     At,
     /// Behind the `at` of a process that may wait.
     WaitsAt,
+    /// At the beginning of what must be so of calls, and behind a process there.
+    Caller,
+    Verb,
+    /// Behind `calls`.
+    Calls,
+    /// Behind `in`.
+    Order,
+    /// Where a call stands.
+    Call,
+    /// Where a call may stand behind another.
+    List,
+    /// Behind the only call.
+    Called,
+    /// Behind the only call and its object.
+    On,
+    /// Behind `>=`.
+    Count,
+    /// Behind `holds`, and behind `and`.
+    Held,
+    /// Behind a name that is held.
+    HeldAnd,
+    /// Behind how often something is called.
+    Counted,
+    /// At the beginning of what must never be called, and behind a process there.
+    NeverCaller,
+    NeverVerb,
+    /// Behind `calls`.
+    NeverCalls,
+    /// Behind `other`.
+    Than,
+    /// Behind one of some calls, of which `or` may be between.
+    Or,
+    /// At the beginning of what is required of an output.
+    Output,
+    /// Behind `out`.
+    Writer,
+    /// Behind the process that writes.
+    Relation,
+    /// Behind the relation.
+    Text,
+    /// Behind a text.
+    Joint,
 }
+
+/// What a word may be.
+#[derive(Clone, Copy)]
+enum Kind {
+    Word(&'static str),
+    OneOf(&'static [&'static str]),
+    Process,
+    /// The name of an object.
+    Name,
+    /// A number up to 65,535.
+    Number,
+    /// An address or a label, or two with a `-` between them.
+    Range,
+    /// The name of an error.
+    Error,
+    Call,
+    /// How many calls there are at least.
+    Count,
+}
+
+const OBJECTS: &[&str] = &["sem", "mq"];
+
+const STATES: &[&str] = &["blocked", "ended", "crashed"];
+
+const SIGNS: &[&str] = &[">", "<", "="];
+
+const RELATIONS: &[&str] = &["=", "has"];
+
+const JOINTS: &[&str] = &["and", "or"];
+
+/// What may stand at each place, and the place behind it.
+const STEPS: &[(Place, Kind, Place)] = &[
+    (Place::Start, Kind::Word("lost"), Place::Nothing),
+    (Place::Start, Kind::Word("refused"), Place::Error),
+    (Place::Start, Kind::OneOf(OBJECTS), Place::Name),
+    (Place::Start, Kind::OneOf(STATES), Place::Many),
+    (Place::Start, Kind::Word("at"), Place::Anywhere),
+    (Place::Start, Kind::Process, Place::First),
+    (Place::Part, Kind::OneOf(OBJECTS), Place::Name),
+    (Place::Part, Kind::OneOf(STATES), Place::Many),
+    (Place::Part, Kind::Word("at"), Place::Anywhere),
+    (Place::Part, Kind::Process, Place::State),
+    (Place::Name, Kind::Name, Place::Sign),
+    (Place::Sign, Kind::OneOf(SIGNS), Place::Number),
+    (Place::Number, Kind::Number, Place::And),
+    (Place::First, Kind::Word("refused"), Place::Error),
+    (Place::First, Kind::OneOf(STATES), Place::And),
+    (Place::First, Kind::Word("at"), Place::Address),
+    (Place::State, Kind::OneOf(STATES), Place::And),
+    (Place::State, Kind::Word("at"), Place::Address),
+    (Place::Address, Kind::Range, Place::And),
+    (Place::Anywhere, Kind::Range, Place::Many),
+    (Place::Many, Kind::Word(">"), Place::Number),
+    (Place::Many, Kind::Word("and"), Place::Part),
+    (Place::And, Kind::Word("and"), Place::Part),
+    (Place::Error, Kind::Error, Place::Nothing),
+    (Place::Waiter, Kind::Process, Place::At),
+    (Place::At, Kind::Word("at"), Place::WaitsAt),
+    (Place::WaitsAt, Kind::Range, Place::Nothing),
+    (Place::Caller, Kind::Process, Place::Verb),
+    (Place::Caller, Kind::Word("calls"), Place::Calls),
+    (Place::Caller, Kind::Word("holds"), Place::Held),
+    (Place::Verb, Kind::Word("calls"), Place::Calls),
+    (Place::Verb, Kind::Word("holds"), Place::Held),
+    (Place::Calls, Kind::Word("in"), Place::Order),
+    (Place::Calls, Kind::Call, Place::Called),
+    (Place::Order, Kind::Word("order"), Place::Call),
+    (Place::Call, Kind::Call, Place::List),
+    (Place::List, Kind::Call, Place::List),
+    (Place::List, Kind::Name, Place::List),
+    (Place::Called, Kind::Name, Place::On),
+    (Place::Called, Kind::Word(">="), Place::Count),
+    (Place::On, Kind::Word(">="), Place::Count),
+    (Place::Count, Kind::Count, Place::Counted),
+    (Place::Held, Kind::Name, Place::HeldAnd),
+    (Place::HeldAnd, Kind::Word("and"), Place::Held),
+    (Place::NeverCaller, Kind::Process, Place::NeverVerb),
+    (Place::NeverCaller, Kind::Word("calls"), Place::NeverCalls),
+    (Place::NeverVerb, Kind::Word("calls"), Place::NeverCalls),
+    (Place::NeverCalls, Kind::Word("other"), Place::Than),
+    (Place::NeverCalls, Kind::Call, Place::Or),
+    (Place::Than, Kind::Word("than"), Place::Call),
+    (Place::Or, Kind::Word("or"), Place::NeverCalls),
+    (Place::Or, Kind::Name, Place::Or),
+    (Place::Output, Kind::Word("out"), Place::Writer),
+    (Place::Writer, Kind::Process, Place::Relation),
+    (Place::Relation, Kind::OneOf(RELATIONS), Place::Text),
+    (Place::Joint, Kind::OneOf(JOINTS), Place::Output),
+];
 
 impl Place {
     /// What stands there.
@@ -58,13 +191,32 @@ impl Place {
             Place::Many => "here stands and, or > with a number behind it",
             Place::And => "here stands and",
             Place::Error => "here stands the name of an error, as EBADF",
-            Place::Nothing => "here stands nothing",
-            Place::Waiter => "here stands a process, as 0",
+            Place::Nothing | Place::Counted => "here stands nothing",
+            Place::Waiter | Place::Writer => "here stands a process, as 0",
             Place::At => "here stands at, and an address behind it, as x3000",
+            Place::Caller | Place::Verb => "here stands calls or holds",
+            Place::Calls => "here stands a call, as sem_wait, or in order",
+            Place::Order => "here stands order",
+            Place::Call => "here stands a call, as sem_wait",
+            Place::List => "here stands a call, as sem_wait, or the name of an object",
+            Place::Called => "here stands the name of an object, as /a, or >= and a number",
+            Place::On => "here stands >= and a number, between blanks",
+            Place::Count => "here stands a number from 1 to 1000",
+            Place::Held => "here stands the name of a semaphore, as /a",
+            Place::HeldAnd => "here stands and, and up to eight names stand in all",
+            Place::NeverCaller | Place::NeverVerb => "here stands calls",
+            Place::NeverCalls => "here stands a call, as sem_wait, or other than",
+            Place::Than => "here stands than",
+            Place::Or => "here stands the name of an object, as /a, or or",
+            Place::Output | Place::Joint => "here stands out, and a process behind it",
+            Place::Relation => "here stands = or has, between blanks",
+            Place::Text => {
+                "here stands a text between double quotes, with the escapes of .STRINGZ, and nothing behind it"
+            }
         }
     }
 
-    /// Whether a condition may end there.
+    /// Whether a condition, or the words for a process that may wait, may end there.
     pub(crate) fn may_end(self) -> bool {
         matches!(
             self,
@@ -74,77 +226,29 @@ impl Place {
 
     /// The place behind a word that stands at this one, if it may stand here.
     pub(crate) fn behind(self, word: &str) -> Option<Place> {
+        STEPS
+            .iter()
+            .find(|step| step.0 as u8 == self as u8 && step.1.is_of(word))
+            .map(|step| step.2)
+    }
+}
+
+impl Kind {
+    /// Whether a word is of this kind.
+    fn is_of(self, word: &str) -> bool {
         match self {
-            Place::Start => behind_start(word),
-            Place::Part => behind_part(word),
-            Place::Name => given(is_name(word), Place::Sign),
-            Place::Sign => given(matches!(word, ">" | "<" | "="), Place::Number),
-            Place::Number => given(is_number(word), Place::And),
-            Place::First => match word {
-                "refused" => Some(Place::Error),
-                _ => behind_process(word),
-            },
-            Place::State => behind_process(word),
-            Place::Address => given(is_range(word), Place::And),
-            Place::Anywhere => given(is_range(word), Place::Many),
-            Place::Many => match word {
-                ">" => Some(Place::Number),
-                _ => given(word == "and", Place::Part),
-            },
-            Place::And => given(word == "and", Place::Part),
-            Place::Error => given(is_error(word), Place::Nothing),
-            Place::Nothing => None,
-            Place::Waiter => given(unsigned(10, word.as_bytes()).is_some(), Place::At),
-            Place::At => given(word == "at", Place::WaitsAt),
-            Place::WaitsAt => given(is_range(word), Place::Nothing),
+            Kind::Word(one) => word == one,
+            Kind::OneOf(words) => words.iter().any(|one| word == *one),
+            Kind::Process => unsigned(10, word.as_bytes()).is_some(),
+            Kind::Name => word
+                .strip_prefix('/')
+                .is_some_and(|rest| !rest.is_empty() && !rest.contains('/')),
+            Kind::Number => unsigned(10, word.as_bytes()).is_some_and(|number| number <= 65_535),
+            Kind::Range => is_range(word),
+            Kind::Error => error_named(word).is_some(),
+            Kind::Call => service_named(word.as_bytes()).is_some(),
+            Kind::Count => call_count(word.as_bytes()).is_some(),
         }
-    }
-}
-
-/// A place, if that is so.
-fn given(is_so: bool, place: Place) -> Option<Place> {
-    if is_so { Some(place) } else { None }
-}
-
-fn behind_start(word: &str) -> Option<Place> {
-    match word {
-        "lost" => Some(Place::Nothing),
-        "refused" => Some(Place::Error),
-        _ => match behind_part(word) {
-            Some(Place::State) => Some(Place::First),
-            place => place,
-        },
-    }
-}
-
-fn behind_part(word: &str) -> Option<Place> {
-    match word {
-        "sem" | "mq" => Some(Place::Name),
-        "blocked" | "ended" | "crashed" => Some(Place::Many),
-        "at" => Some(Place::Anywhere),
-        _ => given(unsigned(10, word.as_bytes()).is_some(), Place::State),
-    }
-}
-
-fn behind_process(word: &str) -> Option<Place> {
-    match word {
-        "blocked" | "ended" | "crashed" => Some(Place::And),
-        "at" => Some(Place::Address),
-        _ => None,
-    }
-}
-
-fn is_name(word: &str) -> bool {
-    match word.strip_prefix('/') {
-        Some(rest) => !rest.is_empty() && !rest.contains('/'),
-        None => false,
-    }
-}
-
-fn is_number(word: &str) -> bool {
-    match unsigned(10, word.as_bytes()) {
-        Some(number) => number <= 65_535,
-        None => false,
     }
 }
 
@@ -159,31 +263,7 @@ pub(crate) fn address(word: &str) -> Option<u32> {
 
 /// Whether a word is an address, or two with a `-` between them, the first not above the second. Labels may stand for them.
 fn is_range(word: &str) -> bool {
-    if is_labelled(word) {
-        return true;
-    }
-    let Some((first, last)) = word.split_once('-') else {
-        return address(word).is_some();
-    };
-    match (address(first), address(last)) {
-        (Some(first), Some(last)) => first <= last,
-        _ => false,
-    }
-}
-
-fn is_error(word: &str) -> bool {
-    matches!(
-        word,
-        "ENOENT"
-            | "EBADF"
-            | "EAGAIN"
-            | "EFAULT"
-            | "EEXIST"
-            | "EINVAL"
-            | "EMFILE"
-            | "ENOSPC"
-            | "ENAMETOOLONG"
-            | "EOVERFLOW"
-            | "EMSGSIZE"
-    )
+    let (first, last) = ends_of(word);
+    is_labelled(word)
+        || matches!((address(first), address(last)), (Some(first), Some(last)) if first <= last)
 }

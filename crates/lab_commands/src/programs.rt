@@ -41,18 +41,6 @@ impl Programs {
         }
     }
 
-    /// Adds the program that a word names.
-    fn add<'a, T: Files, P: Progress>(
-        &mut self,
-        job: &Job<'_, T, P>,
-        word: &'a str,
-    ) -> Result<(), Complaint<'a>> {
-        let (program, source) = read_program(job, word)?;
-        self.programs.push(program)?;
-        self.push_source(job.alloc, source)?;
-        Ok(())
-    }
-
     /// Adds the source of a program, where it was given as one.
     fn push_source(&mut self, alloc: Global, source: Option<Source>) -> Result<(), AllocError> {
         let Some(source) = source else {
@@ -107,7 +95,9 @@ pub fn read_programs<'a, T: Files, P: Progress>(
 ) -> Result<Programs, Complaint<'a>> {
     let mut given = Programs::new(job.alloc);
     for word in words {
-        given.add(job, word)?;
+        let (program, source) = read_program(job, word)?;
+        given.programs.push(program)?;
+        given.push_source(job.alloc, source)?;
     }
     Ok(given)
 }

@@ -1,5 +1,5 @@
 //! Conditions with addresses in the place of labels.
-use crate::advice::{spaced, words_of};
+use crate::advice::words_of;
 use crate::labels::{Span, has_label, is_labelled, span_in};
 use crate::unresolved::{Unresolved, not_in};
 use lab_sources::Source;
@@ -15,7 +15,7 @@ pub(crate) fn outlined(alloc: Global, text: &str) -> Result<String, AllocError> 
             words[at] = "x0";
         }
     }
-    spaced(alloc, &words)
+    words.join(alloc, " ")
 }
 
 /// A condition with addresses in the place of each word that has labels: those of the process that stands before the `at`,
@@ -46,8 +46,11 @@ fn push_resolved(
 ) -> Result<(), Unresolved> {
     match before {
         [.., "at"] if has_label(word) => {
-            let span = span_of(alloc, sources, process_in(before), word)?;
-            text.push_str(&span_text(alloc, span)?)?;
+            let pid = process_in(before);
+            match span_in(sources, pid, word) {
+                Some(span) => text.push_str(&span_text(alloc, span)?)?,
+                None => return Err(not_in(alloc, sources, pid, word)?),
+            }
         }
         _ => text.push_str(word)?,
     }
@@ -59,18 +62,6 @@ fn process_in(words: &[&str]) -> usize {
     match words {
         [.., process, _] => unsigned(10, process.as_bytes()).unwrap_or(0) as usize,
         _ => 0,
-    }
-}
-
-fn span_of(
-    alloc: Global,
-    sources: &[Option<Source>],
-    pid: usize,
-    place: &str,
-) -> Result<Span, Unresolved> {
-    match span_in(sources, pid, place) {
-        Some(span) => Ok(span),
-        None => Err(not_in(alloc, sources, pid, place)?),
     }
 }
 

@@ -42,7 +42,10 @@ pub fn run_given<T: Threads + Wait + Clock + Sync, W: Write, P: Progress>(
     let fresh = laboratory(job.alloc, given.programs.as_slice(), profile)?;
     let report = run_fresh(job, fresh, manner)?;
     let sources = given.numbered(job.alloc)?;
-    tell_run(job.alloc, &sources, &report, manner.plain, output)?;
+    write_bytes(
+        &bytes_of(job.alloc, &sources, &report, manner.plain)?,
+        output,
+    )?;
     Ok(report)
 }
 
@@ -63,24 +66,8 @@ fn run_fresh<T: Threads + Wait + Clock + Sync, P: Progress>(
     outcome.at(job.alloc, "run")
 }
 
-/// Writes the report on a run, with where processes stand in these sources, and a line with its schedule; and, where that is
-/// `plain`, behind these what the processes have written, as it is.
-fn tell_run<W: Write>(
-    alloc: Global,
-    sources: &[Option<Numbered<'_>>],
-    report: &Report,
-    plain: bool,
-    output: &mut Output<W>,
-) -> Result<(), Complaint<'static>>
-    requires output_healthy { output.old.failed ≡ false }
-    ensures told { OnOk result (Appends (W.contents output.old.device)
-        (W.contents output.new.device)
-        (run_bytes sources.now plain report.now.world report.now.schedule)) }
-{
-    write_bytes(&bytes_of(alloc, sources, report, plain)?, output)
-}
-
-/// What is written of a run.
+/// The report on a run, with where processes stand in these sources, and a line with its schedule; and, where that is `plain`,
+/// behind these what the processes have written, as it is.
 fn bytes_of(
     alloc: Global,
     sources: &[Option<Numbered<'_>>],

@@ -1,5 +1,5 @@
 //! Conditions that speak of labels of no process, as such that name processes.
-use crate::advice::{spaced, words_of};
+use crate::advice::words_of;
 use crate::labels::{has_label, span_in};
 use crate::unresolved::{Unresolved, in_none};
 use lab_arguments::Shown;
@@ -18,20 +18,24 @@ pub(crate) fn spread(
     sources: &[Option<Source>],
     text: &str,
 ) -> Result<Vec<String>, Unresolved> {
-    spread_words(alloc, sources, &words_of(alloc, text)?)
-}
-
-fn spread_words(
-    alloc: Global,
-    sources: &[Option<Source>],
-    words: &[&str],
-) -> Result<Vec<String>, Unresolved> {
-    let mut texts = Vec::new(alloc);
-    texts.push(String::new(alloc))?;
+    let words = words_of(alloc, text)?;
+    let mut texts = vec![in alloc; String::new(alloc)]?;
     for part in words.split(|word| *word == "and") {
-        texts = joined(alloc, &texts, &groups_of(alloc, sources, part)?)?;
+        push_groups(alloc, &mut texts, sources, part)?;
     }
     Ok(texts)
+}
+
+/// Puts what a part of a condition says of each group of processes behind each of some texts.
+fn push_groups(
+    alloc: Global,
+    texts: &mut Vec<String>,
+    sources: &[Option<Source>],
+    part: &[&str],
+) -> Result<(), Unresolved> {
+    let groups = groups_of(alloc, sources, part)?;
+    *texts = joined(alloc, texts, &groups)?;
+    Ok(())
 }
 
 /// Each of some texts with each of some others behind it.
@@ -74,7 +78,7 @@ fn groups_of(
         Some(Crowd { place, size }) if !is_one_span(sources, place) => {
             groups_at(alloc, sources, place, size)
         }
-        _ => alone(alloc, part),
+        _ => Ok(vec![in alloc; part.join(alloc, " ")?]?),
     }
 }
 
@@ -92,11 +96,7 @@ fn crowd_in<'a>(part: &[&'a str]) -> Option<Crowd<'a>> {
         ["at", place, ">", number] => (*place, count_in(number).saturating_add(1)),
         _ => return None,
     };
-    if has_label(place) {
-        Some(Crowd { place, size })
-    } else {
-        None
-    }
+    has_label(place).then_some(Crowd { place, size })
 }
 
 /// What is said of each group of so many of the processes that have the labels of a place.
@@ -120,12 +120,6 @@ fn count_in(number: &str) -> usize {
     unsigned(10, number.as_bytes()).unwrap_or(0).min(65_535) as usize
 }
 
-fn alone(alloc: Global, part: &[&str]) -> Result<Vec<String>, Unresolved> {
-    let mut texts = Vec::new(alloc);
-    texts.push(spaced(alloc, part)?)?;
-    Ok(texts)
-}
-
 /// Whether a place stands for the same addresses in each process.
 fn is_one_span(sources: &[Option<Source>], place: &str) -> bool {
     let Some(span) = span_in(sources, 0, place) else {
@@ -140,13 +134,9 @@ fn holders_of(
     sources: &[Option<Source>],
     place: &str,
 ) -> Result<Vec<usize>, AllocError> {
-    let mut holders = Vec::new(alloc);
-    for pid in 0..sources.len() {
-        if span_in(sources, pid, place).is_some() {
-            holders.push(pid)?;
-        }
-    }
-    Ok(holders)
+    (0..sources.len())
+        .filter(|pid| span_in(sources, *pid, place).is_some())
+        .collect(alloc)
 }
 
 fn too_few(alloc: Global, place: &str, count: usize) -> Result<Unresolved, AllocError> {
@@ -180,20 +170,16 @@ fn grouped(
     place: &str,
     size: usize,
 ) -> Result<Vec<String>, Unresolved> {
-    let mut groups = Vec::new(alloc);
-    groups.push(Group {
+    let none = Group {
         text: String::new(alloc),
         last: None,
-    })?;
+    };
+    let mut groups = vec![in alloc; none]?;
     for _ in 0..size {
         groups = larger(alloc, &groups, holders, place)?;
         refuse_many(alloc, &groups)?;
     }
-    let mut texts = Vec::new(alloc);
-    for group in groups {
-        texts.push(group.text)?;
-    }
-    Ok(texts)
+    Ok(groups.into_iter().map(|group| group.text).collect(alloc)?)
 }
 
 /// Groups with one process more than these.

@@ -21,21 +21,20 @@ fn most_of(reach: Reach) -> u32 {
 
 /// How far a stage goes, of so many worlds or walks, that comes before a search.
 fn stage_of(reach: Reach, most: u32) -> Reach {
-    let Reach { limits, walks, .. } = reach;
-    match walks {
-        Some(Walks { seed, .. }) => Reach {
-            limits,
-            walks: Some(Walks { count: most, seed }),
-            is_stage: true,
+    let worlds = match reach.walks {
+        Some(_) => reach.limits.worlds,
+        None => most,
+    };
+    Reach {
+        limits: Limits {
+            worlds,
+            ..reach.limits
         },
-        None => Reach {
-            limits: Limits {
-                worlds: most,
-                ..limits
-            },
-            walks,
-            is_stage: true,
-        },
+        walks: reach.walks.map(|walks| Walks {
+            count: most,
+            ..walks
+        }),
+        is_stage: true,
     }
 }
 
@@ -45,16 +44,14 @@ pub(crate) fn stages_of(alloc: Global, inquiry: &Inquiry) -> Result<Vec<Inquiry>
         Some(_) => &WALKS,
         None => &WORLDS,
     };
-    let mut stages = Vec::new(alloc);
-    for most in counts {
-        if *most < most_of(inquiry.reach) {
-            stages.push(Inquiry {
-                reach: stage_of(inquiry.reach, *most),
-                ..*inquiry
-            })?;
-        }
-    }
-    Ok(stages)
+    counts
+        .iter()
+        .filter(|most| **most < most_of(inquiry.reach))
+        .map(|most| Inquiry {
+            reach: stage_of(inquiry.reach, *most),
+            ..*inquiry
+        })
+        .collect(alloc)
 }
 
 /// Whether a search that goes further than this one has something to find: it went as far as it was to go, without visiting
@@ -62,14 +59,10 @@ pub(crate) fn stages_of(alloc: Global, inquiry: &Inquiry) -> Result<Vec<Inquiry>
 pub(crate) fn has_more(search: &Search) -> bool {
     let found = &search.answers.exploration;
     match search.answers.failure {
-        Some(Failure::Not(_))
-        | Some(Failure::Output(_))
-        | Some(Failure::Reached(_))
-        | Some(Failure::Endless)
-        | Some(Failure::Call(_)) => false,
         Some(Failure::Incomplete) if found.complete => true,
         Some(Failure::Incomplete) | None => {
             !found.complete && found.worlds >= most_of(search.inquiry.reach)
         }
+        Some(_) => false,
     }
 }

@@ -4,7 +4,6 @@ ghost use Rattle.std.specs.Option.{option_map, option_copied};
 ghost use Rattle.lab_sched.specs.ScheduleTexts.{schedule_text};
 ghost use Rattle.lab_commands.specs.Complaints.{asks_verdict_alone, failure_of, complains};
 ghost use Rattle.lab_commands.specs.Told.{ShowsFailure, numbered_end, IsChosen, line_or_none, TellsChosen, all_told, Tells, HasTold, HasBegun};
-ghost use Rattle.lab_questions.specs.Findings.{answers_line};
 
 use crate::complaint::{Complaint, Reason};
 use crate::explore::Search;
@@ -90,23 +89,12 @@ fn all_told(
         bytes.items ≡ all_told sources.now search.now search.now.inquiry.json) }
 {
     if search.inquiry.json {
-        let line = json_line(alloc, search)?;
+        let reach = search.inquiry.reach;
+        let line = answers_json(alloc, &search.answers, reach, search.limit.as_ref())?;
         Ok(line.into_bytes())
     } else {
         placed(alloc, sources, search.answers.text.as_bytes())
     }
-}
-
-fn json_line(alloc: Global, search: &Search) -> Result<String, AllocError>
-    ensures told { IfOk result (λ line. string_bytes line
-        ≡ answers_line search.now.answers search.now.inquiry.reach search.now.limit) }
-{
-    answers_json(
-        alloc,
-        &search.answers,
-        search.inquiry.reach,
-        search.limit.as_ref(),
-    )
 }
 
 /// The schedule that is chosen, as a line, if there is one.

@@ -6,7 +6,7 @@ use lab_arguments::Shown;
 use lab_sources::Source;
 use lc3_spelling::suggestion;
 use std::alloc::{AllocError, AllocFailed, Global};
-use std::fmt::Write;
+use std::fmt::{Display, Write};
 
 /// Why the labels of a condition stand for no addresses.
 #[derive(Drop)]
@@ -55,37 +55,25 @@ pub(crate) fn not_in(
     place: &str,
 ) -> Result<Unresolved, AllocError> {
     let Some(Some(source)) = sources.get(pid) else {
-        return without_source(alloc, pid, place);
+        let place = Shown(place);
+        let line = format!(in alloc;
+            "lc3lab: {place}: process {pid} is given as an object file, which has no labels\n"
+        )?;
+        return Ok(Unresolved::Because(line));
     };
     let (first, last) = ends_of(place);
     let end = match span_in(sources, pid, first) {
         Some(_) => last,
         None => first,
     };
-    without_label(alloc, source, pid, end)
-}
-
-/// Why a place stands for no addresses in a process that is given as an object file.
-fn without_source(alloc: Global, pid: usize, place: &str) -> Result<Unresolved, AllocError> {
-    let place = Shown(place);
-    let line = format!(in alloc;
-        "lc3lab: {place}: process {pid} is given as an object file, which has no labels\n"
-    )?;
-    Ok(Unresolved::Because(line))
-}
-
-/// Why an end of a place stands for no address in a process with this source.
-fn without_label(
-    alloc: Global,
-    source: &Source,
-    pid: usize,
-    end: &str,
-) -> Result<Unresolved, AllocError> {
     let mut names = Vec::new(alloc);
     push_names(&mut names, source)?;
-    let shown = Shown(end);
-    let line = format!(in alloc; "lc3lab: {shown}: process {pid} has no such label")?;
-    Ok(Unresolved::Because(with_nearest(alloc, line, end, &names)?))
+    without_label(
+        alloc,
+        end,
+        format_args!("process {pid} has no such label"),
+        &names,
+    )
 }
 
 /// Why a place stands for no addresses in any process: the end that none has, or the first one where none has both.
@@ -95,10 +83,8 @@ pub(crate) fn in_none(
     place: &str,
 ) -> Result<Unresolved, AllocError> {
     let mut names = Vec::new(alloc);
-    for source in sources {
-        if let Some(source) = source {
-            push_names(&mut names, source)?;
-        }
+    for source in sources.iter().flatten() {
+        push_names(&mut names, source)?;
     }
     let (first, last) = ends_of(place);
     let end = if (0..sources.len()).any(|pid| span_in(sources, pid, first).is_some()) {
@@ -106,9 +92,7 @@ pub(crate) fn in_none(
     } else {
         first
     };
-    let shown = Shown(end);
-    let line = format!(in alloc; "lc3lab: {shown}: no process has this label")?;
-    Ok(Unresolved::Because(with_nearest(alloc, line, end, &names)?))
+    without_label(alloc, end, "no process has this label", &names)
 }
 
 fn push_names<'a>(names: &mut Vec<&'a str>, source: &'a Source) -> Result<(), AllocError> {
@@ -121,19 +105,20 @@ fn push_names<'a>(names: &mut Vec<&'a str>, source: &'a Source) -> Result<(), Al
     Ok(())
 }
 
-/// A line, and behind it the label that is spelled most like the one of an end, if one is like it.
-fn with_nearest(
+/// Why an end of a place stands for no address, and the label that is spelled most like its own, if one is like it.
+fn without_label<F: Display + Drop>(
     alloc: Global,
-    line: String,
     end: &str,
+    why: F,
     names: &[&str],
-) -> Result<String, AllocError> {
-    let mut line = line;
+) -> Result<Unresolved, AllocError> {
+    let shown = Shown(end);
+    let mut line = format!(in alloc; "lc3lab: {shown}: {why}")?;
     if let Some(nearest) = nearest_to(alloc, end, names)? {
         write!(line, "; did you mean {nearest}?")?;
     }
     line.push_str("\n")?;
-    Ok(line)
+    Ok(Unresolved::Because(line))
 }
 
 /// The name that is spelled most like the label of an end, if one is like it.
