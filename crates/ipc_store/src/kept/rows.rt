@@ -6,6 +6,7 @@ ghost use Rattle.ipc_store.specs.Private.KeptRows.{row_of};
 use super::changes::{Change, digest_from};
 use super::digests::Digests;
 use crate::index::Index;
+use crate::numbers::are_same;
 use ipc_kernel::OBJECT_PLACES;
 use std::alloc::{AllocError, Global};
 use std::marker::Model;
@@ -93,7 +94,7 @@ impl Rows {
             ≡ Some (record { objects = objects.now; tables = tables.now }) }
     {
         match self.row(number) {
-            Some(row) => row.0 == objects && row.1 == tables,
+            Some(row) => are_same(row.0, objects) && are_same(row.1, tables),
             None => false,
         }
     }
