@@ -9,6 +9,7 @@ mod tables;
 use crate::renaming::Renaming;
 use ipc_kernel::Kernel;
 use places::{are_renamed_places, take_names};
+pub(crate) use tables::is_renamed_process;
 use tables::{are_renamed_tables, take_open};
 
 /// The renaming that takes each place with a name to the place of that name, and what a process

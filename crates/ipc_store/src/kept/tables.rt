@@ -9,6 +9,7 @@ ghost use Rattle.ipc_store.specs.Private.Renamings.{renamed_by};
 use super::changes::with_number;
 use super::renames::{Renames, Taken};
 use super::rows::number_of;
+use crate::alike::is_renamed_process;
 use crate::index::Index;
 use crate::renaming::renamed_process;
 use ipc_kernel::OpenTables;
@@ -102,8 +103,7 @@ impl Tables {
             ≡ Some (renamed_process (renamed_by to.now) (process_at self.now number))) }
     {
         let renamed = self.renames.find(number, taken)?;
-        let made = renamed_process(self.get(number)?, to);
-        if self.get(renamed)?.is_same(&made) {
+        if is_renamed_process(self.get(number)?, self.get(renamed)?, to) {
             return Some(renamed);
         }
         None
