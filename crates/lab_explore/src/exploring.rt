@@ -20,7 +20,7 @@ use ipc_kernel::Kernel;
 use lab_conditions::Never;
 use lab_sched::{Fresh, Process};
 use lab_search::both;
-use lab_worlds::{Exploration, ExploreFault, Limits, Observer, Workers};
+use lab_worlds::{Exploration, ExploreFault, Limits, Observer, Workers, discard};
 use std::alloc::Global;
 use std::thread::Threads;
 
@@ -89,8 +89,16 @@ pub fn explore<O: Observer, R: Threads + Sync>(
     // for ends there is what is left, and where that is little a sixteenth of the limit beyond it
     let left = limits.memory.saturating_sub(visited.store.size());
     let room = left.max(limits.memory / 16);
-    let found = visited.report(alloc, &processes, room, nevers, fair, workers)?;
-    Ok(found)
+    match visited.report(alloc, &processes, room, nevers, fair, workers) {
+        Ok(found) => {
+            discard(visited);
+            Ok(found)
+        }
+        Err(fault) => {
+            discard(visited);
+            Err(fault)
+        }
+    }
 }
 
 impl Visited {

@@ -6,7 +6,7 @@ use crate::drawing::picture_of;
 use ipc_kernel::Kernel;
 use lab_explore::visit;
 use lab_sched::{Fresh, Schedule, World};
-use lab_worlds::{End, ExploreFault, Limits, Observer};
+use lab_worlds::{End, ExploreFault, Limits, Observer, discard};
 use std::alloc::Global;
 
 /// The most worlds of which a picture is drawn.
@@ -71,6 +71,14 @@ pub fn draw(alloc: Global, fresh: Fresh, limits: Limits) -> Result<Option<Pictur
     };
     let mut nobody = Nobody;
     let visited = visit(alloc, &processes, &kernel, limits, &mut nobody, false)?;
-    let picture = picture_of(&visited, alloc, &processes)?;
-    Ok(picture)
+    match picture_of(&visited, alloc, &processes) {
+        Ok(picture) => {
+            discard(visited);
+            Ok(picture)
+        }
+        Err(fault) => {
+            discard(visited);
+            Err(fault)
+        }
+    }
 }

@@ -1,10 +1,9 @@
 //! Marks: addresses of processes that steps stop at, or whose words they watch.
-ghost use Rattle.std.specs.Prelude.{◌≡◌, IfOk};
+ghost use Rattle.std.specs.Prelude.{◌≡◌, IfOk, filter};
 ghost use Rattle.lab_session.specs.Marks.{rank, is_of, is_same, is_lower, is_before, has_mark, with_mark, without_mark, of_kind, break_at, is_at_break};
 
 use lab_sched::World;
 use std::alloc::{AllocError, Global};
-use std::iter;
 
 /// What a mark is for.
 #[derive(Clone, Copy)]
@@ -66,14 +65,38 @@ pub fn has_mark(marks: &[Mark], mark: Mark) -> bool
     marks.iter().any(|it| is_same(*it, mark))
 }
 
+fn marks_before(alloc: Global, marks: &[Mark], mark: Mark) -> Result<Vec<Mark>, AllocError>
+    ensures marks { IfOk result
+        (λ found. found.items ≡ filter (λ it. is_before it mark) marks.now) }
+{
+    marks
+        .iter()
+        .copied()
+        .filter(|it| is_before(*it, mark))
+        .collect(alloc)
+}
+
+fn marks_behind(alloc: Global, marks: &[Mark], mark: Mark) -> Result<Vec<Mark>, AllocError>
+    ensures marks { IfOk result
+        (λ found. found.items ≡ filter (λ it. is_before mark it) marks.now) }
+{
+    marks
+        .iter()
+        .copied()
+        .filter(|it| is_before(mark, *it))
+        .collect(alloc)
+}
+
 /// These with a mark, in the order of kind, process and address.
 #[tactic(auto, using(crate::proofs::MarkLemmas::one_between))]
 pub fn with_mark(alloc: Global, marks: &[Mark], mark: Mark) -> Result<Vec<Mark>, AllocError>
     ensures marks { IfOk result (λ all. all.items ≡ with_mark marks.now mark) }
 {
-    let before = marks.iter().copied().filter(|it| is_before(*it, mark));
-    let behind = marks.iter().copied().filter(|it| is_before(mark, *it));
-    before.chain(iter::once(mark)).chain(behind).collect(alloc)
+    let mut all = marks_before(alloc, marks, mark)?;
+    all.push(mark)?;
+    let behind = marks_behind(alloc, marks, mark)?;
+    all.extend_from_slice(behind.as_slice())?;
+    Ok(all)
 }
 
 /// The other marks.

@@ -20,7 +20,6 @@ use std::alloc::{AllocError, Global};
 
 /// A session of the debugger. It keeps the world that it began with and the steps that were taken,
 /// so that it can go back, and the sources of the programs that were given as such.
-#[derive(Drop)]
 pub struct Session {
     listings: Vec<Option<Listing>>,
     help: &'static str,
@@ -28,6 +27,19 @@ pub struct Session {
     start: World,
     taken: Vec<Block>,
     world: World,
+}
+
+impl Drop for Session {
+    fn drop(self) {
+        let Session {
+            listings: _,
+            help: _,
+            marks: _,
+            start: _,
+            taken: _,
+            world: _,
+        } = self;
+    }
 }
 
 /// The listing of the source of process `pid`, where it was given as one.
@@ -80,7 +92,15 @@ impl Session {
     pub fn into_world(self) -> World
         ensures world { result ≡ (state_of self).world }
     {
-        self.world
+        let Session {
+            listings: _,
+            help: _,
+            marks: _,
+            start: _,
+            taken: _,
+            world,
+        } = self;
+        world
     }
 
     /// The world that the steps lead to.

@@ -13,7 +13,7 @@ use crate::wanted::Wanted;
 use ipc_kernel::Kernel;
 use lab_explore::{Visited, visit};
 use lab_sched::{Fresh, Process, Schedule};
-use lab_worlds::{ExploreFault, Limits, Observer};
+use lab_worlds::{ExploreFault, Limits, Observer, discard};
 use std::alloc::Global;
 
 /// Whether what is asked is so on every way.
@@ -123,6 +123,14 @@ pub fn ask_ways<O: Observer>(
     let processes = fresh.processes();
     let kernel = Kernel::new(alloc, processes.len())?;
     let visited = visit(alloc, &processes, &kernel, limits, observer, false)?;
-    let found = all_ways(&visited, alloc, &processes, wanted)?;
-    Ok(found)
+    match all_ways(&visited, alloc, &processes, wanted) {
+        Ok(found) => {
+            discard(visited);
+            Ok(found)
+        }
+        Err(fault) => {
+            discard(visited);
+            Err(fault)
+        }
+    }
 }
