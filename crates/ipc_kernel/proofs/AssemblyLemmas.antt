@@ -3,7 +3,7 @@ use Rattle.std.proofs.Common.{◌≡◌, ◌≢◌, ℕ, ◌+◌, ◌-◌, ◌<�
 use Rattle.std.specs.FinMap as fin
 use Rattle.std.specs.Ordering.{nat_cmp}
 use Rattle.std.specs.Cmp.Lexicographic.{slice_cmp}
-use Rattle.std.proofs.lemmas.Bool.{cases_lt}
+use Rattle.std.proofs.lemmas.Bool.{cases_eq, cases_lt}
 use Rattle.std.proofs.lemmas.List.{ext_get_or, get_or_default, get_or-take, length-take-le, take_more, append_assoc, append-nil, length-append}
 use Rattle.ipc_names.specs.Table.{NameMap}
 use Rattle.ipc_kernel.specs.declared.place.Place.{Place}
@@ -12,7 +12,7 @@ use Rattle.ipc_kernel.specs.declared.process.OpenTables.{OpenTables}
 use Rattle.ipc_kernel.specs.Places.{place_at, place_or_empty, places_or_empty, padded}
 use Rattle.ipc_kernel.specs.Private.Index.{IsIndexOf, name_at}
 use Rattle.ipc_kernel.proofs.PlaceLemmas.{get_or-emptied, length-emptied}
-use Rattle.ipc_kernel.proofs.IndexLemmas.{index_put, index_same, same_or_other, place_at-get_or, place_at-past}
+use Rattle.ipc_kernel.proofs.IndexLemmas.{index_put, index_same, place_at-get_or, place_at-past}
 
 -- the places below i are as the rule leaves them
 pub record SettledBelow (processes : List OpenTables) (ps : List Place) (i : ℕ) : Type 0 where
@@ -21,7 +21,7 @@ pub record SettledBelow (processes : List OpenTables) (ps : List Place) (i : ℕ
 pub settled_more : (processes : List OpenTables) (ps : List Place) (i : ℕ) (x : Place) → SettledBelow processes ps i → i < length ps
     → place_or_empty processes i (get_or ps i x) ≡ get_or ps i x → SettledBelow processes ps (i + 1)
 settled_more processes ps i x inv h is = record {
-  below = λ k d lt in_range. elim (same_or_other k i) [
+  below = λ k d lt in_range. elim (cases_eq k i) [
     | inl same ↦ rw (same, get_or_default ps i d x h) is
     | inr apart ↦ inv.below k d (omega arith) in_range
   ];
@@ -78,7 +78,7 @@ named_more name_of ps i n t d nameless h index named absent =
 pub nameless_more : (name_of : Place → Option (List ℕ)) (ps : List Place) (i : ℕ) (t : NameMap) (d : Place) → name_of Empty ≡ None → i < length ps
     → IsIndexOf (name_at name_of (take i ps)) t → name_of (get_or ps i d) ≡ None → IsIndexOf (name_at name_of (take (i + 1) ps)) t
 nameless_more name_of ps i t d nameless h index unnamed =
-    index_same (name_at name_of (take i ps)) (name_at name_of (take (i + 1) ps)) t index (λ k. elim (same_or_other k i) [
+    index_same (name_at name_of (take i ps)) (name_at name_of (take (i + 1) ps)) t index (λ k. elim (cases_eq k i) [
       | inl same ↦ rw same (ap name_of (place_here ps i d h) ∙ unnamed ∙ sym (ap name_of (nothing_here ps i h) ∙ nameless))
       | inr apart ↦ ap name_of (place_of_rest ps i k h apart)
     ])

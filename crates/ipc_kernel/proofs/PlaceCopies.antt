@@ -11,12 +11,6 @@ use Rattle.ipc_kernel.proofs.TableCopies.{option_decides}
 
 place_decides : (a b : Place) → Decides (place_eq.eq-value.it a b) (a ≡ b)
 place_decides Empty Empty = (λ _. refl, λ _. refl)
-place_decides Empty (Mq n q) = (λ e. cc, λ e. cc)
-place_decides Empty (Sem n v) = (λ e. cc, λ e. cc)
-place_decides (Mq n q) Empty = (λ e. cc, λ e. cc)
-place_decides (Mq n q) (Sem m v) = (λ e. cc, λ e. cc)
-place_decides (Sem n v) Empty = (λ e. cc, λ e. cc)
-place_decides (Sem n v) (Mq m q) = (λ e. cc, λ e. cc)
 place_decides (Mq n q) (Mq m r) =
     Decides-like (place_eq.eq-value.it (Mq n q) (Mq m r))
     (λ h. ap (λ x. Mq x q) h.0 ∙ ap (Mq m) h.1)
@@ -27,6 +21,7 @@ place_decides (Sem n v) (Sem m w) =
     (λ h. ap (λ x. Sem x v) h.0 ∙ ap (Sem m) h.1)
     (λ e. (cc, cc))
     (Decides-and _ _ (option_decides _ (λ a b. slice_eq-Decides Decides-eqb a b _ refl) n m) (Decides-eqb v w))
+place_decides a b = (λ e. cc, λ e. cc)
 
 -- two lists of places are compared
 pub places_decides : (ps qs : List Place) (r : Bool) → r ≡ pointwise place_eq.eq-value.it ps qs → Decides r (ps ≡ qs)

@@ -293,13 +293,9 @@ impl Kernel {
         ensures there { IfSome result (λ held.
             queue_in (place_at self.now.places held.0.place) ≡ Some held.1.now) }
     {
-        match self.processes.descriptor(pid, mqd) {
-            None => None,
-            Some(held) => match self.places.queue(held.place) {
-                None => None,
-                Some(queue) => Some((held, queue)),
-            },
-        }
+        let held = self.processes.descriptor(pid, mqd)?;
+        let queue = self.places.queue(held.place)?;
+        Some((held, queue))
     }
 
     /// An open slot, with the value of its semaphore.
@@ -311,12 +307,8 @@ impl Kernel {
         ensures there { IfSome result (λ held.
             semaphore_value (place_at self.now.places held.0.place) ≡ Some held.1) }
     {
-        match self.processes.slot(pid, slot) {
-            None => None,
-            Some(held) => match self.places.semaphore_value(held.place) {
-                None => None,
-                Some(value) => Some((held, value)),
-            },
-        }
+        let held = self.processes.slot(pid, slot)?;
+        let value = self.places.semaphore_value(held.place)?;
+        Some((held, value))
     }
 }

@@ -1,6 +1,5 @@
 //! One object place.
-ghost use Rattle.std.specs.Prelude.{◌≡◌, ◌+◌, ◌-◌, ◌<◌, ◌≤◌, ◌||◌, if◌then◌else◌, length, IfSome, OnOk, OnErr};
-ghost use Rattle.std.specs.Prelude.{◌∷◌, IsTrue, IsSomeAnd, drop};
+ghost use Rattle.std.specs.Prelude.{◌≡◌, ◌+◌, ◌-◌, ◌<◌, ◌≤◌, ◌||◌, if◌then◌else◌, length, IfSome, OnOk, OnErr, ◌∷◌, IsTrue, IsSomeAnd, drop};
 ghost use Rattle.std.specs.Option.{option_map, option_copied};
 ghost use Rattle.ipc_objects.specs.Queue.{QueueState, with_message, without_first};
 ghost use Rattle.ipc_objects.specs.declared.queue.Message.{Message};

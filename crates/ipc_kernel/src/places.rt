@@ -1,15 +1,13 @@
 //! The object places, with an index of the names of queues and one of the names of semaphores.
-ghost use Rattle.std.specs.Prelude.{◌≡◌, ℕ, ◌+◌, ◌-◌, ◌<◌, ◌≤◌, length, position, replicate, slice_set, Some, None, IfOk, IfSome, IfNone, OnOk, OnErr};
+ghost use Rattle.std.specs.Prelude.{◌≡◌, ℕ, ◌+◌, ◌-◌, ◌<◌, ◌≤◌, length, position, replicate, slice_set, Some, None, IfOk, IfSome, IfNone, OnOk, OnErr, ◌∷◌, IsSomeAnd, IsTrue, drop};
 ghost use Rattle.std.specs.FinMap as fin;
-ghost use Rattle.std.specs.Prelude.{◌∷◌, IsSomeAnd, IsTrue, drop};
 ghost use Rattle.std.specs.Option.{option_map, option_copied};
 ghost use Rattle.ipc_objects.specs.Queue.{QueueState, empty_queue, with_message, without_first};
 ghost use Rattle.ipc_objects.specs.declared.queue.Message.{Message};
 ghost use Rattle.ipc_objects.specs.Limits.{sem_value_max, mq_prio_max};
 ghost use Rattle.ipc_kernel.specs.Limits.{object_places};
-ghost use Rattle.ipc_kernel.specs.Places.{queue_in, are_sizes};
+ghost use Rattle.ipc_kernel.specs.Places.{queue_in, are_sizes, is_empty, semaphore_value, with_queue_in, with_value_in, without_name_in, queue_name, semaphore_name, queue_named, semaphore_named, queue_and_name, value_and_name, place_at, places_or_empty};
 ghost use Rattle.ipc_kernel.specs.Private.Messages.{HasRoomFor, HasMessage};
-ghost use Rattle.ipc_kernel.specs.Places.{is_empty, semaphore_value, with_queue_in, with_value_in, without_name_in, queue_name, semaphore_name, queue_named, semaphore_named, queue_and_name, value_and_name, place_at, places_or_empty};
 ghost use Rattle.ipc_kernel.specs.declared.place.Place.TheVariants.{Empty, Mq, Sem};
 
 mod assembly;
@@ -215,10 +213,7 @@ impl Places {
         ensures value { result ≡ semaphore_value (place_at self.now place) }
         ensures bound { IfSome result (λ value. value ≤ sem_value_max) }
     {
-        match self.places.get(place as usize) {
-            Some(place) => place.semaphore_value(),
-            None => None,
-        }
+        self.places.get(place as usize)?.semaphore_value()
     }
 
     /// The queue in a place.
@@ -226,10 +221,7 @@ impl Places {
     pub(crate) fn queue(&self, place: u8) -> Option<&Queue>
         ensures queue { option_copied result ≡ queue_in (place_at self.now place) }
     {
-        match self.places.get(place as usize) {
-            Some(place) => place.queue(),
-            None => None,
-        }
+        self.places.get(place as usize)?.queue()
     }
 
     /// The queue in a place, with its name or none.
@@ -237,10 +229,7 @@ impl Places {
         ensures held { option_map (λ r. (option_copied r.0, r.1.now)) result
             ≡ queue_and_name (place_at self.now place) }
     {
-        match self.places.get(place as usize) {
-            Some(place) => place.queue_and_name(),
-            None => None,
-        }
+        self.places.get(place as usize)?.queue_and_name()
     }
 
     /// The value of the semaphore in a place, with its name or none.
@@ -248,10 +237,7 @@ impl Places {
         ensures held { option_map (λ r. (option_copied r.0, r.1)) result
             ≡ value_and_name (place_at self.now place) }
     {
-        match self.places.get(place as usize) {
-            Some(place) => place.value_and_name(),
-            None => None,
-        }
+        self.places.get(place as usize)?.value_and_name()
     }
 
     /// Adds a message, whose words are shared, to the queue in a place.

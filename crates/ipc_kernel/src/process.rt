@@ -63,8 +63,8 @@ impl OpenTables {
         ensures place { result ≡ place_of self.now handle }
     {
         match handle {
-            Handle::Mqd(mqd) => Some(descriptor_at(&self.descriptors, mqd)?.place),
-            Handle::Slot(slot) => Some(slot_at(&self.slots, slot)?.place),
+            Handle::Mqd(mqd) => Some(held_at(&self.descriptors, mqd)?.place),
+            Handle::Slot(slot) => Some(held_at(&self.slots, slot)?.place),
         }
     }
 }
@@ -89,42 +89,21 @@ pub(crate) fn slot_refers(slot: &Option<Slot>, place: u8) -> bool
     }
 }
 
+/// What a descriptor or a slot holds, where it is open.
 #[inline(always)]
-pub(crate) fn descriptor_at(descriptors: &[Option<Descriptor>], mqd: u16) -> Option<Descriptor>
-    ensures held { result ≡ unwrap_or (slice_get descriptors.now mqd) None }
-    ensures range { IfSome result (λ _. mqd < length descriptors.now) }
+pub(crate) fn held_at<T: Copy>(cells: &[Option<T>], at: u16) -> Option<T>
+    ensures held { result ≡ unwrap_or (slice_get cells.now at) None }
+    ensures range { IfSome result (λ _. at < length cells.now) }
 {
-    match descriptors.get(mqd as usize) {
-        Some(held) => *held,
-        None => None,
-    }
+    *cells.get(at as usize)?
 }
 
-#[inline(always)]
-pub(crate) fn slot_at(slots: &[Option<Slot>], slot: u16) -> Option<Slot>
-    ensures held { result ≡ unwrap_or (slice_get slots.now slot) None }
-    ensures range { IfSome result (λ _. slot < length slots.now) }
+/// The first that is free among descriptors or slots.
+pub(crate) fn first_free<T>(cells: &[Option<T>]) -> Option<usize>
+    ensures first { result ≡ position is_none cells.now }
+    ensures range { IfSome result (λ i. i < length cells.now) }
 {
-    match slots.get(slot as usize) {
-        Some(held) => *held,
-        None => None,
-    }
-}
-
-pub(crate) fn first_free_descriptor(descriptors: &[Option<Descriptor>]) -> Option<usize>
-    ensures first { result ≡ position is_none descriptors.now }
-    ensures range { IfSome result (λ i. i < length descriptors.now) }
-{
-    descriptors
-        .iter()
-        .position(|descriptor| descriptor.is_none())
-}
-
-pub(crate) fn first_free_slot(slots: &[Option<Slot>]) -> Option<usize>
-    ensures first { result ≡ position is_none slots.now }
-    ensures range { IfSome result (λ i. i < length slots.now) }
-{
-    slots.iter().position(|slot| slot.is_none())
+    cells.iter().position(|cell| cell.is_none())
 }
 
 pub(crate) fn first_that_refers(slots: &[Option<Slot>], place: u8) -> Option<usize>

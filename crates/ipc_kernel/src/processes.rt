@@ -9,8 +9,8 @@ mod copies;
 
 use crate::limits::{OBJECT_PLACES, OPEN_MAX};
 use crate::process::{
-    Descriptor, OpenTables, Slot, descriptor_at, first_free_descriptor, first_free_slot,
-    first_that_refers, slot_at, write_descriptor, write_slot,
+    Descriptor, OpenTables, Slot, first_free, first_that_refers, held_at, write_descriptor,
+    write_slot,
 };
 use std::alloc::{AllocError, Global};
 use std::marker::Model;
@@ -139,7 +139,7 @@ impl Processes {
         ensures place { IfSome result (λ held. held.place < object_places) }
     {
         let process = &self.tables[pid];
-        descriptor_at(&process.descriptors, mqd)
+        held_at(&process.descriptors, mqd)
     }
 
     #[tactic(auto, using(crate::proofs::ProcessLemmas::process_at_read))]
@@ -151,7 +151,7 @@ impl Processes {
         ensures place { IfSome result (λ held. held.place < object_places) }
     {
         let process = &self.tables[pid];
-        slot_at(&process.slots, slot)
+        held_at(&process.slots, slot)
     }
 
     #[tactic(auto, using(crate::proofs::ProcessLemmas::process_at_read))]
@@ -161,7 +161,7 @@ impl Processes {
         ensures range { IfSome result (λ d. d < open_max) }
     {
         let process = &self.tables[pid];
-        first_free_descriptor(&process.descriptors)
+        first_free(&process.descriptors)
     }
 
     #[tactic(auto, using(crate::proofs::ProcessLemmas::process_at_read))]
@@ -171,7 +171,7 @@ impl Processes {
         ensures range { IfSome result (λ s. s < open_max) }
     {
         let process = &self.tables[pid];
-        first_free_slot(&process.slots)
+        first_free(&process.slots)
     }
 
     #[tactic(auto, using(crate::proofs::ProcessLemmas::process_at_read))]

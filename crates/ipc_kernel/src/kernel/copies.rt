@@ -6,15 +6,6 @@ use std::alloc::{AllocError, Global};
 use std::hash::{FoldHasher, Hasher};
 use std::mem::size_of;
 
-/// The sum of numbers, whatever their order.
-fn sum_of(numbers: &[u64]) -> u64 {
-    let mut sum = 0_u64;
-    for number in numbers {
-        sum = sum.wrapping_add(*number);
-    }
-    sum
-}
-
 impl Kernel {
     /// An equal kernel.
     pub fn copy(&self, alloc: Global) -> Result<Kernel, AllocError>
@@ -45,7 +36,12 @@ impl Kernel {
     pub fn digest(&self) -> u64 {
         let objects = self.places.digests();
         let mut hasher = FoldHasher::default();
-        hasher.write_u64(sum_of(&objects));
+        // A sum, since it is the same whatever the order.
+        hasher.write_u64(
+            objects
+                .iter()
+                .fold(0_u64, |sum, object| sum.wrapping_add(*object)),
+        );
         self.processes.feed(&objects, &mut hasher);
         hasher.finish()
     }

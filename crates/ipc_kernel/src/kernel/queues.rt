@@ -2,7 +2,6 @@
 ghost use Rattle.std.specs.Prelude.{◌≡◌, ℕ, ◌<◌, ◌≤◌, false, None, length, IsTrue};
 ghost use Rattle.ipc_objects.specs.Limits.{mq_msgsize_max};
 ghost use Rattle.ipc_names.specs.Flags.{flags_read};
-ghost use Rattle.ipc_kernel.specs.Limits.{object_places};
 ghost use Rattle.ipc_kernel.specs.Private.Decisions.{outcome_of, IsPossible, decision_may_grow};
 ghost use Rattle.ipc_kernel.specs.Outcomes.{open_queue, unlink};
 ghost use Rattle.ipc_kernel.specs.Places.{are_sizes, queue_named};
@@ -61,7 +60,7 @@ fn descriptor_for(place: u8, flags: Flags) -> Descriptor
 }
 
 impl Kernel {
-    ghost use Rattle.ipc_kernel.specs.Queues.{new_descriptor, mq_create, mq_look_up, mq_open, mq_close, mq_send, mq_receive, mq_getattr, mq_setattr};
+    ghost use Rattle.ipc_kernel.specs.Queues.{mq_create, mq_open, mq_close, mq_send, mq_receive, mq_getattr, mq_setattr};
 
     #[inline(always)]
     pub(super) fn decide_mq_open<'a>(
@@ -84,38 +83,23 @@ impl Kernel {
         if flags.create && !are_sizes(max_messages, message_size) {
             return Decision::Refused(Errno::Invalid);
         }
-        self.decide_mq_look_up(pid, name, max_messages, message_size, flags)
-    }
-
-    /// Opens a queue by whether its name is found.
-    #[inline(always)]
-    fn decide_mq_look_up<'a>(
-        &self,
-        pid: usize,
-        name: &'a Name,
-        max_messages: u16,
-        message_size: u16,
-        flags: Flags,
-    ) -> Decision<'a>
-        requires process { pid < length self.now.processes }
-        requires sizes { IsTrue flags.create → IsTrue (are_sizes (max_messages, message_size)) }
-        ensures outcome { outcome_of self.now pid result
-            ≡ mq_look_up self.now pid name.now (max_messages, message_size) flags
-            (queue_named self.now.places name.now) }
-        ensures possible { IsPossible self.now result }
-    {
         match self.places.queue_named(name) {
             Some(place) => {
                 if flags.create && flags.excl {
                     return Decision::Refused(Errno::Exists);
                 }
-                self.decide_new_descriptor(pid, place, flags)
+                let Some(mqd) = self.processes.free_descriptor(pid) else {
+                    return Decision::Refused(Errno::TooManyOpen);
+                };
+                let held = Some(descriptor_for(place, flags));
+                let change = Change::HoldDescriptor { mqd, held };
+                Decision::Answered(ShortReply::Plain(mqd as u16), change)
             }
             None => {
                 if !flags.create {
                     return Decision::Refused(Errno::NoEntry);
                 }
-                self.decide_mq_create(pid, name, max_messages, message_size, flags)
+                self.decide_mq_create(pid, name, (max_messages, message_size), flags)
             }
         }
     }
@@ -127,15 +111,14 @@ impl Kernel {
         &self,
         pid: usize,
         name: &'a Name,
-        max_messages: u16,
-        message_size: u16,
+        sizes: (u16, u16),
         flags: Flags,
     ) -> Decision<'a>
         requires process { pid < length self.now.processes }
-        requires sizes { IsTrue (are_sizes (max_messages, message_size)) }
+        requires sizes { IsTrue (are_sizes sizes) }
         requires absent { queue_named self.now.places name.now ≡ None }
         ensures outcome { outcome_of self.now pid result
-            ≡ mq_create self.now pid name.now (max_messages, message_size) flags
+            ≡ mq_create self.now pid name.now sizes flags
             (free_descriptor_of self.now.processes pid) }
         ensures possible { IsPossible self.now result }
     {
@@ -145,6 +128,7 @@ impl Kernel {
         let Some(place) = self.places.first_empty() else {
             return Decision::Refused(Errno::NoSpace);
         };
+        let (max_messages, message_size) = sizes;
         let new = NewQueue {
             name,
             max_messages,
@@ -153,27 +137,6 @@ impl Kernel {
             held: descriptor_for(place, flags),
         };
         Decision::Answered(ShortReply::Plain(mqd as u16), Change::MakeQueue(new))
-    }
-
-    /// Opens the queue in a place on a new descriptor.
-    #[inline(always)]
-    fn decide_new_descriptor<'a>(&self, pid: usize, place: u8, flags: Flags) -> Decision<'a>
-        requires process { pid < length self.now.processes }
-        requires place { place < object_places }
-        ensures outcome { outcome_of self.now pid result
-            ≡ new_descriptor self.now pid place flags (free_descriptor_of self.now.processes pid) }
-        ensures possible { IsPossible self.now result }
-    {
-        match self.processes.free_descriptor(pid) {
-            None => Decision::Refused(Errno::TooManyOpen),
-            Some(mqd) => {
-                let held = Some(descriptor_for(place, flags));
-                Decision::Answered(
-                    ShortReply::Plain(mqd as u16),
-                    Change::HoldDescriptor { mqd, held },
-                )
-            }
-        }
     }
 
     #[inline(always)]
@@ -188,10 +151,8 @@ impl Kernel {
             None => Decision::Refused(Errno::BadDescriptor),
             Some(_) => {
                 let mqd = mqd as usize;
-                Decision::Answered(
-                    ShortReply::Plain(0),
-                    Change::HoldDescriptor { mqd, held: None },
-                )
+                let change = Change::HoldDescriptor { mqd, held: None };
+                Decision::Answered(ShortReply::Plain(0), change)
             }
         }
     }
@@ -282,10 +243,8 @@ impl Kernel {
         match self.open_queue(pid, mqd) {
             None => Decision::Refused(Errno::BadDescriptor),
             Some((descriptor, queue)) => {
-                Decision::Answered(
-                    ShortReply::Attr(attributes(descriptor, queue)),
-                    Change::Nothing,
-                )
+                let reply = ShortReply::Attr(attributes(descriptor, queue));
+                Decision::Answered(reply, Change::Nothing)
             }
         }
     }
@@ -309,9 +268,7 @@ impl Kernel {
             ..descriptor
         });
         let mqd = mqd as usize;
-        Decision::Answered(
-            ShortReply::Attr(attributes(descriptor, queue)),
-            Change::HoldDescriptor { mqd, held },
-        )
+        let reply = ShortReply::Attr(attributes(descriptor, queue));
+        Decision::Answered(reply, Change::HoldDescriptor { mqd, held })
     }
 }

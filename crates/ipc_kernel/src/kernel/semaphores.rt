@@ -1,11 +1,11 @@
 //! The rules of the calls on semaphores.
-ghost use Rattle.std.specs.Prelude.{◌≡◌, ℕ, ◌<◌, ◌≤◌, false, None, length, IsTrue};
+ghost use Rattle.std.specs.Prelude.{◌≡◌, ℕ, ◌<◌, ◌≤◌, false, None, length};
 ghost use Rattle.ipc_objects.specs.Limits.{sem_value_max};
 ghost use Rattle.ipc_kernel.specs.Limits.{object_places, open_max};
 ghost use Rattle.ipc_kernel.specs.Private.Decisions.{outcome_of, IsPossible, decision_may_grow};
 ghost use Rattle.ipc_kernel.specs.Outcomes.{open_semaphore, unlink};
 ghost use Rattle.ipc_kernel.specs.Places.{semaphore_named};
-ghost use Rattle.ipc_kernel.specs.Processes.{slot_of, slot_for, free_slot_of};
+ghost use Rattle.ipc_kernel.specs.Processes.{slot_of, free_slot_of};
 
 use super::Kernel;
 use super::decision::{Change, Decision, NewSemaphore, ShortReply};
@@ -15,7 +15,7 @@ use ipc_names::{Errno, Name, O_CREAT, O_EXCL};
 use ipc_objects::SEM_VALUE_MAX;
 
 impl Kernel {
-    ghost use Rattle.ipc_kernel.specs.Semaphores.{new_slot, one_more_open, sem_open_place, sem_create, sem_look_up, sem_open, sem_close, sem_wait, sem_trywait, sem_post, sem_getvalue};
+    ghost use Rattle.ipc_kernel.specs.Semaphores.{new_slot, one_more_open, sem_create, sem_open, sem_close, sem_wait, sem_trywait, sem_post, sem_getvalue};
 
     #[inline(always)]
     pub(super) fn decide_sem_open<'a>(
@@ -35,32 +35,15 @@ impl Kernel {
         if create && value > SEM_VALUE_MAX {
             return Decision::Refused(Errno::Invalid);
         }
-        self.decide_sem_look_up(pid, name, create, exclusive, value)
-    }
-
-    /// Opens a semaphore by whether its name is found.
-    #[inline(always)]
-    fn decide_sem_look_up<'a>(
-        &self,
-        pid: usize,
-        name: &'a Name,
-        create: bool,
-        exclusive: bool,
-        value: u16,
-    ) -> Decision<'a>
-        requires process { pid < length self.now.processes }
-        requires value { IsTrue create → value ≤ sem_value_max }
-        ensures outcome { outcome_of self.now pid result
-            ≡ sem_look_up self.now pid name.now create exclusive value
-            (semaphore_named self.now.places name.now) }
-        ensures possible { IsPossible self.now result }
-    {
         match self.places.semaphore_named(name) {
             Some(place) => {
                 if create && exclusive {
                     return Decision::Refused(Errno::Exists);
                 }
-                self.decide_sem_open_place(pid, place)
+                match self.processes.slot_for(pid, place) {
+                    None => self.decide_new_slot(pid, place),
+                    Some(slot) => self.decide_one_more_open(pid, slot),
+                }
             }
             None => {
                 if !create {
@@ -97,21 +80,6 @@ impl Kernel {
         Decision::Answered(ShortReply::Plain(slot as u16), Change::MakeSemaphore(new))
     }
 
-    /// Opens the semaphore in a place: on the slot that the process has for it, or on a new one.
-    #[inline(always)]
-    fn decide_sem_open_place<'a>(&self, pid: usize, place: u8) -> Decision<'a>
-        requires process { pid < length self.now.processes }
-        requires place { place < object_places }
-        ensures outcome { outcome_of self.now pid result
-            ≡ sem_open_place self.now pid place (slot_for self.now.processes pid place) }
-        ensures possible { IsPossible self.now result }
-    {
-        match self.processes.slot_for(pid, place) {
-            None => self.decide_new_slot(pid, place),
-            Some(slot) => self.decide_one_more_open(pid, slot),
-        }
-    }
-
     /// Opens the semaphore in a place on a new slot.
     #[inline(always)]
     fn decide_new_slot<'a>(&self, pid: usize, place: u8) -> Decision<'a>
@@ -125,10 +93,8 @@ impl Kernel {
             None => Decision::Refused(Errno::TooManyOpen),
             Some(slot) => {
                 let held = Some(Slot { place, opens: 1 });
-                Decision::Answered(
-                    ShortReply::Plain(slot as u16),
-                    Change::HoldSlot { slot, held },
-                )
+                let change = Change::HoldSlot { slot, held };
+                Decision::Answered(ShortReply::Plain(slot as u16), change)
             }
         }
     }
@@ -144,21 +110,14 @@ impl Kernel {
     {
         match self.processes.slot(pid, slot as u16) {
             None => Decision::Refused(Errno::Invalid),
-            Some(
-                Slot {
-                    opens: OPENS_MAX,
-                    ..
-                },
-            ) => Decision::Refused(Errno::TooManyOpen),
+            Some(held) if held.opens == OPENS_MAX => Decision::Refused(Errno::TooManyOpen),
             Some(held) => {
                 let held = Some(Slot {
                     opens: held.opens + 1,
                     ..held
                 });
-                Decision::Answered(
-                    ShortReply::Plain(slot as u16),
-                    Change::HoldSlot { slot, held },
-                )
+                let change = Change::HoldSlot { slot, held };
+                Decision::Answered(ShortReply::Plain(slot as u16), change)
             }
         }
     }
@@ -198,10 +157,8 @@ impl Kernel {
         match self.places.semaphore_named(name) {
             None => Decision::Refused(Errno::NoEntry),
             Some(place) => {
-                Decision::Answered(
-                    ShortReply::Plain(0),
-                    Change::UnnameSemaphore { place, name },
-                )
+                let change = Change::UnnameSemaphore { place, name };
+                Decision::Answered(ShortReply::Plain(0), change)
             }
         }
     }

@@ -9,10 +9,7 @@ use std::mem::size_of;
 
 /// The number of the object in a place.
 fn object_at(objects: &[u64], place: u8) -> u64 {
-    match objects.get(place as usize) {
-        Some(object) => *object,
-        None => 0,
-    }
+    objects.get(place as usize).copied().unwrap_or(0)
 }
 
 /// Adds the open descriptors and slots of a process to a digest, each with the number of its

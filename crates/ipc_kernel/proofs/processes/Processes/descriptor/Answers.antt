@@ -6,5 +6,5 @@ use Rattle.ipc_kernel.proofs.processes.Processes.descriptor.Goals as goal
 pub returns-clause-place : goal.returns-clause-place
 returns-clause-place c =
     let h = rw (← c.self.view_is) at c.requires.process in
-    queue_place_in_range c.self.inside.tables.items c.self.inside.counts c.args.pid c.args.mqd c.descriptor_at.result c.self.invariant h
-    (rw (process_at_read c.self.inside.tables.items c.args.pid c.index-process.result.now h c.index-process.ensures) c.descriptor_at.ensures.held) (search rules)
+    queue_place_in_range c.self.inside.tables.items c.self.inside.counts c.args.pid c.args.mqd c.held_at.result c.self.invariant h
+    (rw (process_at_read c.self.inside.tables.items c.args.pid c.index-process.result.now h c.index-process.ensures) c.held_at.ensures.held) (search rules)

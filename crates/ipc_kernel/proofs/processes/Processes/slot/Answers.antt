@@ -6,5 +6,5 @@ use Rattle.ipc_kernel.proofs.processes.Processes.slot.Goals as goal
 pub returns-clause-place : goal.returns-clause-place
 returns-clause-place c =
     let h = rw (← c.self.view_is) at c.requires.process in
-    place_in_range c.self.inside.tables.items c.self.inside.counts c.args.pid c.args.slot c.slot_at.result c.self.invariant h
-    (rw (process_at_read c.self.inside.tables.items c.args.pid c.index-process.result.now h c.index-process.ensures) c.slot_at.ensures.held) (search rules)
+    place_in_range c.self.inside.tables.items c.self.inside.counts c.args.pid c.args.slot c.held_at.result c.self.invariant h
+    (rw (process_at_read c.self.inside.tables.items c.args.pid c.index-process.result.now h c.index-process.ensures) c.held_at.ensures.held) (search rules)
