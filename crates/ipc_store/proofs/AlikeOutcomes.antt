@@ -18,7 +18,7 @@ use Rattle.ipc_kernel.specs.Kernel.{KernelState}
 use Rattle.ipc_kernel.specs.Outcomes.{Outcome, refusal, waiting, completion, wait_or_again, unlink, open_queue, open_semaphore, with_queue_at, with_value_at}
 use Rattle.ipc_kernel.specs.Alike.{renamed_descriptor, renamed_slot, IsRenaming, IsAlike, AreDistinct, IsConsistent}
 use Rattle.ipc_kernel.proofs.PlaceLemmas.{first_empty_place}
-use Rattle.ipc_kernel.proofs.IndexLemmas.{place_at-set_same, is_name-true, is_name-itself, position_there, place_within}
+use Rattle.ipc_kernel.proofs.IndexLemmas.{queue_name-with_queue, semaphore_name-with_queue, queue_name-with_value, semaphore_name-with_value, place_at-set_same, is_name-true, is_name-itself, position_there, place_within}
 use Rattle.ipc_store.proofs.Renamings.{descriptor_of-renamed, slot_of-renamed, free_descriptor-renamed, free_slot-renamed, slot_for-renamed}
 use Rattle.ipc_store.proofs.Alikes.{renaming_to, renaming_done, renaming_place, renaming_descriptor, renaming_slot, renaming_closed}
 use Rattle.ipc_store.proofs.Consistents.{IsFree, consistent_done, consistent_place, consistent_descriptor, consistent_slot, consistent_closed}
@@ -73,36 +73,16 @@ filled_queue q Empty e = refl
 filled_queue q (Mq name old) e = cc
 filled_queue q (Sem name value) e = e
 
-queue_name_queue : (q : QueueState) (p : Place) (n : List ℕ) → queue_name (with_queue q p) ≡ Some n → queue_name p ≡ Some n
-queue_name_queue q Empty n e = e
-queue_name_queue q (Mq name old) n e = e
-queue_name_queue q (Sem name value) n e = e
-
-semaphore_name_queue : (q : QueueState) (p : Place) (n : List ℕ) → semaphore_name (with_queue q p) ≡ Some n → semaphore_name p ≡ Some n
-semaphore_name_queue q Empty n e = e
-semaphore_name_queue q (Mq name old) n e = e
-semaphore_name_queue q (Sem name value) n e = e
-
 pub twin_queue : (f g : ℕ → ℕ) (k j : KernelState) → IsTwin f g k j → (a : ℕ) (q : QueueState) → IsTwin f g (with_queue_at k a q) (with_queue_at j (f a) q)
-twin_queue f g k j t a q = twin_at f g k j t a (with_queue q) (filled_queue q) (queue_name_queue q) (semaphore_name_queue q)
+twin_queue f g k j t a q = twin_at f g k j t a (with_queue q) (filled_queue q) (λ x n e. sym (queue_name-with_queue q x) ∙ e) (λ x n e. sym (semaphore_name-with_queue q x) ∙ e)
 
 filled_value : (v : ℕ) (p : Place) → with_value v p ≡ Empty → p ≡ Empty
 filled_value v Empty e = refl
 filled_value v (Mq name old) e = e
 filled_value v (Sem name value) e = cc
 
-queue_name_value : (v : ℕ) (p : Place) (n : List ℕ) → queue_name (with_value v p) ≡ Some n → queue_name p ≡ Some n
-queue_name_value v Empty n e = e
-queue_name_value v (Mq name old) n e = e
-queue_name_value v (Sem name value) n e = e
-
-semaphore_name_value : (v : ℕ) (p : Place) (n : List ℕ) → semaphore_name (with_value v p) ≡ Some n → semaphore_name p ≡ Some n
-semaphore_name_value v Empty n e = e
-semaphore_name_value v (Mq name old) n e = e
-semaphore_name_value v (Sem name value) n e = e
-
 pub twin_value : (f g : ℕ → ℕ) (k j : KernelState) → IsTwin f g k j → (a v : ℕ) → IsTwin f g (with_value_at k a v) (with_value_at j (f a) v)
-twin_value f g k j t a v = twin_at f g k j t a (with_value v) (filled_value v) (queue_name_value v) (semaphore_name_value v)
+twin_value f g k j t a v = twin_at f g k j t a (with_value v) (filled_value v) (λ x n e. sym (queue_name-with_value v x) ∙ e) (λ x n e. sym (semaphore_name-with_value v x) ∙ e)
 
 filled_unnamed : (p : Place) → without_name p ≡ Empty → p ≡ Empty
 filled_unnamed Empty e = refl

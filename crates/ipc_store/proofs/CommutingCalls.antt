@@ -1,7 +1,8 @@
 -- A process's own calls commute with the calls of other processes that take no name away.
-use Rattle.std.proofs.Common.{◌≡◌, ℕ, Bool, true, false, List, [], ◌∷◌, zero, suc, set, Option, Some, None, is_some, refl, sym, ap, ◌∙◌}
+use Rattle.std.proofs.Common.{◌≡◌, ℕ, Bool, true, false, List, [], set, get_or-set_other, Option, Some, None, is_some, refl, sym, ap, ◌∙◌}
 use Rattle.std.specs.Option.{option_map}
 use Rattle.std.proofs.lemmas.List.{set_comm}
+use Rattle.std.proofs.lemmas.Option.{unwrap_or-slice_get}
 use Rattle.ipc_names.specs.Flags.{flags_read}
 use Rattle.ipc_kernel.specs.declared.place.Place.{Place}
 use Rattle.ipc_kernel.specs.declared.place.Place.TheVariants.{Empty}
@@ -21,7 +22,8 @@ use Rattle.ipc_store.proofs.OpeningCalls.{mq_open_at, sem_open_at}
 use Rattle.ipc_store.proofs.OperandAnswers.{mq_open_is}
 use Rattle.ipc_store.proofs.Alikes.{alike_back}
 use Rattle.ipc_store.proofs.AlikeOutcomes.{found_named}
-use Rattle.ipc_store.proofs.NamedPlaces.{is_named, KeepNames, names_kept, all_at, all_by}
+use Rattle.ipc_store.proofs.NamedPlaces.{is_named, KeepNames, names_kept, all_by}
+use Rattle.ipc_store.proofs.SettledTables.{all_at}
 use Rattle.ipc_store.proofs.TableCalls.{ChangesTables, tables_same, tables_exit, tables_mq_close, tables_sem_close, tables_mq_open, tables_sem_open}
 use Rattle.ipc_store.proofs.NamedCalls.{of_call}
 use Rattle.ipc_store.proofs.OperandRows.{none_behind}
@@ -61,11 +63,9 @@ own_kept ps qs other keeps own = own
 
 -- the tables of another process
 process_at-set_other : (ts : List OpenTables) (p q : ℕ) (t : OpenTables) → (p ≡ q → ⊥) → process_at (set ts p t) q ≡ process_at ts q
-process_at-set_other [] p q t other = refl
-process_at-set_other (u ∷ ts) zero zero t other = absurd (other refl)
-process_at-set_other (u ∷ ts) zero (suc q) t other = refl
-process_at-set_other (u ∷ ts) (suc p) zero t other = refl
-process_at-set_other (u ∷ ts) (suc p) (suc q) t other = process_at-set_other ts p q t (λ e. other (ap suc e))
+process_at-set_other ts p q t other =
+    let nobody : OpenTables = record { descriptors = []; slots = [] } in
+    unwrap_or-slice_get (set ts p t) q nobody ∙ get_or-set_other ts p q t nobody (λ e. other (sym e)) ∙ sym (unwrap_or-slice_get ts q nobody)
 
 pub own_calls_commute : OwnCallsCommute
 own_calls_commute k p q c d other named own keeps =

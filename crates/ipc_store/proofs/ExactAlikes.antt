@@ -7,8 +7,7 @@ use Rattle.ipc_kernel.specs.Processes.{process_refers, is_referred}
 use Rattle.ipc_kernel.specs.Places.{place_at, has_name}
 use Rattle.ipc_kernel.specs.Kernel.{KernelState, IsSettled}
 use Rattle.ipc_kernel.specs.Alike.{renamed_process, IsPermutation, IsRenaming, IsAlike}
-use Rattle.ipc_store.specs.Private.Renamings.{renamed_by, Permutes}
-use Rattle.ipc_store.specs.Private.Renamings.{Follows}
+use Rattle.ipc_store.specs.Private.Renamings.{renamed_by, Permutes, Follows}
 use Rattle.ipc_store.proofs.Renamings.{map_where, process_where}
 use Rattle.ipc_store.proofs.Alikes.{place_at-emptied}
 

@@ -6,8 +6,7 @@ use Rattle.std.proofs.lemmas.List.{get_or_default, get_or_past}
 use Rattle.std.proofs.lemmas.Option.{unwrap_or-slice_get}
 use Rattle.ipc_store.specs.declared.renaming.Renaming.{Renaming}
 use Rattle.ipc_kernel.specs.Alike.{IsPermutation}
-use Rattle.ipc_store.specs.Private.Renamings.{Permutes, renamed_by}
-use Rattle.ipc_store.specs.Private.Renamings.{Follows}
+use Rattle.ipc_store.specs.Private.Renamings.{Permutes, renamed_by, Follows}
 use Rattle.ipc_store.proofs.Alikes.{permutation_then, swap, swap_first, swap_second, swap_other, swap_permutes}
 
 pub renamed_by-read : (to : List ℕ) (i : ℕ) → i < length to → renamed_by to i ≡ get_or to i 0

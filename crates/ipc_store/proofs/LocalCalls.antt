@@ -3,7 +3,7 @@ use Rattle.std.proofs.Common.{◌≡◌, ℕ, ◌-◌, ◌+◌, ◌==◌, Bool, 
 use Rattle.std.specs.Option.{option_map}
 use Rattle.std.specs.List.{list_any}
 use Rattle.ipc_names.specs.declared.errno.Errno.{Errno}
-use Rattle.ipc_names.specs.Flags.{has_flag}
+use Rattle.ipc_names.specs.Flags.{has_flag, o_nonblock}
 use Rattle.ipc_objects.specs.declared.queue.Message.{Message}
 use Rattle.ipc_objects.specs.Queue.{QueueState, with_message}
 use Rattle.ipc_kernel.specs.declared.place.Place.{Place}
@@ -18,15 +18,13 @@ use Rattle.ipc_kernel.specs.Processes.{process_at, descriptor_refers, slot_refer
 use Rattle.ipc_kernel.specs.Places.{place_at, queue_in, semaphore_value, with_queue, with_value, places_or_empty}
 use Rattle.ipc_kernel.specs.Kernel.{KernelState, IsSettled}
 use Rattle.ipc_kernel.specs.Outcomes.{Outcome, refusal, completion, wait_or_again, open_queue, open_semaphore, with_queue_at, with_value_at}
-use Rattle.ipc_kernel.specs.Queues.{mq_send, mq_receive, take_first, mq_getattr, mq_setattr}
+use Rattle.ipc_kernel.specs.Queues.{mq_send, mq_receive, take_first, mq_getattr, mq_setattr, attributes}
 use Rattle.ipc_kernel.specs.Semaphores.{sem_wait, sem_trywait, sem_post, sem_getvalue}
 use Rattle.ipc_kernel.specs.declared.call.Handle.TheVariants.{Mqd, Slot as Sem}
 use Rattle.ipc_kernel.specs.declared.call.Reply.TheVariants.{Plain, Message as received, Attr, Value}
 use Rattle.ipc_names.specs.declared.errno.Errno.TheVariants.{Again, BadDescriptor, Invalid, MessageSize, Overflow}
 use Rattle.ipc_names.specs.Errno.{number_of}
-use Rattle.ipc_names.specs.Flags.{o_nonblock}
 use Rattle.ipc_objects.specs.Limits.{mq_prio_max, sem_value_max}
-use Rattle.ipc_kernel.specs.Queues.{attributes}
 use Rattle.ipc_kernel.specs.Operands.{place_of, with_operand, HasOperand}
 use Rattle.ipc_kernel.proofs.KernelLemmas.{done_settled, settled_with_queue, settled_with_value}
 use Rattle.ipc_store.proofs.SettledTables.{set_back, any_set, settled_same}
@@ -92,6 +90,16 @@ local_value i t o v new r is = record {
 -- the tables of the process
 pub tables_of_operand : (k : KernelState) (p i : ℕ) (t : OpenTables) (o : Place) → HasOperand k p i t o → process_at k.processes p ≡ t
 tables_of_operand k p i t o has = ap (λ x. unwrap_or x (record { descriptors = []; slots = [] })) has.tables
+
+-- a call by what the tables of its process have
+pub local_read : {A : Type 0} (read : OpenTables → Option A) (call : KernelState → ℕ → Option A → Outcome) (i : ℕ) (t : OpenTables) (o : Place) → IsLocal i t o (λ k p. call k p None)
+    → ((x : A) → read t ≡ Some x → IsLocal i t o (λ k p. call k p (Some x))) → IsLocal i t o (λ k p. call k p (read (process_at k.processes p)))
+local_read {A} read call i t o none some =
+    local_same i t o _ (λ k p. call k p (read t)) (λ k p s has. ap (λ u. call k p (read u)) (tables_of_operand k p i t o has)) (by (read t) refl)
+  where
+    by : (x : Option A) → read t ≡ x → IsLocal i t o (λ k p. call k p x)
+    by None e = none
+    by (Some x) e = some x e
 
 -- what is held is there
 pub held_in : {H : Type 0} (x : Option (Option H)) (h : H) → unwrap_or x None ≡ Some h → x ≡ Some (Some h)

@@ -97,29 +97,33 @@ queue_written ps t named i q r = written ps t (λ qs. with_queue_in qs i q) r (k
 value_written : (ps : List Place) (t : OpenTables) → are_named ps ≡ true → (i v : ℕ) (r : Reply) → IsOfTables ps t (λ k p. completion (with_value_at k i v) r)
 value_written ps t named i v r = written ps t (λ qs. with_value_in qs i v) r (keeps_value ps i v named)
 
+of_found : {A : Type 0} (ps : List Place) (t : OpenTables) (call : KernelState → ℕ → Option A → Outcome) → IsOfTables ps t (λ k p. call k p None) → ((x : A) → IsOfTables ps t (λ k p. call k p (Some x)))
+    → (o : Option A) → IsOfTables ps t (λ k p. call k p o)
+of_found ps t call none some None = none
+of_found ps t call none some (Some x) = some x
+
 -- a call on what an open descriptor or slot refers to
-queue_call : (ps : List Place) (t : OpenTables) (d : ℕ) (call : KernelState → ℕ → Option (Descriptor × QueueState) → Outcome) → ((o : Option (Descriptor × QueueState)) → IsOfTables ps t (λ k p. call k p o))
-    → IsOfTables ps t (λ k p. call k p (open_queue k p d))
-queue_call ps t d call each =
+queue_call : (ps : List Place) (t : OpenTables) (d : ℕ) (call : KernelState → ℕ → Option (Descriptor × QueueState) → Outcome) → IsOfTables ps t (λ k p. call k p None)
+    → ((held : Descriptor × QueueState) → IsOfTables ps t (λ k p. call k p (Some held))) → IsOfTables ps t (λ k p. call k p (open_queue k p d))
+queue_call ps t d call none some =
     let read : List Place → OpenTables → Option (Descriptor × QueueState) = λ qs u. option_and_then (λ held. option_map (λ q. (held, q)) (queue_in (place_at qs held.place))) (held_by d u) in
     of_same ps t _ (λ k p. call k p (read ps t))
     (λ k p at has. ap (λ qs. call k p (read qs (process_at k.processes p))) at ∙ ap (λ u. call k p (read ps u)) has)
-    (each (read ps t))
+    (of_found ps t call none some (read ps t))
 
-semaphore_call : (ps : List Place) (t : OpenTables) (s : ℕ) (call : KernelState → ℕ → Option (Slot × ℕ) → Outcome) → ((o : Option (Slot × ℕ)) → IsOfTables ps t (λ k p. call k p o))
-    → IsOfTables ps t (λ k p. call k p (open_semaphore k p s))
-semaphore_call ps t s call each =
+semaphore_call : (ps : List Place) (t : OpenTables) (s : ℕ) (call : KernelState → ℕ → Option (Slot × ℕ) → Outcome) → IsOfTables ps t (λ k p. call k p None)
+    → ((held : Slot × ℕ) → IsOfTables ps t (λ k p. call k p (Some held))) → IsOfTables ps t (λ k p. call k p (open_semaphore k p s))
+semaphore_call ps t s call none some =
     let read : List Place → OpenTables → Option (Slot × ℕ) = λ qs u. option_and_then (λ slot. option_map (λ v. (slot, v)) (semaphore_value (place_at qs slot.place))) (slot_by s u) in
     of_same ps t _ (λ k p. call k p (read ps t))
     (λ k p at has. ap (λ qs. call k p (read qs (process_at k.processes p))) at ∙ ap (λ u. call k p (read ps u)) has)
-    (each (read ps t))
+    (of_found ps t call none some (read ps t))
 
 blocked : (ps : List Place) (t : OpenTables) → are_named ps ≡ true → (h : Descriptor) → IsOfTables ps t (λ k p. wait_or_again k h)
 blocked ps t named h = of_if ps t h.nonblock _ _ (refused ps t named Again) (kept ps t named Wait)
 
-sent : (ps : List Place) (t : OpenTables) → are_named ps ≡ true → (prio : ℕ) (words : List ℕ) (o : Option (Descriptor × QueueState)) → IsOfTables ps t (λ k p. mq_send k prio words o)
-sent ps t named prio words None = refused ps t named BadDescriptor
-sent ps t named prio words (Some held) =
+sent : (ps : List Place) (t : OpenTables) → are_named ps ≡ true → (prio : ℕ) (words : List ℕ) (held : Descriptor × QueueState) → IsOfTables ps t (λ k p. mq_send k prio words (Some held))
+sent ps t named prio words held =
     of_if ps t (held.0.access == 0) _ _ (refused ps t named BadDescriptor)
     (of_if ps t (nat_le mq_prio_max prio) _ _ (refused ps t named Invalid)
     (of_if ps t (nat_lt held.1.message_size (length words)) _ _ (refused ps t named MessageSize)
@@ -130,19 +134,13 @@ first : (ps : List Place) (t : OpenTables) → are_named ps ≡ true → (d : De
 first ps t named d q [] = blocked ps t named d
 first ps t named d q (m ∷ rest) = queue_written ps t named d.place (record q { messages = rest }) (received m.words m.priority)
 
-received_by : (ps : List Place) (t : OpenTables) → are_named ps ≡ true → (len : ℕ) (o : Option (Descriptor × QueueState)) → IsOfTables ps t (λ k p. mq_receive k len o)
-received_by ps t named len None = refused ps t named BadDescriptor
-received_by ps t named len (Some held) =
+received_by : (ps : List Place) (t : OpenTables) → are_named ps ≡ true → (len : ℕ) (held : Descriptor × QueueState) → IsOfTables ps t (λ k p. mq_receive k len (Some held))
+received_by ps t named len held =
     of_if ps t (held.0.access == 1) _ _ (refused ps t named BadDescriptor)
     (of_if ps t (nat_lt len held.1.message_size) _ _ (refused ps t named MessageSize) (first ps t named held.0 held.1 held.1.messages))
 
-attributes_told : (ps : List Place) (t : OpenTables) → are_named ps ≡ true → (o : Option (Descriptor × QueueState)) → IsOfTables ps t (λ k p. mq_getattr k o)
-attributes_told ps t named None = refused ps t named BadDescriptor
-attributes_told ps t named (Some held) = told ps t named (Attr (attributes held.0 held.1))
-
-attributes_set : (ps : List Place) (t : OpenTables) → are_named ps ≡ true → (d flags : ℕ) (o : Option (Descriptor × QueueState)) → IsOfTables ps t (λ k p. mq_setattr k p d flags o)
-attributes_set ps t named d flags None = refused ps t named BadDescriptor
-attributes_set ps t named d flags (Some held) =
+attributes_set : (ps : List Place) (t : OpenTables) → are_named ps ≡ true → (d flags : ℕ) (held : Descriptor × QueueState) → IsOfTables ps t (λ k p. mq_setattr k p d flags (Some held))
+attributes_set ps t named d flags held =
     of_if ps t (has_flag 63487 flags) _ _ (refused ps t named Invalid)
     (of_tables ps t _ named (tables_held (λ qs. qs ≡ ps) (fit ps named) t d (Some (record held.0 { nonblock = has_flag o_nonblock flags })) (Attr (attributes held.0 held.1))))
 
@@ -225,37 +223,24 @@ semaphore_opened ps t named name flags value = by (semaphore_named ps name) refl
     by None e = of_same ps t _ _ (λ k p at has. open_is None e k p at) (semaphore_opened_new ps t named name flags value e)
     by (Some i) e = of_same ps t _ _ (λ k p at has. open_is (Some i) e k p at) (of_tables ps t _ named (tables_sem_open (λ qs. qs ≡ ps) (fit ps named) t name flags value i))
 
-waited : (ps : List Place) (t : OpenTables) → are_named ps ≡ true → (o : Option (Slot × ℕ)) → IsOfTables ps t (λ k p. sem_wait k o)
-waited ps t named None = refused ps t named Invalid
-waited ps t named (Some held) = of_if ps t (held.1 == 0) _ _ (kept ps t named Wait) (value_written ps t named held.0.place (held.1 - 1) (Plain 0))
-
-tried : (ps : List Place) (t : OpenTables) → are_named ps ≡ true → (o : Option (Slot × ℕ)) → IsOfTables ps t (λ k p. sem_trywait k o)
-tried ps t named None = refused ps t named Invalid
-tried ps t named (Some held) = of_if ps t (held.1 == 0) _ _ (refused ps t named Again) (value_written ps t named held.0.place (held.1 - 1) (Plain 0))
-
-posted : (ps : List Place) (t : OpenTables) → are_named ps ≡ true → (o : Option (Slot × ℕ)) → IsOfTables ps t (λ k p. sem_post k o)
-posted ps t named None = refused ps t named Invalid
-posted ps t named (Some held) = of_if ps t (held.1 == sem_value_max) _ _ (refused ps t named Overflow) (value_written ps t named held.0.place (held.1 + 1) (Plain 0))
-
-value_told : (ps : List Place) (t : OpenTables) → are_named ps ≡ true → (o : Option (Slot × ℕ)) → IsOfTables ps t (λ k p. sem_getvalue k o)
-value_told ps t named None = refused ps t named Invalid
-value_told ps t named (Some held) = told ps t named (Value held.1)
-
 -- each call that takes no name away
 pub of_call : (ps : List Place) (t : OpenTables) (c : Call) → are_named ps ≡ true → is_unlink c ≡ false → IsOfTables ps t (λ k p. answer k p c)
 unfolding answer
 of_call ps t (MqOpen name flags attr) named keeps = queue_opened ps t named name (sizes_asked attr) (flags_read flags)
 of_call ps t (MqClose d) named keeps = of_tables ps t _ named (tables_mq_close (λ qs. qs ≡ ps) (fit ps named) t d)
 of_call ps t (MqUnlink name) named keeps = absurd (cc)
-of_call ps t (MqSend d words prio) named keeps = queue_call ps t d (λ k p o. mq_send k prio words o) (sent ps t named prio words)
-of_call ps t (MqReceive d len) named keeps = queue_call ps t d (λ k p o. mq_receive k len o) (received_by ps t named len)
-of_call ps t (MqGetattr d) named keeps = queue_call ps t d (λ k p o. mq_getattr k o) (attributes_told ps t named)
-of_call ps t (MqSetattr d flags) named keeps = queue_call ps t d (λ k p o. mq_setattr k p d flags o) (attributes_set ps t named d flags)
+of_call ps t (MqSend d words prio) named keeps = queue_call ps t d (λ k p o. mq_send k prio words o) (refused ps t named BadDescriptor) (sent ps t named prio words)
+of_call ps t (MqReceive d len) named keeps = queue_call ps t d (λ k p o. mq_receive k len o) (refused ps t named BadDescriptor) (received_by ps t named len)
+of_call ps t (MqGetattr d) named keeps = queue_call ps t d (λ k p o. mq_getattr k o) (refused ps t named BadDescriptor) (λ held. told ps t named (Attr (attributes held.0 held.1)))
+of_call ps t (MqSetattr d flags) named keeps = queue_call ps t d (λ k p o. mq_setattr k p d flags o) (refused ps t named BadDescriptor) (attributes_set ps t named d flags)
 of_call ps t (SemOpen name flags value) named keeps = semaphore_opened ps t named name flags value
 of_call ps t (SemClose s) named keeps = of_tables ps t _ named (tables_sem_close (λ qs. qs ≡ ps) (fit ps named) t s)
 of_call ps t (SemUnlink name) named keeps = absurd (cc)
-of_call ps t (SemWait s) named keeps = semaphore_call ps t s (λ k p o. sem_wait k o) (waited ps t named)
-of_call ps t (SemTrywait s) named keeps = semaphore_call ps t s (λ k p o. sem_trywait k o) (tried ps t named)
-of_call ps t (SemPost s) named keeps = semaphore_call ps t s (λ k p o. sem_post k o) (posted ps t named)
-of_call ps t (SemGetvalue s) named keeps = semaphore_call ps t s (λ k p o. sem_getvalue k o) (value_told ps t named)
+of_call ps t (SemWait s) named keeps = semaphore_call ps t s (λ k p o. sem_wait k o) (refused ps t named Invalid)
+    (λ held. of_if ps t (held.1 == 0) _ _ (kept ps t named Wait) (value_written ps t named held.0.place (held.1 - 1) (Plain 0)))
+of_call ps t (SemTrywait s) named keeps = semaphore_call ps t s (λ k p o. sem_trywait k o) (refused ps t named Invalid)
+    (λ held. of_if ps t (held.1 == 0) _ _ (refused ps t named Again) (value_written ps t named held.0.place (held.1 - 1) (Plain 0)))
+of_call ps t (SemPost s) named keeps = semaphore_call ps t s (λ k p o. sem_post k o) (refused ps t named Invalid)
+    (λ held. of_if ps t (held.1 == sem_value_max) _ _ (refused ps t named Overflow) (value_written ps t named held.0.place (held.1 + 1) (Plain 0)))
+of_call ps t (SemGetvalue s) named keeps = semaphore_call ps t s (λ k p o. sem_getvalue k o) (refused ps t named Invalid) (λ held. told ps t named (Value held.1))
 of_call ps t Exit named keeps = of_tables ps t _ named (tables_exit (λ qs. qs ≡ ps) (fit ps named) t)

@@ -9,6 +9,7 @@ use Rattle.ipc_kernel.specs.Operands.{are_named}
 use Rattle.std.proofs.lemmas.Bool.{and_parts}
 use Rattle.std.proofs.lemmas.List.Folds.{position_or_len-set}
 use Rattle.std.proofs.lemmas.Option.{unwrap_or-slice_get}
+use Rattle.ipc_store.proofs.SettledTables.{all_at}
 use Rattle.ipc_kernel.proofs.IndexLemmas.{is_name-true, queue_name-with_queue, semaphore_name-with_queue, queue_name-with_value, semaphore_name-with_value}
 
 -- whether what is in a place is nothing, or has a name
@@ -23,12 +24,6 @@ pub record KeepNames (ps qs : List Place) : Type 0 where
 
 pub names_kept : (ps : List Place) → are_named ps ≡ true → KeepNames ps ps
 names_kept ps named = record { named = named; queues = λ n i e. e; semaphores = λ n i e. e }
-
--- what all pass, one of them passes
-pub all_at : {A : Type 0} (test : A → Bool) (xs : List A) (i : ℕ) (d : A) → test d ≡ true → list_all test xs ≡ true → test (unwrap_or (slice_get xs i) d) ≡ true
-all_at test [] i d past e = past
-all_at test (x ∷ xs) zero d past e = (and_parts (test x) (list_all test xs) e).0
-all_at test (x ∷ xs) (suc i) d past e = all_at test xs i d past (and_parts (test x) (list_all test xs) e).1
 
 -- what each passes, all pass
 pub all_by : {A : Type 0} (test : A → Bool) (xs : List A) (d : A) → ((i : ℕ) → test (unwrap_or (slice_get xs i) d) ≡ true) → list_all test xs ≡ true

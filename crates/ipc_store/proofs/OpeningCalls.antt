@@ -1,8 +1,8 @@
 -- Opens, and closes of objects that have a name: what they depend on, and what they change.
-use Rattle.std.proofs.Common.{◌≡◌, ℕ, ◌-◌, ◌+◌, ◌==◌, Bool, true, false, cond, ◌||◌, ◌&&◌, not, nat_lt, List, set, Option, Some, None, Result, Ok, Err, is_none, position, slice_get, refl, sym, ap, ◌∙◌}
+use Rattle.std.proofs.Common.{◌≡◌, ℕ, ◌-◌, ◌+◌, ◌==◌, true, false, cond, ◌&&◌, not, nat_lt, List, set, Option, Some, None, Result, Ok, Err, is_none, position, slice_get, refl, sym, ap, ◌∙◌, inl, inr}
 use Rattle.std.specs.List.{list_any}
 use Rattle.std.specs.Option.{option_map}
-use Rattle.std.proofs.lemmas.Bool.{ne_eqb}
+use Rattle.std.proofs.lemmas.Bool.{false≢true, ne_eqb, or_cases, or_left, or_right}
 use Rattle.std.proofs.lemmas.Option.{slice_get_within}
 use Rattle.ipc_names.specs.declared.errno.Errno.{Errno}
 use Rattle.ipc_names.specs.declared.errno.Errno.TheVariants.{BadDescriptor, Exists, Invalid, NoEntry, TooManyOpen}
@@ -28,16 +28,8 @@ use Rattle.ipc_kernel.specs.Semaphores.{new_slot, one_more_open, sem_open_place,
 use Rattle.ipc_kernel.specs.declared.call.Handle.TheVariants.{Mqd, Slot as Sem}
 use Rattle.ipc_kernel.specs.Operands.{place_of, with_operand, HasOperand}
 use Rattle.ipc_kernel.proofs.KernelLemmas.{done_settled, settled_set}
-use Rattle.ipc_store.proofs.SettledTables.{any_set, or_rest, any_more, first_free, place_named, settled_more, settled_but}
-use Rattle.ipc_store.proofs.LocalCalls.{IsLocal, LeaveSettled, local_same, local_if, local_refused, local_held, local_slot, leave_same, held_in, held_by, slot_by, with_held, with_slot_held, held_refers, slot_held_refers, tables_of_operand, place_of_operand}
-
-or_more : (a b c : Bool) → (a ≡ true → b ≡ true) → (a || c) ≡ true → (b || c) ≡ true
-or_more true b c more h = rw (more refl) refl
-or_more false true c more h = refl
-or_more false false c more h = h
-
-no_more : false ≡ true → {A : Type 0} → A
-no_more e = absurd (cc)
+use Rattle.ipc_store.proofs.SettledTables.{any_set, any_more, first_free, place_named, settled_more, settled_but}
+use Rattle.ipc_store.proofs.LocalCalls.{IsLocal, LeaveSettled, local_same, local_read, local_if, local_refused, local_held, local_slot, leave_same, held_in, held_by, slot_by, with_held, with_slot_held, held_refers, slot_held_refers, tables_of_operand, place_of_operand}
 
 -- tables that refer to more places
 leave_more : (i : ℕ) (t : OpenTables) (o : Place) (u : OpenTables) → ((n : ℕ) → process_refers n t ≡ true → process_refers n u ≡ true) → LeaveSettled i t o u
@@ -67,26 +59,22 @@ local_made i t o new u r named more = record {
 
 -- tables with something in their first free descriptor, and in their first free slot, refer to more places
 more_held : (t : OpenTables) (d : ℕ) (held : Option Descriptor) → position is_none t.descriptors ≡ Some d → (n : ℕ) → process_refers n t ≡ true → process_refers n (with_held t d held) ≡ true
-more_held t d held e n =
-    or_more (list_any (descriptor_refers n) t.descriptors) (list_any (descriptor_refers n) (set t.descriptors d held)) (list_any (slot_refers n) t.slots)
-    (any_more (descriptor_refers n) t.descriptors d None held (first_free t.descriptors d e) (λ no. no_more no))
+more_held t d held e n h = elim (or_cases (list_any (descriptor_refers n) t.descriptors) (list_any (slot_refers n) t.slots) h) [
+  | inl here ↦ or_left _ _ (any_more (descriptor_refers n) t.descriptors d None held (first_free t.descriptors d e) (λ no. absurd (false≢true no)) here)
+  | inr slot ↦ or_right (list_any (descriptor_refers n) (set t.descriptors d held)) _ slot
+]
 
 more_slot_held : (t : OpenTables) (s : ℕ) (held : Option Slot) → position is_none t.slots ≡ Some s → (n : ℕ) → process_refers n t ≡ true → process_refers n (with_slot_held t s held) ≡ true
-more_slot_held t s held e n =
-    or_rest (list_any (descriptor_refers n) t.descriptors) (list_any (slot_refers n) t.slots) (list_any (slot_refers n) (set t.slots s held))
-    (any_more (slot_refers n) t.slots s None held (first_free t.slots s e) (λ no. no_more no))
+more_slot_held t s held e n h = elim (or_cases (list_any (descriptor_refers n) t.descriptors) (list_any (slot_refers n) t.slots) h) [
+  | inl descriptor ↦ or_left _ _ descriptor
+  | inr here ↦ or_right (list_any (descriptor_refers n) t.descriptors) _ (any_more (slot_refers n) t.slots s None held (first_free t.slots s e) (λ no. absurd (false≢true no)) here)
+]
 
 -- a queue is opened
-opened_at : (i : ℕ) (t : OpenTables) (o : Place) (flags : Flags) (x : Option ℕ) → position is_none t.descriptors ≡ x → IsLocal i t o (λ k p. new_descriptor k p i flags x)
-opened_at i t o flags None e = local_refused i t o TooManyOpen
-opened_at i t o flags (Some d) e =
-    let held : Option Descriptor = Some (descriptor_for i flags) in
-    local_held i t o d held (Plain d) (leave_more i t o (with_held t d held) (more_held t d held e))
-
 local_opened : (i : ℕ) (t : OpenTables) (o : Place) (flags : Flags) → IsLocal i t o (λ k p. new_descriptor k p i flags (free_descriptor_of k.processes p))
-local_opened i t o flags = local_same i t o _ (λ k p. new_descriptor k p i flags (position is_none t.descriptors))
-    (λ k p s has. ap (λ (x : OpenTables). new_descriptor k p i flags (position is_none x.descriptors)) (tables_of_operand k p i t o has))
-    (opened_at i t o flags (position is_none t.descriptors) refl)
+local_opened i t o flags = local_read (λ (u : OpenTables). position is_none u.descriptors) (λ k p x. new_descriptor k p i flags x) i t o (local_refused i t o TooManyOpen) (λ d e.
+    let held : Option Descriptor = Some (descriptor_for i flags) in
+    local_held i t o d held (Plain d) (leave_more i t o (with_held t d held) (more_held t d held e)))
 
 -- mq_open of a name by the place of its queue
 abbrev pub mq_open_at : KernelState → ℕ → List ℕ → ℕ × ℕ → Option ℕ → Result Flags Errno → Outcome
@@ -119,16 +107,10 @@ mq_make_is : (k : KernelState) (p i : ℕ) (name : List ℕ) (sizes : ℕ × ℕ
 mq_make_is k p i name sizes flags None e = refl
 mq_make_is k p i name sizes flags (Some d) e = ap (mq_create_at k p d name sizes flags) e
 
-queue_made : (i : ℕ) (t : OpenTables) (o : Place) (name : List ℕ) (sizes : ℕ × ℕ) (flags : Flags) (x : Option ℕ) → position is_none t.descriptors ≡ x
-    → IsLocal i t o (λ k p. mq_make k p i name sizes flags x)
-queue_made i t o name sizes flags None e = local_refused i t o TooManyOpen
-queue_made i t o name sizes flags (Some d) e = queue_made_at i t o name sizes flags d e
-
 local_queue_made : (i : ℕ) (t : OpenTables) (o : Place) (name : List ℕ) (sizes : ℕ × ℕ) (flags : Flags)
     → IsLocal i t o (λ k p. mq_make k p i name sizes flags (free_descriptor_of k.processes p))
-local_queue_made i t o name sizes flags = local_same i t o _ (λ k p. mq_make k p i name sizes flags (position is_none t.descriptors))
-    (λ k p s has. ap (λ (x : OpenTables). mq_make k p i name sizes flags (position is_none x.descriptors)) (tables_of_operand k p i t o has))
-    (queue_made i t o name sizes flags (position is_none t.descriptors) refl)
+local_queue_made i t o name sizes flags =
+    local_read (λ (u : OpenTables). position is_none u.descriptors) (λ k p x. mq_make k p i name sizes flags x) i t o (local_refused i t o TooManyOpen) (queue_made_at i t o name sizes flags)
 
 -- mq_open of a name that no queue has, where place i is the least empty one
 abbrev pub mq_open_new : KernelState → ℕ → ℕ → List ℕ → ℕ × ℕ → Result Flags Errno → Outcome
@@ -151,31 +133,20 @@ local_mq_open_new name sizes (Ok flags) i t o =
     (local_if i t o flags.create _ _ (local_queue_made i t o name sizes flags) (local_refused i t o NoEntry))
 
 -- a semaphore is opened
-slot_at : (i : ℕ) (t : OpenTables) (o : Place) (x : Option ℕ) → position is_none t.slots ≡ x → IsLocal i t o (λ k p. new_slot k p i x)
-slot_at i t o None e = local_refused i t o TooManyOpen
-slot_at i t o (Some s) e =
+local_new_slot : (i : ℕ) (t : OpenTables) (o : Place) → IsLocal i t o (λ k p. new_slot k p i (free_slot_of k.processes p))
+local_new_slot i t o = local_read (λ (u : OpenTables). position is_none u.slots) (λ k p x. new_slot k p i x) i t o (local_refused i t o TooManyOpen) (λ s e.
     let held : Option Slot = Some (record { place = i; opens = 1 }) in
-    local_slot i t o s held (Plain s) (leave_more i t o (with_slot_held t s held) (more_slot_held t s held e))
+    local_slot i t o s held (Plain s) (leave_more i t o (with_slot_held t s held) (more_slot_held t s held e)))
 
-once_more : (i : ℕ) (t : OpenTables) (o : Place) (s : ℕ) (x : Option Slot) → slot_by s t ≡ x → IsLocal i t o (λ k p. one_more_open k p s x)
-once_more i t o s None e = local_refused i t o Invalid
-once_more i t o s (Some h) e =
+once_more : (i : ℕ) (t : OpenTables) (o : Place) (s : ℕ) → IsLocal i t o (λ k p. one_more_open k p s (slot_of k.processes p s))
+once_more i t o s = local_read (slot_by s) (λ k p x. one_more_open k p s x) i t o (local_refused i t o Invalid) (λ h e.
     let held : Option Slot = Some (record h { opens = h.opens + 1 }) in
     local_if i t o (h.opens == opens_max) _ _ (local_refused i t o TooManyOpen)
-    (local_slot i t o s held (Plain s) (leave_same i t o (with_slot_held t s held) (λ n. slot_held_refers t s n (Some h) held (held_in (slice_get t.slots s) h e) refl)))
-
-opened_place : (i : ℕ) (t : OpenTables) (o : Place) (x : Option ℕ) → IsLocal i t o (λ k p. sem_open_place k p i x)
-opened_place i t o None = local_same i t o _ (λ k p. new_slot k p i (position is_none t.slots))
-    (λ k p s has. ap (λ (x : OpenTables). new_slot k p i (position is_none x.slots)) (tables_of_operand k p i t o has))
-    (slot_at i t o (position is_none t.slots) refl)
-opened_place i t o (Some s) = local_same i t o _ (λ k p. one_more_open k p s (slot_by s t))
-    (λ k p settled has. ap (λ x. one_more_open k p s (slot_by s x)) (tables_of_operand k p i t o has))
-    (once_more i t o s (slot_by s t) refl)
+    (local_slot i t o s held (Plain s) (leave_same i t o (with_slot_held t s held) (λ n. slot_held_refers t s n (Some h) held (held_in (slice_get t.slots s) h e) refl))))
 
 local_open_place : (i : ℕ) (t : OpenTables) (o : Place) → IsLocal i t o (λ k p. sem_open_place k p i (slot_for k.processes p i))
-local_open_place i t o = local_same i t o _ (λ k p. sem_open_place k p i (position (slot_refers i) t.slots))
-    (λ k p s has. ap (λ (x : OpenTables). sem_open_place k p i (position (slot_refers i) x.slots)) (tables_of_operand k p i t o has))
-    (opened_place i t o (position (slot_refers i) t.slots))
+local_open_place i t o =
+    local_read (λ (u : OpenTables). position (slot_refers i) u.slots) (λ k p x. sem_open_place k p i x) i t o (local_new_slot i t o) (λ s e. once_more i t o s)
 
 -- sem_open of a name by the place of its semaphore
 abbrev pub sem_open_at : KernelState → ℕ → List ℕ → ℕ → ℕ → Option ℕ → Outcome
@@ -206,14 +177,9 @@ sem_make_is : (k : KernelState) (p i : ℕ) (name : List ℕ) (value : ℕ) (x :
 sem_make_is k p i name value None e = refl
 sem_make_is k p i name value (Some s) e = ap (sem_create_at k p s name value) e
 
-semaphore_made : (i : ℕ) (t : OpenTables) (o : Place) (name : List ℕ) (value : ℕ) (x : Option ℕ) → position is_none t.slots ≡ x → IsLocal i t o (λ k p. sem_make k p i name value x)
-semaphore_made i t o name value None e = local_refused i t o TooManyOpen
-semaphore_made i t o name value (Some s) e = semaphore_made_at i t o name value s e
-
 local_semaphore_made : (i : ℕ) (t : OpenTables) (o : Place) (name : List ℕ) (value : ℕ) → IsLocal i t o (λ k p. sem_make k p i name value (free_slot_of k.processes p))
-local_semaphore_made i t o name value = local_same i t o _ (λ k p. sem_make k p i name value (position is_none t.slots))
-    (λ k p s has. ap (λ (x : OpenTables). sem_make k p i name value (position is_none x.slots)) (tables_of_operand k p i t o has))
-    (semaphore_made i t o name value (position is_none t.slots) refl)
+local_semaphore_made i t o name value =
+    local_read (λ (u : OpenTables). position is_none u.slots) (λ k p x. sem_make k p i name value x) i t o (local_refused i t o TooManyOpen) (semaphore_made_at i t o name value)
 
 -- sem_open of a name that no semaphore has, where place i is the least empty one
 abbrev pub sem_open_new : KernelState → ℕ → ℕ → List ℕ → ℕ → ℕ → Outcome
@@ -237,16 +203,11 @@ other_place : (place i n : ℕ) → place ≡ i → (n ≡ i → ⊥) → (place
 other_place place i n e other = ne_eqb place n (λ same. other (sym same ∙ e))
 
 -- a descriptor is closed
-closed_at : (i : ℕ) (t : OpenTables) (o : Place) (d : ℕ) (x : Option Descriptor) → held_by d t ≡ x → ((h : Descriptor) → x ≡ Some h → h.place ≡ i) → has_name o ≡ true → IsLocal i t o (λ k p. mq_close k p d x)
-closed_at i t o d None e at named = local_refused i t o BadDescriptor
-closed_at i t o d (Some h) e at named =
-    local_held i t o d None (Plain 0) (leave_but i t o (with_held t d None) named (λ n other.
-    held_refers t d n (Some h) None (held_in (slice_get t.descriptors d) h e) (sym (other_place h.place i n (at h refl) other))))
-
 pub local_mq_close : (d i : ℕ) (t : OpenTables) (o : Place) → place_of t (Mqd d) ≡ Some i → has_name o ≡ true → IsLocal i t o (λ k p. mq_close k p d (descriptor_of k.processes p d))
-local_mq_close d i t o at named = local_same i t o _ (λ k p. mq_close k p d (held_by d t))
-    (λ k p s has. ap (λ x. mq_close k p d (held_by d x)) (tables_of_operand k p i t o has))
-    (closed_at i t o d (held_by d t) refl (λ h e. let f : Some h.place ≡ Some i = sym (ap (λ x. option_map (λ (y : Descriptor). y.place) x) e) ∙ at in cc) named)
+local_mq_close d i t o at named = local_read (held_by d) (λ k p x. mq_close k p d x) i t o (local_refused i t o BadDescriptor) (λ h e.
+    let same : h.place ≡ i = (let f : Some h.place ≡ Some i = sym (ap (option_map (λ (y : Descriptor). y.place)) e) ∙ at in cc) in
+    local_held i t o d None (Plain 0) (leave_but i t o (with_held t d None) named (λ n other.
+    held_refers t d n (Some h) None (held_in (slice_get t.descriptors d) h e) (sym (other_place h.place i n same other)))))
 
 -- a slot is closed
 abbrev fewer : Slot → Option Slot
@@ -258,13 +219,8 @@ fewer_refers h i n at other = elim (nat_lt 1 h.opens) as (λ b. slot_refers n (c
   | false ↦ sym (other_place h.place i n at other)
 ]
 
-slot_closed_at : (i : ℕ) (t : OpenTables) (o : Place) (s : ℕ) (x : Option Slot) → slot_by s t ≡ x → ((h : Slot) → x ≡ Some h → h.place ≡ i) → has_name o ≡ true → IsLocal i t o (λ k p. sem_close k p s x)
-slot_closed_at i t o s None e at named = local_refused i t o Invalid
-slot_closed_at i t o s (Some h) e at named =
-    local_slot i t o s (fewer h) (Plain 0) (leave_but i t o (with_slot_held t s (fewer h)) named (λ n other.
-    slot_held_refers t s n (Some h) (fewer h) (held_in (slice_get t.slots s) h e) (fewer_refers h i n (at h refl) other)))
-
 pub local_sem_close : (s i : ℕ) (t : OpenTables) (o : Place) → place_of t (Sem s) ≡ Some i → has_name o ≡ true → IsLocal i t o (λ k p. sem_close k p s (slot_of k.processes p s))
-local_sem_close s i t o at named = local_same i t o _ (λ k p. sem_close k p s (slot_by s t))
-    (λ k p settled has. ap (λ x. sem_close k p s (slot_by s x)) (tables_of_operand k p i t o has))
-    (slot_closed_at i t o s (slot_by s t) refl (λ h e. let f : Some h.place ≡ Some i = sym (ap (λ x. option_map (λ (y : Slot). y.place) x) e) ∙ at in cc) named)
+local_sem_close s i t o at named = local_read (slot_by s) (λ k p x. sem_close k p s x) i t o (local_refused i t o Invalid) (λ h e.
+    let same : h.place ≡ i = (let f : Some h.place ≡ Some i = sym (ap (option_map (λ (y : Slot). y.place)) e) ∙ at in cc) in
+    local_slot i t o s (fewer h) (Plain 0) (leave_but i t o (with_slot_held t s (fewer h)) named (λ n other.
+    slot_held_refers t s n (Some h) (fewer h) (held_in (slice_get t.slots s) h e) (fewer_refers h i n same other))))

@@ -1,12 +1,11 @@
 -- Calls that remove no object: what they depend on, and what they change.
-use Rattle.std.proofs.Common.{◌≡◌, ℕ, Bool, true, false, cond, List, set, Option, Some, None, option_and_then, get_or, position, refl, sym, ap, subst, ◌∙◌, ◌⊎◌, inl, inr}
+use Rattle.std.proofs.Common.{◌≡◌, ℕ, Bool, true, false, cond, List, set, Option, Some, None, option_and_then, get_or, position, refl, sym, ap, subst, ◌∙◌, ◌⊎◌, inl, inr, Result, Ok, Err}
 use Rattle.std.specs.Option.{option_or}
 use Rattle.std.proofs.lemmas.List.Quantifiers.{position-Some}
-use Rattle.std.proofs.lemmas.Option.{unwrap_or-slice_get}
+use Rattle.std.proofs.lemmas.Option.{cond_some, unwrap_or-slice_get}
 use Rattle.ipc_names.specs.declared.errno.Errno.{Errno}
 use Rattle.ipc_names.specs.declared.flags.Flags.{Flags}
 use Rattle.ipc_names.specs.Flags.{flags_read}
-use Rattle.std.proofs.Common.{Result, Ok, Err}
 use Rattle.ipc_kernel.specs.declared.place.Place.{Place}
 use Rattle.ipc_kernel.specs.declared.place.Place.TheVariants.{Empty}
 use Rattle.ipc_kernel.specs.declared.process.OpenTables.{OpenTables}
@@ -109,19 +108,11 @@ sem_opened name flags value i t o = by (is_empty o) refl
 -- the place that is closed, and its object has a name
 closed_place : (ps : List Place) (x : Option ℕ) (i : ℕ) → option_and_then (if_named ps) x ≡ Some i → (x ≡ Some i) × (has_name (place_at ps i) ≡ true)
 closed_place ps None i e = absurd (cc)
-closed_place ps (Some n) i e = by (has_name (place_at ps n)) refl e
-  where
-    by : (b : Bool) → has_name (place_at ps n) ≡ b → cond b (Some n) None ≡ Some i → (Some n ≡ Some i) × (has_name (place_at ps i) ≡ true)
-    by true f g = let same : n ≡ i = cc in (g, ap (λ m. has_name (place_at ps m)) (sym same) ∙ f)
-    by false f g = absurd (cc)
+closed_place ps (Some n) i e = let named = cond_some (has_name (place_at ps n)) n i e in (ap Some named.1, ap (λ m. has_name (place_at ps m)) (sym named.1) ∙ named.0)
 
 -- the end of a process where each object has a name
 all_named : (ps : List Place) (i : ℕ) → cond (are_named ps) (Some 0) None ≡ Some i → are_named ps ≡ true
-all_named ps i e = by (are_named ps) refl e
-  where
-    by : (b : Bool) → are_named ps ≡ b → cond b (Some 0) None ≡ Some i → are_named ps ≡ true
-    by true f g = f
-    by false f g = absurd (cc)
+all_named ps i e = (cond_some (are_named ps) 0 i e).0
 
 ended : (i : ℕ) (t : OpenTables) (o : Place) → IsAnswered Exit i t o
 unfolding answer
@@ -173,14 +164,3 @@ answers_by_operand k j p q c i t o sk sj at_k at_j hk hj =
           let is = written j q i t here.tables u o here.object y hj (subst (λ (x : Outcome). HasOperand x.1 q i u y) (here.same j q sj at_j hj) new) in
           ap (λ (x : Outcome). x.1) (here.same k p sk at_k hk) ∙ sym (ap (λ x. with_operand k p i x u) is.1 ∙ ap (λ x. with_operand k p i here.object x) is.0);
     }
-
--- there is an object in place i, and tables of the process, after the call too
-pub operand_left : (j : KernelState) (q : ℕ) (c : Call) (i : ℕ) (t : OpenTables) (o : Place) → IsSettled j → operand_in j t c ≡ Some i → HasOperand j q i t o
-    → (u : OpenTables) × (y : Place) × HasOperand (answer j q c).1 q i u y
-operand_left j q c i t o s at has =
-    let here = answered j q c i t o at has in
-    let left : HasOperand (with_operand j q i here.object here.tables) q i here.tables here.object = record {
-      tables = get_set j.processes q t here.tables has.tables;
-      object = get_set j.places i o here.object has.object;
-    } in
-    (here.tables, here.object, subst (λ (x : Outcome). HasOperand x.1 q i here.tables here.object) (sym (here.same j q s at has)) left)

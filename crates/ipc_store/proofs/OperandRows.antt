@@ -9,7 +9,7 @@ use Rattle.ipc_kernel.specs.declared.place.Place.{Place}
 use Rattle.ipc_kernel.specs.declared.place.Place.TheVariants.{Empty}
 use Rattle.ipc_kernel.specs.declared.process.OpenTables.{OpenTables}
 use Rattle.ipc_kernel.specs.declared.call.Call.{Call}
-use Rattle.ipc_kernel.specs.declared.call.Call.TheVariants.{MqOpen, MqClose, MqUnlink, MqSend, MqReceive, MqGetattr, MqSetattr, SemOpen, SemClose, SemUnlink, SemWait, SemTrywait, SemPost, SemGetvalue, Exit}
+use Rattle.ipc_kernel.specs.declared.call.Call.TheVariants.{MqSend, MqReceive, MqGetattr, MqSetattr, SemWait, SemTrywait, SemPost, SemGetvalue}
 use Rattle.ipc_kernel.specs.declared.call.Handle.{Handle}
 use Rattle.ipc_kernel.specs.Kernel.{KernelState}
 use Rattle.ipc_kernel.specs.Places.{place_at, is_empty, has_name, is_name, place_named, padded}
@@ -165,18 +165,12 @@ all_there os ts rows kernel ns ms k at_kernel is e =
 
 -- a call on an open object works on that to which its descriptor or slot refers
 pub operand_by_handle : (k : KernelState) (t : OpenTables) (c : Call) (h : Handle) (i : ℕ) → Some h ≡ handle_of c → place_of t h ≡ Some i → operand_in k t c ≡ Some i
-operand_by_handle k t (MqOpen name flags attr) h i e at = absurd (cc)
-operand_by_handle k t (MqClose d) h i e at = absurd (cc)
-operand_by_handle k t (MqUnlink name) h i e at = absurd (cc)
 operand_by_handle k t (MqSend d words prio) h i e at = ap (λ x. option_and_then (place_of t) x) (sym e) ∙ at
 operand_by_handle k t (MqReceive d len) h i e at = ap (λ x. option_and_then (place_of t) x) (sym e) ∙ at
 operand_by_handle k t (MqGetattr d) h i e at = ap (λ x. option_and_then (place_of t) x) (sym e) ∙ at
 operand_by_handle k t (MqSetattr d flags) h i e at = ap (λ x. option_and_then (place_of t) x) (sym e) ∙ at
-operand_by_handle k t (SemOpen name flags value) h i e at = absurd (cc)
-operand_by_handle k t (SemClose s) h i e at = absurd (cc)
-operand_by_handle k t (SemUnlink name) h i e at = absurd (cc)
 operand_by_handle k t (SemWait s) h i e at = ap (λ x. option_and_then (place_of t) x) (sym e) ∙ at
 operand_by_handle k t (SemTrywait s) h i e at = ap (λ x. option_and_then (place_of t) x) (sym e) ∙ at
 operand_by_handle k t (SemPost s) h i e at = ap (λ x. option_and_then (place_of t) x) (sym e) ∙ at
 operand_by_handle k t (SemGetvalue s) h i e at = ap (λ x. option_and_then (place_of t) x) (sym e) ∙ at
-operand_by_handle k t Exit h i e at = absurd (cc)
+operand_by_handle k t other h i e at = absurd (cc)

@@ -1,7 +1,7 @@
 -- Kernels in which other tables of a process leave each place as it was.
-use Rattle.std.proofs.Common.{◌≡◌, ℕ, ◌<◌, Bool, true, false, cond, ◌||◌, List, [], ◌∷◌, zero, suc, length, get_or, set, arith, Option, Some, None, is_none, position, slice_get, refl, sym, ap, ◌∙◌, inl, inr}
+use Rattle.std.proofs.Common.{◌≡◌, ℕ, ◌<◌, Bool, true, false, cond, ◌||◌, List, [], ◌∷◌, zero, suc, length, get_or, set, arith, Option, Some, None, is_none, position, unwrap_or, slice_get, refl, sym, ap, ◌∙◌, inl, inr}
 use Rattle.std.specs.List.{list_any, list_all}
-use Rattle.std.proofs.lemmas.Bool.{and_parts}
+use Rattle.std.proofs.lemmas.Bool.{and_parts, cases_eq}
 use Rattle.std.proofs.lemmas.List.{ext_get_or, set-get_or}
 use Rattle.std.proofs.lemmas.List.Quantifiers.{position-Some}
 use Rattle.std.proofs.lemmas.Option.{unwrap_or-slice_get, get_or_from_slice_get}
@@ -12,7 +12,7 @@ use Rattle.ipc_kernel.specs.Processes.{is_referred}
 use Rattle.ipc_kernel.specs.Places.{place_at, is_empty, has_name, place_or_empty, places_or_empty}
 use Rattle.ipc_kernel.specs.Operands.{are_named}
 use Rattle.ipc_kernel.proofs.PlaceLemmas.{get_or-emptied, length-emptied}
-use Rattle.ipc_kernel.proofs.KernelLemmas.{kept-Empty, settled_by, settled_at, same_or_other}
+use Rattle.ipc_kernel.proofs.KernelLemmas.{kept-Empty, settled_by, settled_at}
 
 -- an element that is written back changes nothing
 pub set_back : {A : Type 0} (xs : List A) (i : ℕ) (x : A) → slice_get xs i ≡ Some x → set xs i x ≡ xs
@@ -30,7 +30,7 @@ any_set test [] i x y e same = refl
 any_set test (z ∷ xs) zero x y e same = let old : z ≡ x = cc in rw (old, same) refl
 any_set test (z ∷ xs) (suc i) x y e same = ap (λ b. test z || b) (any_set test xs i x y e same)
 
-pub or_rest : (b c d : Bool) → (c ≡ true → d ≡ true) → (b || c) ≡ true → (b || d) ≡ true
+or_rest : (b c d : Bool) → (c ≡ true → d ≡ true) → (b || c) ≡ true → (b || d) ≡ true
 or_rest true c d more h = refl
 or_rest false c d more h = more h
 
@@ -81,21 +81,22 @@ place_named ps n x e = rw e refl
 
 -- other references to a place with a name leave each as it was
 pub settled_but : (ps qs : List OpenTables) (places : List Place) (i : ℕ) → has_name (place_at places i) ≡ true → ((n : ℕ) → (n ≡ i → ⊥) → is_referred qs n ≡ is_referred ps n) → places_or_empty ps places ≡ places → places_or_empty qs places ≡ places
-settled_but ps qs places i named same s = settled_by qs places (λ n h. elim (same_or_other n i) [
+settled_but ps qs places i named same s = settled_by qs places (λ n h. elim (cases_eq n i) [
   | inl is ↦ place_named qs n (get_or places n Empty) (ap (λ m. has_name (get_or places m Empty)) is ∙ ap has_name (sym (unwrap_or-slice_get places i Empty)) ∙ named)
   | inr other ↦ ap (λ b. cond (has_name (get_or places n Empty) || b) (get_or places n Empty) Empty) (same n other) ∙ settled_at ps places s n Empty h
 ])
 
--- where each object has a name, each place is left as it was, whatever refers to it
-each_passes : {A : Type 0} (test : A → Bool) (xs : List A) (n : ℕ) (d : A) → n < length xs → list_all test xs ≡ true → test (get_or xs n d) ≡ true
-each_passes test [] n d h e = absurd (omega arith)
-each_passes test (x ∷ xs) zero d h e = (and_parts (test x) (list_all test xs) e).0
-each_passes test (x ∷ xs) (suc n) d h e = each_passes test xs n d (omega arith) (and_parts (test x) (list_all test xs) e).1
+-- what all pass, one of them passes
+pub all_at : {A : Type 0} (test : A → Bool) (xs : List A) (i : ℕ) (d : A) → test d ≡ true → list_all test xs ≡ true → test (unwrap_or (slice_get xs i) d) ≡ true
+all_at test [] i d past e = past
+all_at test (x ∷ xs) zero d past e = (and_parts (test x) (list_all test xs) e).0
+all_at test (x ∷ xs) (suc i) d past e = all_at test xs i d past (and_parts (test x) (list_all test xs) e).1
 
+-- where each object has a name, each place is left as it was, whatever refers to it
 place_kept : (ps : List OpenTables) (n : ℕ) (x : Place) → (is_empty x || has_name x) ≡ true → place_or_empty ps n x ≡ x
 place_kept ps n Empty e = kept-Empty ps n
 place_kept ps n (Mq name queue) e = place_named ps n (Mq name queue) e
 place_kept ps n (Sem name value) e = place_named ps n (Sem name value) e
 
 pub settled_named : (ps : List OpenTables) (places : List Place) → are_named places ≡ true → places_or_empty ps places ≡ places
-settled_named ps places e = settled_by ps places (λ n h. place_kept ps n (get_or places n Empty) (each_passes (λ p. is_empty p || has_name p) places n Empty h e))
+settled_named ps places e = settled_by ps places (λ n h. place_kept ps n (get_or places n Empty) (ap (λ p. is_empty p || has_name p) (sym (unwrap_or-slice_get places n Empty)) ∙ all_at (λ p. is_empty p || has_name p) places n Empty refl e))

@@ -16,7 +16,7 @@ use Rattle.ipc_kernel.specs.declared.call.Answer.{Answer}
 use Rattle.ipc_kernel.specs.declared.call.Answer.TheVariants.{Done}
 use Rattle.ipc_kernel.specs.declared.call.Reply.{Reply}
 use Rattle.ipc_kernel.specs.declared.call.Reply.TheVariants.{Plain}
-use Rattle.ipc_kernel.specs.Processes.{process_at, descriptor_of, slot_of, free_descriptor_of, slot_for, slot_refers, with_descriptor, with_slot, closed_process}
+use Rattle.ipc_kernel.specs.Processes.{process_at, descriptor_of, slot_of, free_descriptor_of, free_slot_of, slot_for, slot_refers, with_descriptor, with_slot, closed_process}
 use Rattle.ipc_kernel.specs.Places.{are_sizes}
 use Rattle.ipc_kernel.specs.Kernel.{KernelState}
 use Rattle.ipc_kernel.specs.Outcomes.{Outcome, refusal, completion}
@@ -85,31 +85,28 @@ tables_slot Fits named t s x r = tables_same Fits t _ (λ k p. completion (recor
 pub tables_exit : (Fits : List Place → Type 0) → FitNamed Fits → (t : OpenTables) → ChangesTables Fits t (λ k p. exit k p)
 tables_exit Fits named t = tables_set Fits named t closed_process (Plain 0)
 
--- a descriptor is closed
-closed : (Fits : List Place → Type 0) → FitNamed Fits → (t : OpenTables) (d : ℕ) (x : Option Descriptor) → ChangesTables Fits t (λ k p. mq_close k p d x)
-closed Fits named t d None = tables_refused Fits t BadDescriptor
-closed Fits named t d (Some held) = tables_held Fits named t d None (Plain 0)
+-- a call by what the tables of its process have
+tables_read : {A : Type 0} (Fits : List Place → Type 0) (t : OpenTables) (read : OpenTables → Option A) (call : KernelState → ℕ → Option A → Outcome) → ChangesTables Fits t (λ k p. call k p None)
+    → ((x : A) → ChangesTables Fits t (λ k p. call k p (Some x))) → ChangesTables Fits t (λ k p. call k p (read (process_at k.processes p)))
+tables_read {A} Fits t read call none some = tables_same Fits t _ (λ k p. call k p (read t)) (λ k p fits has. ap (λ u. call k p (read u)) has) (by (read t))
+  where
+    by : (x : Option A) → ChangesTables Fits t (λ k p. call k p x)
+    by None = none
+    by (Some x) = some x
 
+-- a descriptor is closed
 pub tables_mq_close : (Fits : List Place → Type 0) → FitNamed Fits → (t : OpenTables) (d : ℕ) → ChangesTables Fits t (λ k p. mq_close k p d (descriptor_of k.processes p d))
-tables_mq_close Fits named t d = tables_same Fits t _ (λ k p. mq_close k p d (held_by d t)) (λ k p fits has. ap (λ x. mq_close k p d (held_by d x)) has) (closed Fits named t d (held_by d t))
+tables_mq_close Fits named t d = tables_read Fits t (held_by d) (λ k p x. mq_close k p d x) (tables_refused Fits t BadDescriptor) (λ held. tables_held Fits named t d None (Plain 0))
 
 -- a slot is closed
-slot_closed : (Fits : List Place → Type 0) → FitNamed Fits → (t : OpenTables) (s : ℕ) (x : Option Slot) → ChangesTables Fits t (λ k p. sem_close k p s x)
-slot_closed Fits named t s None = tables_refused Fits t Invalid
-slot_closed Fits named t s (Some h) = tables_slot Fits named t s (cond (nat_lt 1 h.opens) (Some (record h { opens = h.opens - 1 })) None) (Plain 0)
-
 pub tables_sem_close : (Fits : List Place → Type 0) → FitNamed Fits → (t : OpenTables) (s : ℕ) → ChangesTables Fits t (λ k p. sem_close k p s (slot_of k.processes p s))
-tables_sem_close Fits named t s = tables_same Fits t _ (λ k p. sem_close k p s (slot_by s t)) (λ k p fits has. ap (λ x. sem_close k p s (slot_by s x)) has) (slot_closed Fits named t s (slot_by s t))
+tables_sem_close Fits named t s = tables_read Fits t (slot_by s) (λ k p x. sem_close k p s x) (tables_refused Fits t Invalid)
+    (λ h. tables_slot Fits named t s (cond (nat_lt 1 h.opens) (Some (record h { opens = h.opens - 1 })) None) (Plain 0))
 
 -- the queue in place i is opened
-opened_on : (Fits : List Place → Type 0) → FitNamed Fits → (t : OpenTables) (i : ℕ) (flags : Flags) (x : Option ℕ) → ChangesTables Fits t (λ k p. new_descriptor k p i flags x)
-opened_on Fits named t i flags None = tables_refused Fits t TooManyOpen
-opened_on Fits named t i flags (Some d) = tables_held Fits named t d (Some (descriptor_for i flags)) (Plain d)
-
 opened : (Fits : List Place → Type 0) → FitNamed Fits → (t : OpenTables) (i : ℕ) (flags : Flags) → ChangesTables Fits t (λ k p. new_descriptor k p i flags (free_descriptor_of k.processes p))
-opened Fits named t i flags = tables_same Fits t _ (λ k p. new_descriptor k p i flags (position is_none t.descriptors))
-    (λ k p fits has. ap (λ (x : OpenTables). new_descriptor k p i flags (position is_none x.descriptors)) has)
-    (opened_on Fits named t i flags (position is_none t.descriptors))
+opened Fits named t i flags = tables_read Fits t (λ (u : OpenTables). position is_none u.descriptors) (λ k p x. new_descriptor k p i flags x) (tables_refused Fits t TooManyOpen)
+    (λ d. tables_held Fits named t d (Some (descriptor_for i flags)) (Plain d))
 
 pub tables_mq_open : (Fits : List Place → Type 0) → FitNamed Fits → (t : OpenTables) (name : List ℕ) (sizes : ℕ × ℕ) (i : ℕ) (f : Result Flags Errno) → ChangesTables Fits t (λ k p. mq_open_at k p name sizes (Some i) f)
 tables_mq_open Fits named t name sizes i (Err e) = tables_refused Fits t e
@@ -118,25 +115,17 @@ tables_mq_open Fits named t name sizes i (Ok flags) =
     (tables_if Fits t (flags.create && flags.excl) _ _ (tables_refused Fits t Exists) (opened Fits named t i flags))
 
 -- the semaphore in place i is opened
-slot_on : (Fits : List Place → Type 0) → FitNamed Fits → (t : OpenTables) (i : ℕ) (x : Option ℕ) → ChangesTables Fits t (λ k p. new_slot k p i x)
-slot_on Fits named t i None = tables_refused Fits t TooManyOpen
-slot_on Fits named t i (Some s) = tables_slot Fits named t s (Some (record { place = i; opens = 1 })) (Plain s)
+new_slot_opened : (Fits : List Place → Type 0) → FitNamed Fits → (t : OpenTables) (i : ℕ) → ChangesTables Fits t (λ k p. new_slot k p i (free_slot_of k.processes p))
+new_slot_opened Fits named t i = tables_read Fits t (λ (u : OpenTables). position is_none u.slots) (λ k p x. new_slot k p i x) (tables_refused Fits t TooManyOpen)
+    (λ s. tables_slot Fits named t s (Some (record { place = i; opens = 1 })) (Plain s))
 
-once_more : (Fits : List Place → Type 0) → FitNamed Fits → (t : OpenTables) (s : ℕ) (x : Option Slot) → ChangesTables Fits t (λ k p. one_more_open k p s x)
-once_more Fits named t s None = tables_refused Fits t Invalid
-once_more Fits named t s (Some h) =
-    tables_if Fits t (h.opens == opens_max) _ _ (tables_refused Fits t TooManyOpen) (tables_slot Fits named t s (Some (record h { opens = h.opens + 1 })) (Plain s))
-
-opened_by : (Fits : List Place → Type 0) → FitNamed Fits → (t : OpenTables) (i : ℕ) (x : Option ℕ) → ChangesTables Fits t (λ k p. sem_open_place k p i x)
-opened_by Fits named t i None = tables_same Fits t _ (λ k p. new_slot k p i (position is_none t.slots))
-    (λ k p fits has. ap (λ (x : OpenTables). new_slot k p i (position is_none x.slots)) has) (slot_on Fits named t i (position is_none t.slots))
-opened_by Fits named t i (Some s) = tables_same Fits t _ (λ k p. one_more_open k p s (slot_by s t))
-    (λ k p fits has. ap (λ x. one_more_open k p s (slot_by s x)) has) (once_more Fits named t s (slot_by s t))
+once_more : (Fits : List Place → Type 0) → FitNamed Fits → (t : OpenTables) (s : ℕ) → ChangesTables Fits t (λ k p. one_more_open k p s (slot_of k.processes p s))
+once_more Fits named t s = tables_read Fits t (slot_by s) (λ k p x. one_more_open k p s x) (tables_refused Fits t Invalid) (λ h.
+    tables_if Fits t (h.opens == opens_max) _ _ (tables_refused Fits t TooManyOpen) (tables_slot Fits named t s (Some (record h { opens = h.opens + 1 })) (Plain s)))
 
 opened_place : (Fits : List Place → Type 0) → FitNamed Fits → (t : OpenTables) (i : ℕ) → ChangesTables Fits t (λ k p. sem_open_place k p i (slot_for k.processes p i))
-opened_place Fits named t i = tables_same Fits t _ (λ k p. sem_open_place k p i (position (slot_refers i) t.slots))
-    (λ k p fits has. ap (λ (x : OpenTables). sem_open_place k p i (position (slot_refers i) x.slots)) has)
-    (opened_by Fits named t i (position (slot_refers i) t.slots))
+opened_place Fits named t i =
+    tables_read Fits t (λ (u : OpenTables). position (slot_refers i) u.slots) (λ k p x. sem_open_place k p i x) (new_slot_opened Fits named t i) (once_more Fits named t)
 
 pub tables_sem_open : (Fits : List Place → Type 0) → FitNamed Fits → (t : OpenTables) (name : List ℕ) (flags value i : ℕ) → ChangesTables Fits t (λ k p. sem_open_at k p name flags value (Some i))
 tables_sem_open Fits named t name flags value i =

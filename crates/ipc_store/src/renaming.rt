@@ -11,10 +11,7 @@ use ipc_kernel::{Descriptor, OBJECT_PLACES, OPEN_MAX, OpenTables, Slot};
 pub(crate) fn renamed_by(to: &[u8], place: u8) -> u8
     ensures renamed { result ≡ renamed_by to.now place }
 {
-    match to.get(place as usize) {
-        Some(other) => *other,
-        None => place,
-    }
+    to.get(place as usize).copied().unwrap_or(place)
 }
 
 fn renamed_descriptor(held: Option<Descriptor>, to: &[u8]) -> Option<Descriptor>

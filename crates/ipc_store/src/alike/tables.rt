@@ -2,9 +2,8 @@
 ghost use Rattle.std.specs.Prelude.{◌≡◌, ◌↔◌, ℕ, IsTrue, true, map};
 ghost use Rattle.std.specs.Option.{option_map};
 ghost use Rattle.ipc_kernel.specs.Processes.{descriptor_refers, slot_refers, process_refers, is_referred};
-ghost use Rattle.ipc_kernel.specs.Alike.{IsPermutation};
+ghost use Rattle.ipc_kernel.specs.Alike.{IsPermutation, renamed_descriptor, renamed_slot, renamed_process};
 ghost use Rattle.ipc_store.specs.Private.Renamings.{Follows, Permutes, renamed_by};
-ghost use Rattle.ipc_kernel.specs.Alike.{renamed_descriptor, renamed_slot, renamed_process};
 
 use crate::renaming::{Renaming, renamed_by};
 use ipc_kernel::{Descriptor, OPEN_MAX, OpenTables, Slot};

@@ -42,15 +42,6 @@ fn is_name(name: &Name, other: Option<&Name>) -> bool
     }
 }
 
-/// About how many bytes the words of a message take that only one object holds, where they are many: the words and what counts
-/// those that share them.
-fn size_of_words(words: &[u16]) -> usize {
-    if words.len() <= FEW_WORDS {
-        return 0;
-    }
-    size_of_val(words).saturating_add(5 * size_of::<u128>())
-}
-
 /// About how many bytes a copy of an object takes beside its size: the room for the messages of a queue behind the first grows by
 /// doubling, from four, and the words of the message that came last are shared with no object that was kept before.
 fn beside(object: &Place) -> usize {
@@ -65,9 +56,13 @@ fn beside(object: &Place) -> usize {
         0 => 0,
         _ => last.max(4).checked_next_power_of_two().unwrap_or(last),
     };
-    let words = queue
-        .entry(last)
-        .map_or(0, |(_, words)| size_of_words(words));
+    // What counts those that share the words takes as much as five of the greatest numbers.
+    let words = match queue.entry(last) {
+        Some((_, words)) if words.len() > FEW_WORDS => {
+            size_of_val(words).saturating_add(5 * size_of::<u128>())
+        }
+        _ => 0,
+    };
     size_of::<Message>()
         .saturating_mul(room.saturating_sub(last))
         .saturating_add(words)

@@ -1,6 +1,5 @@
 use Rattle.std.proofs.Common.{◌+◌, subst, sym}
-use Rattle.ipc_store.specs.Private.Renamings.{Permutes}
-use Rattle.ipc_store.specs.Private.Renamings.{Follows}
+use Rattle.ipc_store.specs.Private.Renamings.{Permutes, Follows}
 use Rattle.ipc_store.proofs.FollowingRenamings.{NamedBelow, name_taken, no_name_taken}
 use Rattle.ipc_store.proofs.alike.places.take_names.Goals as goal
 use Rattle.ipc_store.proofs.alike.places.take_names.Goals.{in-Some, in_default}

@@ -1,8 +1,7 @@
 use Rattle.std.proofs.Common.{◌≡◌, ℕ}
 use Rattle.ipc_kernel.specs.Places.{place_at}
 use Rattle.ipc_kernel.specs.Alike.{IsPermutation}
-use Rattle.ipc_store.specs.Private.Renamings.{Permutes}
-use Rattle.ipc_store.specs.Private.Renamings.{Follows}
+use Rattle.ipc_store.specs.Private.Renamings.{Permutes, Follows}
 use Rattle.ipc_store.proofs.FollowingRenamings.{NamedBelow}
 use Rattle.ipc_store.proofs.alike.places.take_names.Given as goal
 
