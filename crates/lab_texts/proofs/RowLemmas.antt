@@ -1,5 +1,5 @@
 -- Texts in a row.
-use Rattle.std.proofs.Common.{◌≡◌, ℕ, ◌+◌, [], ◌∷◌, List, ◌++◌, Some, flat_map, take, slice_get, ap, sym, ◌∙◌, append_assoc, append-nil, add-one}
+use Rattle.std.proofs.Common.{◌≡◌, ℕ, ◌+◌, [], ◌∷◌, List, ◌++◌, Some, flat_map, take, slice_get, refl, ap, sym, ◌∙◌, append_assoc, append-nil, add-one}
 use Rattle.std.proofs.lemmas.Option.{slice_get_within, get_or_from_slice_get}
 use Rattle.std.proofs.lemmas.List.{flat_map_more, take_more}
 use Rattle.lab_texts.specs.Rows.{texts_below}
@@ -10,6 +10,11 @@ unfolding texts_below
 texts_below_none bytes text = append-nil bytes
 
 -- one text more
+pub texts_below_next : (i : ℕ) (text : ℕ → List ℕ) → texts_below (i + 1) text ≡ texts_below i text ++ text i
+unfolding texts_below
+texts_below_next i text = rw add-one refl
+
+-- the same behind others
 pub texts_below_more : (bytes : List ℕ) (text : ℕ → List ℕ) (i : ℕ) → (bytes ++ texts_below i text) ++ text i ≡ bytes ++ texts_below (i + 1) text
 unfolding texts_below
 texts_below_more bytes text i = rw add-one (append_assoc bytes (texts_below i text) (text i))

@@ -3,4 +3,3 @@ pub mod Texts
 pub mod Objects
 pub mod Verdicts
 pub mod Reports
-pub mod Private

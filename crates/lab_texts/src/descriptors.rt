@@ -1,7 +1,6 @@
 //! Descriptors and slots.
-ghost use Rattle.std.specs.Prelude.{◌≡◌, ◌<◌, OnOk, IfOk, string_bytes, length};
-ghost use Rattle.lab_texts.specs.Private.Added.{Adds};
-ghost use Rattle.lab_texts.specs.Objects.{access_text, mode_text, descriptor_line, slot_line, descriptor_lines, slot_lines, fds_text};
+ghost use Rattle.std.specs.Prelude.{◌≡◌, ◌++◌, OnOk, IfOk, string_bytes};
+ghost use Rattle.lab_texts.specs.Objects.{access_text, descriptor_line, slot_line, fds_text};
 
 use ipc_kernel::{Descriptor, OPEN_MAX, Slot};
 use lab_sched::World;
@@ -18,65 +17,34 @@ pub fn access_name(access: u8) -> &'static str
     }
 }
 
-/// Whether a call that would wait is refused.
-fn mode_name(nonblock: bool) -> &'static str
-    ensures text { result.now ≡ mode_text nonblock }
-{
-    if nonblock { "nonblock" } else { "block" }
-}
-
 #[tactic(auto, unfolding(crate::specs::Objects::descriptor_line))]
 fn push_descriptor(text: &mut String, mqd: u16, held: Option<Descriptor>) -> Result<(), AllocError>
-    ensures text { OnOk result (Adds text.old text.new (descriptor_line mqd held)) }
+    ensures text { OnOk result (string_bytes text.new ≡ string_bytes text.old
+        ++ descriptor_line mqd held) }
 {
     let Some(held) = held else {
         return Ok(());
     };
     let place = held.place;
     let access = access_name(held.access);
-    let mode = mode_name(held.nonblock);
+    let mode = if held.nonblock { "nonblock" } else { "block" };
     write!(text, "mq {mqd} {place} {access} {mode}\n")?;
     Ok(())
 }
 
 #[tactic(auto, unfolding(crate::specs::Objects::slot_line))]
 fn push_slot(text: &mut String, slot: u16, held: Option<Slot>) -> Result<(), AllocError>
-    ensures text { OnOk result (Adds text.old text.new (slot_line slot held)) }
+    ensures text { OnOk result (string_bytes text.new ≡ string_bytes text.old
+        ++ slot_line slot held) }
 {
-    let Some(held) = held else {
-        return Ok(());
-    };
-    let place = held.place;
-    let opens = held.opens;
-    write!(text, "sem {slot} {place} {opens}\n")?;
-    Ok(())
-}
-
-#[tactic(auto, using(crate::proofs::RowLemmas::texts_below_none))]
-fn push_descriptors(text: &mut String, world: &World, pid: usize) -> Result<(), AllocError>
-    requires process { pid < length world.now.processes }
-    ensures text { OnOk result (Adds text.old text.new (descriptor_lines pid world.now)) }
-{
-    let kernel = world.kernel();
-    for mqd in 0..OPEN_MAX as u16 {
-        push_descriptor(text, mqd, kernel.mqd(pid, mqd))?;
-    }
-    Ok(())
-}
-
-#[tactic(auto, using(crate::proofs::RowLemmas::texts_below_none))]
-fn push_slots(text: &mut String, world: &World, pid: usize) -> Result<(), AllocError>
-    requires process { pid < length world.now.processes }
-    ensures text { OnOk result (Adds text.old text.new (slot_lines pid world.now)) }
-{
-    let kernel = world.kernel();
-    for slot in 0..OPEN_MAX as u16 {
-        push_slot(text, slot, kernel.slot(pid, slot))?;
+    if let Some(Slot { place, opens }) = held {
+        write!(text, "sem {slot} {place} {opens}\n")?;
     }
     Ok(())
 }
 
 /// The open descriptors of process `pid`, and then its open slots.
+#[tactic(auto, using(crate::proofs::RowLemmas::texts_below_none, crate::proofs::RowLemmas::texts_below_next))]
 pub fn fds_text(alloc: Global, world: &World, pid: usize) -> Result<String, AllocError>
     ensures text { IfOk result (λ s. string_bytes s ≡ fds_text pid world.now) }
 {
@@ -84,7 +52,11 @@ pub fn fds_text(alloc: Global, world: &World, pid: usize) -> Result<String, Allo
     if pid >= world.count() {
         return Ok(text);
     }
-    push_descriptors(&mut text, world, pid)?;
-    push_slots(&mut text, world, pid)?;
+    for mqd in 0..OPEN_MAX as u16 {
+        push_descriptor(&mut text, mqd, world.kernel().mqd(pid, mqd))?;
+    }
+    for slot in 0..OPEN_MAX as u16 {
+        push_slot(&mut text, slot, world.kernel().slot(pid, slot))?;
+    }
     Ok(text)
 }

@@ -1,75 +1,15 @@
 //! Ranges of memory.
-ghost use Rattle.std.specs.Prelude.{◌≡◌, ◌≤◌, ◌+◌, OnOk, IfOk, string_bytes};
-ghost use Rattle.lc3_table.specs.Text.{line_text};
-ghost use Rattle.lab_sched.specs.Held.{process_view};
-ghost use Rattle.lab_sched.specs.Worlds.{machine_of};
-ghost use Rattle.lab_texts.specs.Private.Added.{Adds};
-ghost use Rattle.lab_texts.specs.Texts.{word_line, memory_lines, mem_text, dis_text};
+ghost use Rattle.std.specs.Prelude.{◌≡◌, ◌≤◌, ◌+◌, IfOk, string_bytes};
+ghost use Rattle.lab_texts.specs.Texts.{mem_text, dis_text};
 
-use lab_sched::{Process, World};
+use lab_sched::World;
 use lc3_table::WordText;
 use lc3_word::Hex;
 use std::alloc::{AllocError, Global};
 
-#[tactic(auto, unfolding(crate::specs::Texts::word_line))]
-fn push_word(text: &mut String, address: u16, word: u16) -> Result<(), AllocError>
-    ensures text { OnOk result (Adds text.old text.new (word_line address word)) }
-{
-    let place = Hex(address);
-    let content = Hex(word);
-    write!(text, "{place} {content}\n")?;
-    Ok(())
-}
-
-#[tactic(auto, unfolding(lc3_table::specs::Text::line_text))]
-fn push_word_text(text: &mut String, address: u16, word: u16) -> Result<(), AllocError>
-    ensures text { OnOk result (Adds text.old text.new (line_text address word)) }
-{
-    let place = Hex(address);
-    let content = Hex(word);
-    let shown = WordText(word);
-    write!(text, "{place} {content} {shown}\n")?;
-    Ok(())
-}
-
-#[tactic(auto, using(crate::proofs::RowLemmas::texts_below_none))]
-fn push_words(
-    text: &mut String,
-    process: &Process,
-    address: u32,
-    count: u32,
-) -> Result<(), AllocError>
-    requires range { address + count ≤ 65536 }
-    ensures text { OnOk result (Adds text.old text.new
-        (memory_lines word_line address count (machine_of (process_view process.now)))) }
-{
-    for i in 0..count {
-        let place = (address + i) as u16;
-        push_word(text, place, process.machine().word(place))?;
-    }
-    Ok(())
-}
-
-#[tactic(auto, using(crate::proofs::RowLemmas::texts_below_none))]
-fn push_texts(
-    text: &mut String,
-    process: &Process,
-    address: u32,
-    count: u32,
-) -> Result<(), AllocError>
-    requires range { address + count ≤ 65536 }
-    ensures text { OnOk result (Adds text.old text.new
-        (memory_lines line_text address count (machine_of (process_view process.now)))) }
-{
-    for i in 0..count {
-        let place = (address + i) as u16;
-        push_word_text(text, place, process.machine().word(place))?;
-    }
-    Ok(())
-}
-
 /// The words of a range of memory of process `pid`, each on a line with its address, as
 /// `x3000 xE002`.
+#[tactic(auto, using(crate::proofs::RowLemmas::texts_below_none, crate::proofs::RowLemmas::texts_below_next), unfolding(crate::specs::Texts::word_line))]
 pub fn mem_text(
     alloc: Global,
     world: &World,
@@ -84,11 +24,17 @@ pub fn mem_text(
     let Some(process) = world.process(pid) else {
         return Ok(text);
     };
-    push_words(&mut text, process, u32::from(address), count)?;
+    for i in 0..count {
+        let at = (u32::from(address) + i) as u16;
+        let place = Hex(at);
+        let content = Hex(process.machine().word(at));
+        write!(text, "{place} {content}\n")?;
+    }
     Ok(text)
 }
 
 /// The same with the text of each word, as `x3000 xE002 LEA R0,#2`.
+#[tactic(auto, using(crate::proofs::RowLemmas::texts_below_none, crate::proofs::RowLemmas::texts_below_next), unfolding(lc3_table::specs::Text::line_text))]
 pub fn dis_text(
     alloc: Global,
     world: &World,
@@ -103,6 +49,13 @@ pub fn dis_text(
     let Some(process) = world.process(pid) else {
         return Ok(text);
     };
-    push_texts(&mut text, process, u32::from(address), count)?;
+    for i in 0..count {
+        let at = (u32::from(address) + i) as u16;
+        let word = process.machine().word(at);
+        let place = Hex(at);
+        let content = Hex(word);
+        let shown = WordText(word);
+        write!(text, "{place} {content} {shown}\n")?;
+    }
     Ok(text)
 }

@@ -1,21 +1,10 @@
 //! What processes have written.
-ghost use Rattle.std.specs.Prelude.{◌≡◌, ◌<◌, Some, OnOk, IfOk, IsTrue, string_bytes, flat_map};
-ghost use Rattle.lab_sched.specs.Held.{process_view};
-ghost use Rattle.lab_sched.specs.Worlds.{machine_of};
-ghost use Rattle.lab_texts.specs.Private.Added.{Adds};
-ghost use Rattle.lab_texts.specs.Texts.{is_plain, escape_text, escape_of, out_line, out_text};
+ghost use Rattle.std.specs.Prelude.{◌≡◌, Some, IfOk, string_bytes, flat_map};
+ghost use Rattle.lab_texts.specs.Texts.{escape_text, escape_of, out_text};
 
 use lab_sched::World;
 use std::alloc::{AllocError, Global};
 use std::fmt;
-
-#[tactic(auto, unfolding(crate::specs::Texts::is_plain))]
-fn is_plain_byte(byte: u8) -> bool
-    ensures value { result ≡ is_plain byte }
-    ensures ascii { IsTrue result → byte < 128 }
-{
-    32 <= byte && byte <= 126 && byte != b'\\'
-}
 
 /// A byte by its two hexadecimal digits.
 #[derive(Clone, Copy)]
@@ -31,50 +20,49 @@ impl fmt::Display for Escape {
     }
 }
 
-/// Adds a byte so that it can be printed.
-#[tactic(auto, unfolding(crate::specs::Texts::escape_of))]
-fn push_byte(text: &mut String, byte: u8) -> Result<(), AllocError>
-    ensures text { OnOk result (Adds text.old text.new (escape_of byte)) }
-{
-    if is_plain_byte(byte) {
-        text.push(char::from(byte))
-    } else {
-        let escape = Escape(byte);
-        match write!(text, "{escape}") {
-            Ok(()) => Ok(()),
-            Err(error) => Err(error),
+/// A byte so that it can be printed.
+#[derive(Clone, Copy)]
+struct Printed(u8);
+
+impl fmt::Display for Printed {
+    ghost output = { λ p. Some (escape_of p.0) };
+
+    #[tactic(auto, unfolding(crate::specs::Texts::escape_of, crate::specs::Texts::is_plain))]
+    fn fmt<W: fmt::Write>(&self, f: &mut fmt::Formatter<W>) -> fmt::Result {
+        let byte = self.0;
+        if b' ' <= byte && byte <= b'~' && byte != b'\\' {
+            let character = char::from(byte);
+            write!(f, "{character}")
+        } else {
+            let escape = Escape(byte);
+            write!(f, "{escape}")
         }
     }
 }
 
-fn push_escaped(text: &mut String, bytes: &[u8]) -> Result<(), AllocError>
-    ensures text { OnOk result (Adds text.old text.new (flat_map escape_of bytes.now)) }
-{
-    for byte in bytes {
-        push_byte(text, *byte)?;
-    }
-    Ok(())
-}
+/// The output line of process `pid`, where the process is there.
+#[derive(Clone, Copy)]
+pub(crate) struct OutputLine<'a>(pub &'a World, pub usize);
 
-#[tactic(auto, unfolding(crate::specs::Texts::out_line))]
-fn push_line(text: &mut String, pid: usize, bytes: &[u8]) -> Result<(), AllocError>
-    ensures text { OnOk result (Adds text.old text.new (out_line pid bytes.now)) }
-{
-    write!(text, "out {pid}")?;
-    if !bytes.is_empty() {
-        text.push_str(" ")?;
-        push_escaped(text, bytes)?;
-    }
-    text.push_str("\n")
-}
+impl fmt::Display for OutputLine<'_> {
+    ghost output = { λ o. Some (out_text o.1 o.0.now) };
 
-/// The line is added where the process is there.
-pub(crate) fn push_out(text: &mut String, world: &World, pid: usize) -> Result<(), AllocError>
-    ensures text { OnOk result (Adds text.old text.new (out_text pid world.now)) }
-{
-    match world.process(pid) {
-        Some(process) => push_line(text, pid, process.machine().output()),
-        None => Ok(()),
+    #[tactic(auto, unfolding(crate::specs::Texts::out_line))]
+    fn fmt<W: fmt::Write>(&self, f: &mut fmt::Formatter<W>) -> fmt::Result {
+        let OutputLine(world, pid) = *self;
+        let Some(process) = world.process(pid) else {
+            return Ok(());
+        };
+        let output = process.machine().output();
+        write!(f, "out {pid}")?;
+        if !output.is_empty() {
+            write!(f, " ")?;
+        }
+        for byte in output {
+            let byte = Printed(*byte);
+            write!(f, "{byte}")?;
+        }
+        write!(f, "\n")
     }
 }
 
@@ -83,7 +71,6 @@ pub(crate) fn push_out(text: &mut String, world: &World, pid: usize) -> Result<(
 pub fn out_text(alloc: Global, world: &World, pid: usize) -> Result<String, AllocError>
     ensures text { IfOk result (λ s. string_bytes s ≡ out_text pid world.now) }
 {
-    let mut text = String::new(alloc);
-    push_out(&mut text, world, pid)?;
-    Ok(text)
+    let line = OutputLine(world, pid);
+    format!(in alloc; "{line}")
 }

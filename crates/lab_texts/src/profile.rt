@@ -9,8 +9,6 @@ use std::alloc::{AllocError, Global};
 pub fn profile_text(alloc: Global, world: &World) -> Result<String, AllocError>
     ensures text { IfOk result (λ s. string_bytes s ≡ profile_text world.now) }
 {
-    let mut text = String::new(alloc);
     let profile = world.profile();
-    write!(text, "profile {profile}\n")?;
-    Ok(text)
+    format!(in alloc; "profile {profile}\n")
 }

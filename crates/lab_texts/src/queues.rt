@@ -1,8 +1,7 @@
 //! Message queues and their messages.
 ghost use Rattle.std.specs.Prelude.{◌≡◌, ◌++◌, Some, OnOk, IfOk, string_bytes, flat_map};
 ghost use Rattle.std.specs.Option.{option_copied};
-ghost use Rattle.lab_texts.specs.Private.Added.{Adds};
-ghost use Rattle.lab_texts.specs.Objects.{name_text, object_part, sizes_part, word_part, message_line, queue_text, mqs_text};
+ghost use Rattle.lab_texts.specs.Objects.{name_text, object_part, message_line, queue_text, mqs_text};
 
 use ipc_kernel::OBJECT_PLACES;
 use ipc_names::Name;
@@ -30,36 +29,6 @@ impl fmt::Display for NameText<'_> {
     }
 }
 
-/// Adds the place and the name of an object, each with a blank.
-#[tactic(auto, unfolding(crate::specs::Objects::object_part))]
-pub fn push_object(text: &mut String, place: u8, name: Option<&Name>) -> Result<(), AllocError>
-    ensures text { OnOk result (Adds text.old text.new
-        (object_part place (option_copied name.entry))) }
-{
-    let name = NameText(name);
-    write!(text, "{place} {name} ")?;
-    Ok(())
-}
-
-#[tactic(auto, unfolding(crate::specs::Objects::sizes_part))]
-fn push_sizes(text: &mut String, queue: &Queue) -> Result<(), AllocError>
-    ensures text { OnOk result (Adds text.old text.new (sizes_part queue.now)) }
-{
-    let (most, size, count) = queue.attr();
-    write!(text, "{most} {size} {count}\n")?;
-    Ok(())
-}
-
-fn push_words(text: &mut String, words: &[u16]) -> Result<(), AllocError>
-    ensures text { OnOk result (Adds text.old text.new (flat_map word_part words.now)) }
-{
-    for word in words {
-        let word = Hex(*word);
-        write!(text, " {word}")?;
-    }
-    Ok(())
-}
-
 /// Adds the priority and the words of a message, and a line feed.
 #[tactic(auto, unfolding(crate::specs::Objects::message_line))]
 pub fn push_message(text: &mut String, priority: u16, words: &[u16]) -> Result<(), AllocError>
@@ -67,17 +36,21 @@ pub fn push_message(text: &mut String, priority: u16, words: &[u16]) -> Result<(
         ++ message_line (record { priority = priority; words = words.now })) }
 {
     write!(text, " {priority}")?;
-    push_words(text, words)?;
+    for word in words {
+        let word = Hex(*word);
+        write!(text, " {word}")?;
+    }
     text.push_str("\n")
 }
 
 /// Adds the messages of a queue, in the order in which they would be received.
 fn push_messages(text: &mut String, queue: &Queue) -> Result<(), AllocError>
-    ensures text { OnOk result (Adds text.old text.new (flat_map message_line queue.now.messages)) }
+    ensures text { OnOk result (string_bytes text.new ≡ string_bytes text.old
+        ++ flat_map message_line queue.now.messages) }
 {
     let (_, _, count) = queue.attr();
-    for i in 0..count {
-        let Some((priority, words)) = queue.entry(i as usize) else {
+    for i in 0..usize::from(count) {
+        let Some((priority, words)) = queue.entry(i) else {
             return Ok(());
         };
         push_message(text, priority, words)?;
@@ -85,33 +58,41 @@ fn push_messages(text: &mut String, queue: &Queue) -> Result<(), AllocError>
     Ok(())
 }
 
-fn push_place(text: &mut String, world: &World, place: u8) -> Result<(), AllocError>
-    ensures text { OnOk result (Adds text.old text.new (queue_text place world.now)) }
+/// Adds the place and the name of an object, each with a blank.
+#[tactic(auto, unfolding(crate::specs::Objects::object_part))]
+pub fn push_object(text: &mut String, place: u8, name: Option<&Name>) -> Result<(), AllocError>
+    ensures text { OnOk result (string_bytes text.new ≡ string_bytes text.old
+        ++ object_part place (option_copied name.entry)) }
+{
+    let name = NameText(name);
+    write!(text, "{place} {name} ")?;
+    Ok(())
+}
+
+/// Adds the queue in a place, with its messages.
+#[tactic(auto, unfolding(crate::specs::Objects::sizes_part))]
+fn push_queue(text: &mut String, world: &World, place: u8) -> Result<(), AllocError>
+    ensures text { OnOk result (string_bytes text.new ≡ string_bytes text.old
+        ++ queue_text place world.now) }
 {
     let Some((name, queue)) = world.kernel().queue_at(place) else {
         return Ok(());
     };
     push_object(text, place, name)?;
-    push_sizes(text, queue)?;
+    let (most, size, count) = queue.attr();
+    write!(text, "{most} {size} {count}\n")?;
     push_messages(text, queue)
-}
-
-#[tactic(auto, using(crate::proofs::RowLemmas::texts_below_none))]
-fn push_mqs(text: &mut String, world: &World) -> Result<(), AllocError>
-    ensures text { OnOk result (Adds text.old text.new (mqs_text world.now)) }
-{
-    for place in 0..OBJECT_PLACES as u8 {
-        push_place(text, world, place)?;
-    }
-    Ok(())
 }
 
 /// The queues in order of place, each with its messages in the order in which they would be
 /// received.
+#[tactic(auto, using(crate::proofs::RowLemmas::texts_below_none, crate::proofs::RowLemmas::texts_below_next))]
 pub fn mqs_text(alloc: Global, world: &World) -> Result<String, AllocError>
     ensures text { IfOk result (λ s. string_bytes s ≡ mqs_text world.now) }
 {
     let mut text = String::new(alloc);
-    push_mqs(&mut text, world)?;
+    for place in 0..OBJECT_PLACES as u8 {
+        push_queue(&mut text, world, place)?;
+    }
     Ok(text)
 }

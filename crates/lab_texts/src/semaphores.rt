@@ -1,6 +1,5 @@
 //! Semaphores and their values.
-ghost use Rattle.std.specs.Prelude.{◌≡◌, OnOk, IfOk, string_bytes};
-ghost use Rattle.lab_texts.specs.Private.Added.{Adds};
+ghost use Rattle.std.specs.Prelude.{◌≡◌, ◌++◌, OnOk, IfOk, string_bytes};
 ghost use Rattle.lab_texts.specs.Objects.{semaphore_text, sems_text};
 
 use crate::queues::push_object;
@@ -8,8 +7,9 @@ use ipc_kernel::OBJECT_PLACES;
 use lab_sched::World;
 use std::alloc::{AllocError, Global};
 
-fn push_place(text: &mut String, world: &World, place: u8) -> Result<(), AllocError>
-    ensures text { OnOk result (Adds text.old text.new (semaphore_text place world.now)) }
+fn push_semaphore(text: &mut String, world: &World, place: u8) -> Result<(), AllocError>
+    ensures text { OnOk result (string_bytes text.new ≡ string_bytes text.old
+        ++ semaphore_text place world.now) }
 {
     let Some((name, value)) = world.kernel().semaphore_at(place) else {
         return Ok(());
@@ -19,21 +19,14 @@ fn push_place(text: &mut String, world: &World, place: u8) -> Result<(), AllocEr
     Ok(())
 }
 
-#[tactic(auto, using(crate::proofs::RowLemmas::texts_below_none))]
-fn push_sems(text: &mut String, world: &World) -> Result<(), AllocError>
-    ensures text { OnOk result (Adds text.old text.new (sems_text world.now)) }
-{
-    for place in 0..OBJECT_PLACES as u8 {
-        push_place(text, world, place)?;
-    }
-    Ok(())
-}
-
 /// The semaphores in order of place.
+#[tactic(auto, using(crate::proofs::RowLemmas::texts_below_none, crate::proofs::RowLemmas::texts_below_next))]
 pub fn sems_text(alloc: Global, world: &World) -> Result<String, AllocError>
     ensures text { IfOk result (λ s. string_bytes s ≡ sems_text world.now) }
 {
     let mut text = String::new(alloc);
-    push_sems(&mut text, world)?;
+    for place in 0..OBJECT_PLACES as u8 {
+        push_semaphore(&mut text, world, place)?;
+    }
     Ok(text)
 }

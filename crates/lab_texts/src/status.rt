@@ -1,8 +1,7 @@
 //! Status lines.
-ghost use Rattle.std.specs.Prelude.{◌≡◌, Some, OnOk, IfOk, string_bytes};
+ghost use Rattle.std.specs.Prelude.{◌≡◌, Some, IfOk, string_bytes};
 ghost use Rattle.lab_sched.specs.Held.{process_view};
 ghost use Rattle.lab_sched.specs.Worlds.{machine_of};
-ghost use Rattle.lab_texts.specs.Private.Added.{Adds};
 ghost use Rattle.lab_texts.specs.Texts.{how_text, place_text, state_text, status_text, procs_text};
 
 use lab_sched::{Process, World};
@@ -44,7 +43,7 @@ pub fn how_name(how: How) -> &'static str
     }
 }
 
-#[derive(Drop)]
+#[derive(Clone, Copy)]
 struct State<'a>(&'a Process);
 
 impl fmt::Display for State<'_> {
@@ -64,17 +63,24 @@ impl fmt::Display for State<'_> {
     }
 }
 
-/// The line is added where the process is there.
-#[tactic(auto, unfolding(crate::specs::Texts::status_line))]
-pub(crate) fn push_status(text: &mut String, world: &World, pid: usize) -> Result<(), AllocError>
-    ensures text { OnOk result (Adds text.old text.new (status_text pid world.now)) }
-{
-    let Some(process) = world.process(pid) else {
-        return Ok(());
-    };
-    let state = State(process);
-    write!(text, "{pid} {state}\n")?;
-    Ok(())
+/// The status line of process `pid`, where the process is there.
+#[derive(Clone, Copy)]
+pub(crate) struct StatusLine<'a>(pub &'a World, pub usize);
+
+impl fmt::Display for StatusLine<'_> {
+    ghost output = { λ s. Some (status_text s.1 s.0.now) };
+
+    #[tactic(auto, unfolding(crate::specs::Texts::status_line))]
+    fn fmt<W: fmt::Write>(&self, f: &mut fmt::Formatter<W>) -> fmt::Result {
+        let StatusLine(world, pid) = *self;
+        match world.process(pid) {
+            Some(process) => {
+                let state = State(process);
+                write!(f, "{pid} {state}\n")
+            }
+            None => Ok(()),
+        }
+    }
 }
 
 /// The status line of process `pid`, as `0 running x3000 NOP`. A process that isn't there has no
@@ -82,26 +88,19 @@ pub(crate) fn push_status(text: &mut String, world: &World, pid: usize) -> Resul
 pub fn status_text(alloc: Global, world: &World, pid: usize) -> Result<String, AllocError>
     ensures text { IfOk result (λ s. string_bytes s ≡ status_text pid world.now) }
 {
-    let mut text = String::new(alloc);
-    push_status(&mut text, world, pid)?;
-    Ok(text)
-}
-
-#[tactic(auto, using(crate::proofs::RowLemmas::texts_below_none))]
-fn push_procs(text: &mut String, world: &World) -> Result<(), AllocError>
-    ensures text { OnOk result (Adds text.old text.new (procs_text world.now)) }
-{
-    for pid in 0..world.count() {
-        push_status(text, world, pid)?;
-    }
-    Ok(())
+    let line = StatusLine(world, pid);
+    format!(in alloc; "{line}")
 }
 
 /// The status line of each process.
+#[tactic(auto, using(crate::proofs::RowLemmas::texts_below_none, crate::proofs::RowLemmas::texts_below_next))]
 pub fn procs_text(alloc: Global, world: &World) -> Result<String, AllocError>
     ensures text { IfOk result (λ s. string_bytes s ≡ procs_text world.now) }
 {
     let mut text = String::new(alloc);
-    push_procs(&mut text, world)?;
+    for pid in 0..world.count() {
+        let line = StatusLine(world, pid);
+        write!(text, "{line}")?;
+    }
     Ok(text)
 }

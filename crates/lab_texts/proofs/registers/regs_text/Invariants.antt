@@ -3,7 +3,7 @@ use Rattle.lab_sched.specs.Held.{process_view}
 use Rattle.lab_sched.specs.Worlds.{machine_of}
 use Rattle.lab_texts.specs.Texts.{register_part}
 use Rattle.lab_texts.specs.Rows.{texts_below}
-use Rattle.lab_texts.proofs.registers.push_registers.Given as goal
+use Rattle.lab_texts.proofs.registers.regs_text.Given as goal
 
 -- the texts so far are added
 abbrev pub invariant-loop-number : goal.invariant-loop-number

@@ -1,7 +1,7 @@
 use Rattle.std.proofs.Common.{◌≡◌, ◌++◌, string_bytes}
 use Rattle.lab_texts.specs.Reports.{process_report}
 use Rattle.lab_texts.specs.Rows.{texts_below}
-use Rattle.lab_texts.proofs.report.push_processes.Given as goal
+use Rattle.lab_texts.proofs.report.report_text.Given as goal
 
 -- the texts so far are added
 abbrev pub invariant-loop-pid : goal.invariant-loop-pid
