@@ -1,6 +1,6 @@
 //! What became of a call.
 ghost use Rattle.std.specs.Prelude.{◌≡◌};
-ghost use Rattle.lab_told.specs.Answers.{error_in, error_of, replied, outcome_of, wanted_of, result_in, result_of};
+ghost use Rattle.lab_told.specs.Answers.{error_in, replied, outcome_of, wanted_of, result_in, result_of};
 
 use ipc_kernel::Reply;
 use ipc_names::Errno;
@@ -36,20 +36,15 @@ fn error_in(word: u16) -> Option<Errno>
     }
 }
 
-fn error_of(reply: &Reply) -> Option<Errno>
-    ensures error { result ≡ error_of reply.now }
-{
-    match reply {
-        Reply::Plain(word) => error_in(*word),
-        Reply::Message { .. } | Reply::Attr(_) | Reply::Value(_) => None,
-    }
-}
-
 /// What became of a call that had this reply.
 fn replied(reply: Reply) -> Outcome
     ensures outcome { result ≡ replied reply }
 {
-    match error_of(&reply) {
+    let error = match reply {
+        Reply::Plain(word) => error_in(word),
+        Reply::Message { .. } | Reply::Attr(_) | Reply::Value(_) => None,
+    };
+    match error {
         Some(error) => Outcome::Refused(error),
         None => Outcome::Replied(reply),
     }

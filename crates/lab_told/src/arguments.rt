@@ -1,5 +1,5 @@
 //! A call with its arguments.
-ghost use Rattle.std.specs.Prelude.{◌≡◌, ◌<◌, ◌++◌, OnOk, IfOk, length, string_bytes};
+ghost use Rattle.std.specs.Prelude.{◌≡◌, ◌<◌, ◌++◌, Some, OnOk, IfOk, length, string_bytes};
 ghost use Rattle.lab_sched.specs.Held.{process_view};
 ghost use Rattle.lab_sched.specs.Worlds.{machine_of};
 ghost use Rattle.ipc_traps.specs.declared.service.Service.TheVariants.{MqSend, MqReceive};
@@ -8,10 +8,10 @@ ghost use Rattle.lab_told.specs.Calls.{attributes_asked, mq_open_arguments, sem_
 
 use crate::attributes::Sizes;
 use crate::flags::{AttributeFlags, MqFlags, SemFlags, has_flag};
-use crate::handles::{held_place, push_handle, push_object_or_number};
+use crate::handles::{Handle, Object, held_place};
 use crate::message::push_buffer;
 use crate::text::Text;
-use crate::words::{Pointer, push_address, push_bare_name, push_name, register};
+use crate::words::{BareName, Pointer, QuotedName, Signed, register};
 use ipc_kernel::Kernel;
 use ipc_names::O_CREAT;
 use ipc_objects::Words;
@@ -19,24 +19,47 @@ use ipc_traps::{Service, is_in_memory, read_words};
 use lab_sched::Process;
 use lc3_word::Hex;
 use std::alloc::{AllocError, Global};
+use std::fmt;
 
-/// Adds the attributes for mq_open at an address.
-#[tactic(auto, unfolding(crate::specs::Calls::attributes_asked))]
-fn push_sizes_at(text: &mut String, process: &Process, at: u16) -> Result<(), AllocError>
-    ensures text { OnOk result (string_bytes text.new ≡ string_bytes text.old
-        ++ attributes_asked (machine_of (process_view process.now)) at) }
-{
-    if at == 0 || !is_in_memory(at, 4) {
-        let at = Pointer(at);
-        write!(text, "{at}")?;
-        return Ok(());
+/// The attributes for mq_open at an address.
+#[derive(Clone, Copy)]
+struct SizesAt<'a>(&'a Process, u16);
+
+impl fmt::Display for SizesAt<'_> {
+    ghost output = { λ s. Some (attributes_asked (machine_of (process_view s.0.now)) s.1) };
+
+    #[tactic(auto, unfolding(crate::specs::Calls::attributes_asked))]
+    fn fmt<W: fmt::Write>(&self, f: &mut fmt::Formatter<W>) -> fmt::Result {
+        let SizesAt(process, at) = *self;
+        if at == 0 || !is_in_memory(at, 4) {
+            let at = Pointer(at);
+            return write!(f, "{at}");
+        }
+        let sizes = Sizes {
+            most: process.machine().word(at + 1),
+            size: process.machine().word(at + 2),
+        };
+        write!(f, "{sizes}")
     }
-    let sizes = Sizes {
-        most: process.machine().word(at + 1),
-        size: process.machine().word(at + 2),
-    };
-    write!(text, "{sizes}")?;
-    Ok(())
+}
+
+/// The new mq_flags at an address.
+#[derive(Clone, Copy)]
+struct FlagsAt<'a>(&'a Process, u16);
+
+impl fmt::Display for FlagsAt<'_> {
+    ghost output = { λ x. Some (flags_asked (machine_of (process_view x.0.now)) x.1) };
+
+    #[tactic(auto, unfolding(crate::specs::Calls::flags_asked, crate::specs::Attributes::flags_field))]
+    fn fmt<W: fmt::Write>(&self, f: &mut fmt::Formatter<W>) -> fmt::Result {
+        let FlagsAt(process, at) = *self;
+        if !is_in_memory(at, 4) {
+            let at = Hex(at);
+            return write!(f, "{at}");
+        }
+        let flags = AttributeFlags(process.machine().word(at));
+        write!(f, "{{mq_flags={flags}}}")
+    }
 }
 
 #[tactic(auto, unfolding(crate::specs::Calls::mq_open_arguments))]
@@ -44,15 +67,16 @@ fn push_mq_open(text: &mut String, process: &Process) -> Result<(), AllocError>
     ensures text { OnOk result (string_bytes text.new ≡ string_bytes text.old
         ++ mq_open_arguments (machine_of (process_view process.now))) }
 {
-    let flags = register(process, 1);
-    let shown = MqFlags(flags);
-    push_name(text, process, register(process, 0))?;
-    write!(text, ", {shown}")?;
-    if !has_flag(O_CREAT, flags) {
+    let name = QuotedName(process, register(process, 0));
+    let word = register(process, 1);
+    let flags = MqFlags(word);
+    write!(text, "{name}, {flags}")?;
+    if !has_flag(O_CREAT, word) {
         return Ok(());
     }
-    text.push_str(", ")?;
-    push_sizes_at(text, process, register(process, 2))
+    let sizes = SizesAt(process, register(process, 2));
+    write!(text, ", {sizes}")?;
+    Ok(())
 }
 
 #[tactic(auto, unfolding(crate::specs::Calls::sem_open_arguments))]
@@ -60,29 +84,15 @@ fn push_sem_open(text: &mut String, process: &Process) -> Result<(), AllocError>
     ensures text { OnOk result (string_bytes text.new ≡ string_bytes text.old
         ++ sem_open_arguments (machine_of (process_view process.now))) }
 {
-    let flags = register(process, 1);
-    let shown = SemFlags(flags);
-    push_name(text, process, register(process, 0))?;
-    write!(text, ", {shown}")?;
-    if !has_flag(O_CREAT, flags) {
+    let name = QuotedName(process, register(process, 0));
+    let word = register(process, 1);
+    let flags = SemFlags(word);
+    write!(text, "{name}, {flags}")?;
+    if !has_flag(O_CREAT, word) {
         return Ok(());
     }
     let value = register(process, 2);
     write!(text, ", {value}")?;
-    Ok(())
-}
-
-/// Adds the new mq_flags at an address.
-#[tactic(auto, unfolding(crate::specs::Calls::flags_asked, crate::specs::Attributes::flags_field))]
-fn push_flags_asked(text: &mut String, process: &Process, at: u16) -> Result<(), AllocError>
-    ensures text { OnOk result (string_bytes text.new ≡ string_bytes text.old
-        ++ flags_asked (machine_of (process_view process.now)) at) }
-{
-    if !is_in_memory(at, 4) {
-        return push_address(text, at);
-    }
-    let flags = AttributeFlags(process.machine().word(at));
-    write!(text, "{{mq_flags={flags}}}")?;
     Ok(())
 }
 
@@ -128,10 +138,9 @@ fn push_further(text: &mut String, process: &Process, service: Service) -> Resul
             Ok(())
         }
         Service::MqSetattr => {
+            let flags = FlagsAt(process, register(process, 1));
             let old = Pointer(register(process, 2));
-            text.push_str(", ")?;
-            push_flags_asked(text, process, register(process, 1))?;
-            write!(text, ", {old}")?;
+            write!(text, ", {flags}, {old}")?;
             Ok(())
         }
         _ => Ok(()),
@@ -139,6 +148,7 @@ fn push_further(text: &mut String, process: &Process, service: Service) -> Resul
 }
 
 /// The arguments of a call of process `pid`.
+#[tactic(auto, unfolding(crate::specs::Objects::handle_text))]
 pub fn arguments_of(
     alloc: Global,
     kernel: &Kernel,
@@ -151,13 +161,22 @@ pub fn arguments_of(
         ≡ arguments kernel.now pid (machine_of (process_view process.now)) service) }
 {
     let mut text = String::new(alloc);
-    let first = register(process, 0);
+    let number = register(process, 0);
     match service {
         Service::MqOpen => push_mq_open(&mut text, process)?,
         Service::SemOpen => push_sem_open(&mut text, process)?,
-        Service::MqUnlink | Service::SemUnlink => push_name(&mut text, process, first)?,
+        Service::MqUnlink | Service::SemUnlink => {
+            let name = QuotedName(process, number);
+            write!(text, "{name}")?;
+        }
         _ => {
-            push_handle(&mut text, kernel, pid, service, first)?;
+            let place = held_place(kernel, pid, service, number);
+            let handle = Handle {
+                kernel,
+                number,
+                place,
+            };
+            write!(text, "{handle}")?;
             push_further(&mut text, process, service)?;
         }
     }
@@ -176,14 +195,17 @@ pub fn object_called(
     ensures text { IfOk result (λ t. t
         ≡ object_called kernel.now pid (machine_of (process_view process.now)) service) }
 {
-    let mut text = String::new(alloc);
     let first = register(process, 0);
-    if service.is_by_name() {
-        push_bare_name(&mut text, process, first)?;
+    let text = if service.is_by_name() {
+        let name = BareName(process, first);
+        format!(in alloc; "{name}")?
+    } else if let Some(place) = held_place(kernel, pid, service, first) {
+        let object = Object(kernel, place);
+        format!(in alloc; "{object}")?
     } else {
-        let place = held_place(kernel, pid, service, first);
-        push_object_or_number(&mut text, kernel, first, place)?;
-    }
+        let number = Signed(first);
+        format!(in alloc; "{number}")?
+    };
     Ok(Text::new(text))
 }
 

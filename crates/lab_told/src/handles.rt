@@ -1,15 +1,14 @@
 //! Descriptors, slots and the objects that they stand for.
-ghost use Rattle.std.specs.Prelude.{◌≡◌, ◌<◌, ◌++◌, OnOk, IfSome, length, string_bytes};
-ghost use Rattle.std.specs.Option.{option_copied};
+ghost use Rattle.std.specs.Prelude.{◌≡◌, ◌<◌, ◌++◌, Some, IfSome, length};
 ghost use Rattle.ipc_kernel.specs.Limits.{object_places};
 ghost use Rattle.ipc_kernel.specs.Places.{place_at};
-ghost use Rattle.lab_told.specs.Objects.{held_place, named_text, object_text, handle_text, object_or_number, level_at};
+ghost use Rattle.lab_told.specs.Objects.{held_place, object_text, behind_text, level_at};
+ghost use Rattle.lab_told.specs.Words.{signed_text};
 
-use crate::words::push_signed;
+use crate::words::Signed;
 use ipc_kernel::Kernel;
-use ipc_names::Name;
 use ipc_traps::Service;
-use std::alloc::AllocError;
+use std::fmt;
 
 /// The level of an object.
 #[derive(Clone, Copy, Debug, PartialEq, Eq)]
@@ -28,79 +27,57 @@ pub fn held_place(kernel: &Kernel, pid: usize, service: Service, number: u16) ->
     ensures place { result ≡ held_place kernel.now pid service number }
     ensures range { IfSome result (λ place. place < object_places) }
 {
-    if service.is_on_queues() {
-        match kernel.mqd(pid, number) {
-            Some(held) => Some(held.place),
-            None => None,
-        }
+    let place = if service.is_on_queues() {
+        kernel.mqd(pid, number)?.place
     } else {
-        match kernel.slot(pid, number) {
-            Some(held) => Some(held.place),
-            None => None,
+        kernel.slot(pid, number)?.place
+    };
+    Some(place)
+}
+
+/// The object in a place by its name, or by its place once it is unlinked.
+#[derive(Clone, Copy)]
+pub struct Object<'a>(pub &'a Kernel, pub u8);
+
+impl fmt::Display for Object<'_> {
+    ghost output = { λ o. Some (object_text o.1 (place_at o.0.now.places o.1)) };
+
+    fn fmt<W: fmt::Write>(&self, f: &mut fmt::Formatter<W>) -> fmt::Result {
+        let Object(kernel, place) = *self;
+        let name = match (kernel.queue_at(place), kernel.semaphore_at(place)) {
+            (Some((name, _)), _) | (None, Some((name, _))) => name,
+            (None, None) => return Ok(()),
+        };
+        match name {
+            Some(name) => {
+                let name = name.text();
+                write!(f, "{name}")
+            }
+            None => write!(f, "#{place}"),
         }
     }
 }
 
-/// Adds the name of an object, or its place once it is unlinked.
-fn push_named(text: &mut String, place: u8, name: Option<&Name>) -> Result<(), AllocError>
-    ensures text { OnOk result (string_bytes text.new ≡ string_bytes text.old
-        ++ named_text place (option_copied name.entry)) }
-{
-    match name {
-        Some(name) => text.push_str(name.text())?,
-        None => write!(text, "#{place}")?,
-    }
-    Ok(())
+/// A descriptor or a slot, with the object in its place where it is open.
+#[derive(Clone, Copy)]
+pub struct Handle<'a> {
+    pub kernel: &'a Kernel,
+    pub number: u16,
+    pub place: Option<u8>,
 }
 
-fn push_object(text: &mut String, kernel: &Kernel, place: u8) -> Result<(), AllocError>
-    ensures text { OnOk result (string_bytes text.new ≡ string_bytes text.old
-        ++ object_text place (place_at kernel.now.places place)) }
-{
-    if let Some((name, _)) = kernel.queue_at(place) {
-        return push_named(text, place, name);
-    }
-    match kernel.semaphore_at(place) {
-        Some((name, _)) => push_named(text, place, name),
-        None => Ok(()),
-    }
-}
+impl fmt::Display for Handle<'_> {
+    ghost output = { λ h. Some (signed_text h.number ++ behind_text h.kernel.now h.place) };
 
-/// Adds a descriptor or a slot of process `pid`, with its object.
-#[tactic(auto, unfolding(crate::specs::Objects::handle_text))]
-pub fn push_handle(
-    text: &mut String,
-    kernel: &Kernel,
-    pid: usize,
-    service: Service,
-    number: u16,
-) -> Result<(), AllocError>
-    requires process { pid < length kernel.now.processes }
-    ensures text { OnOk result (string_bytes text.new ≡ string_bytes text.old
-        ++ handle_text kernel.now pid service number) }
-{
-    push_signed(text, number)?;
-    let Some(place) = held_place(kernel, pid, service, number) else {
-        return Ok(());
-    };
-    text.push_str("<")?;
-    push_object(text, kernel, place)?;
-    text.push_str(">")
-}
-
-/// Adds the object behind a number, where it is open, else the number.
-pub fn push_object_or_number(
-    text: &mut String,
-    kernel: &Kernel,
-    number: u16,
-    place: Option<u8>,
-) -> Result<(), AllocError>
-    ensures text { OnOk result (string_bytes text.new ≡ string_bytes text.old
-        ++ object_or_number kernel.now number place) }
-{
-    match place {
-        Some(place) => push_object(text, kernel, place),
-        None => push_signed(text, number),
+    fn fmt<W: fmt::Write>(&self, f: &mut fmt::Formatter<W>) -> fmt::Result {
+        let number = Signed(self.number);
+        match self.place {
+            Some(place) => {
+                let object = Object(self.kernel, place);
+                write!(f, "{number}<{object}>")
+            }
+            None => write!(f, "{number}"),
+        }
     }
 }
 

@@ -1,42 +1,40 @@
 //! The words of messages.
-ghost use Rattle.std.specs.Prelude.{◌≡◌, ◌++◌, OnOk, string_bytes, flat_map};
+ghost use Rattle.std.specs.Prelude.{◌≡◌, ◌++◌, Some, OnOk, string_bytes};
 ghost use Rattle.std.specs.List.{list_any};
 ghost use Rattle.lab_sched.specs.Held.{process_view};
 ghost use Rattle.lab_sched.specs.Worlds.{machine_of};
-ghost use Rattle.lab_told.specs.Words.{further_word, words_text, is_printable, glyph, glyphs_text, more_text, shown_text, message_text};
+ghost use Rattle.lab_told.specs.Words.{words_text, is_printable, glyphs_text, shown_text, message_text};
 ghost use Rattle.lab_told.specs.Calls.{buffer_text};
 
-use crate::words::{is_quotable, push_address};
+use crate::words::is_quotable;
 use ipc_traps::{is_in_memory, read_words};
 use lab_sched::Process;
 use lc3_word::Hex;
 use std::alloc::AllocError;
+use std::fmt;
 
 /// How many words of a message are shown.
 const SHOWN: usize = 16;
 
-/// Adds words, each behind a blank.
-fn push_further(text: &mut String, words: &[u16]) -> Result<(), AllocError>
-    ensures text { OnOk result (string_bytes text.new ≡ string_bytes text.old
-        ++ flat_map further_word words.now) }
-{
-    for word in words {
-        let word = Hex(*word);
-        write!(text, " {word}")?;
-    }
-    Ok(())
-}
+/// Words with a blank between each two.
+#[derive(Clone, Copy)]
+struct Words<'a>(&'a [u16]);
 
-/// Adds words with a blank between each two.
-fn push_words(text: &mut String, words: &[u16]) -> Result<(), AllocError>
-    ensures text { OnOk result (string_bytes text.new ≡ string_bytes text.old
-        ++ words_text words.now) }
-{
-    let Some((first, rest)) = words.split_first() else {
-        return Ok(());
-    };
-    push_address(text, *first)?;
-    push_further(text, rest)
+impl fmt::Display for Words<'_> {
+    ghost output = { λ w. Some (words_text w.0.now) };
+
+    fn fmt<W: fmt::Write>(&self, f: &mut fmt::Formatter<W>) -> fmt::Result {
+        let Some((first, rest)) = self.0.split_first() else {
+            return Ok(());
+        };
+        let first = Hex(*first);
+        write!(f, "{first}")?;
+        for word in rest {
+            let word = Hex(*word);
+            write!(f, " {word}")?;
+        }
+        Ok(())
+    }
 }
 
 #[tactic(auto, unfolding(crate::specs::Words::is_printable))]
@@ -46,52 +44,35 @@ fn is_printable(word: u16) -> bool
     32 <= word && word <= 126
 }
 
-/// Adds the character of a word, or a point.
-fn push_glyph(text: &mut String, word: u16) -> Result<(), AllocError>
-    ensures text { OnOk result (string_bytes text.new ≡ string_bytes text.old ++ glyph word) }
-{
-    if is_quotable(word) {
-        text.push(char::from(word as u8))
-    } else {
-        text.push_str(".")
-    }
-}
-
-fn push_each_glyph(text: &mut String, words: &[u16]) -> Result<(), AllocError>
-    ensures text { OnOk result (string_bytes text.new ≡ string_bytes text.old
-        ++ flat_map glyph words.now) }
-{
-    for word in words {
-        push_glyph(text, *word)?;
-    }
-    Ok(())
-}
-
 fn any_printable(words: &[u16]) -> bool
     ensures value { result ≡ list_any is_printable words.now }
 {
     words.iter().any(|word| is_printable(*word))
 }
 
-/// Adds a blank and the characters of words, where one of them can be printed.
-#[tactic(auto, unfolding(crate::specs::Words::glyphs_text))]
-fn push_glyphs(text: &mut String, words: &[u16]) -> Result<(), AllocError>
-    ensures text { OnOk result (string_bytes text.new ≡ string_bytes text.old
-        ++ glyphs_text words.now) }
-{
-    if !any_printable(words) {
-        return Ok(());
-    }
-    text.push_str(" \"")?;
-    push_each_glyph(text, words)?;
-    text.push_str("\"")
-}
+/// A blank and the characters of words, each that can't be printed as a point, where one of them can.
+#[derive(Clone, Copy)]
+struct Glyphs<'a>(&'a [u16]);
 
-/// Adds that there are more words, where there are.
-fn push_more(text: &mut String, more: bool) -> Result<(), AllocError>
-    ensures text { OnOk result (string_bytes text.new ≡ string_bytes text.old ++ more_text more) }
-{
-    if more { text.push_str(" ...") } else { Ok(()) }
+impl fmt::Display for Glyphs<'_> {
+    ghost output = { λ g. Some (glyphs_text g.0.now) };
+
+    #[tactic(auto, unfolding(crate::specs::Words::glyphs_text))]
+    fn fmt<W: fmt::Write>(&self, f: &mut fmt::Formatter<W>) -> fmt::Result {
+        if !any_printable(self.0) {
+            return Ok(());
+        }
+        write!(f, " \"")?;
+        for word in self.0 {
+            let glyph = if is_quotable(*word) {
+                char::from(*word as u8)
+            } else {
+                '.'
+            };
+            write!(f, "{glyph}")?;
+        }
+        write!(f, "\"")
+    }
 }
 
 #[tactic(auto, unfolding(crate::specs::Words::shown_text))]
@@ -99,11 +80,11 @@ fn push_shown(text: &mut String, shown: &[u16], more: bool) -> Result<(), AllocE
     ensures text { OnOk result (string_bytes text.new ≡ string_bytes text.old
         ++ shown_text shown.now more) }
 {
-    text.push_str("[")?;
-    push_words(text, shown)?;
-    push_more(text, more)?;
-    push_glyphs(text, shown)?;
-    text.push_str("]")
+    let words = Words(shown);
+    let more = if more { " ..." } else { "" };
+    let glyphs = Glyphs(shown);
+    write!(text, "[{words}{more}{glyphs}]")?;
+    Ok(())
 }
 
 /// Adds the words of a message.
@@ -127,7 +108,9 @@ pub fn push_buffer(
         ++ buffer_text (machine_of (process_view process.now)) at len) }
 {
     if !is_in_memory(at, len) {
-        return push_address(text, at);
+        let at = Hex(at);
+        write!(text, "{at}")?;
+        return Ok(());
     }
     let words = read_words(*text.allocator(), process.machine(), at, len)?;
     push_message(text, words.as_slice())

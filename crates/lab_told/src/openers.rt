@@ -1,9 +1,8 @@
 //! Who has an object open.
 ghost use Rattle.std.specs.Prelude.{◌≡◌, ◌<◌, length};
-ghost use Rattle.ipc_kernel.specs.Processes.{slot_refers};
 ghost use Rattle.lab_told.specs.Openers.{can_do, has_queue, has_semaphore, has_open};
 
-use ipc_kernel::{Descriptor, Kernel, OPEN_MAX, Slot};
+use ipc_kernel::{Descriptor, Kernel, OPEN_MAX};
 use ipc_traps::Service;
 
 /// The access to receive alone.
@@ -17,12 +16,6 @@ fn can_do(held: Option<Descriptor>, place: u8, other: u8) -> bool
     ensures value { result ≡ can_do place other held }
 {
     matches!(held, Some(held) if held.place == place && held.access != other)
-}
-
-fn refers(held: Option<Slot>, place: u8) -> bool
-    ensures value { result ≡ slot_refers place held }
-{
-    matches!(held, Some(held) if held.place == place)
 }
 
 /// Whether process `pid` has a queue open other than by one access alone.
@@ -45,7 +38,7 @@ fn has_semaphore(kernel: &Kernel, pid: usize, place: u8) -> bool
 {
     let mut found = false;
     for slot in 0..OPEN_MAX as u16 {
-        found = found || refers(kernel.slot(pid, slot), place);
+        found = found || matches!(kernel.slot(pid, slot), Some(held) if held.place == place);
     }
     found
 }

@@ -50,10 +50,7 @@ fn is_unused(kernel: &Kernel, place: u8) -> bool
     ensures value { result ≡ (length (queue_at kernel.now place).messages == 0) }
 {
     match kernel.queue_at(place) {
-        Some((_, queue)) => {
-            let (_, _, count) = queue.attr();
-            count == 0
-        }
+        Some((_, queue)) => queue.attr().2 == 0,
         None => true,
     }
 }

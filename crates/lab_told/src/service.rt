@@ -2,27 +2,21 @@
 ghost use Rattle.std.specs.Prelude.{◌≡◌};
 ghost use Rattle.lab_sched.specs.Held.{process_view};
 ghost use Rattle.lab_sched.specs.Worlds.{machine_of};
-ghost use Rattle.lab_told.specs.Services.{service_of, service_of_word, service_at};
+ghost use Rattle.lab_told.specs.Services.{service_of_word, service_at};
 
 use ipc_traps::Service;
 use lab_sched::Process;
 use lc3_table::{Instr, decode};
 use lc3_word::FIRST_DEVICE;
 
-fn service_of(instruction: Option<Instr>) -> Option<Service>
-    ensures service { result ≡ service_of instruction }
-{
-    match instruction {
-        Some(Instr::Trap { vector }) => Service::of_vector(vector),
-        _ => None,
-    }
-}
-
 /// The call that a word makes as an instruction.
 pub fn service_of_word(word: u16) -> Option<Service>
     ensures service { result ≡ service_of_word word }
 {
-    service_of(decode(word))
+    match decode(word) {
+        Some(Instr::Trap { vector }) => Service::of_vector(vector),
+        _ => None,
+    }
 }
 
 /// The call that a process stands before.

@@ -3,7 +3,7 @@ ghost use Rattle.std.specs.Prelude.{◌≡◌, IfOk, OnOk, slice_set};
 ghost use Rattle.lab_told.specs.Givers.{giver_at};
 ghost use Rattle.lab_told.specs.Origins.{first};
 ghost use Rattle.lab_told.specs.Units.{units_of, balance};
-ghost use Rattle.lab_told.specs.Tallies.{new_tally, account_of, waits_from, tally_with, tally_after};
+ghost use Rattle.lab_told.specs.Tallies.{new_tally, account_of, waits_from, tally_after};
 
 use crate::answers::Outcome;
 use crate::givers::keep_givers;
@@ -57,11 +57,8 @@ fn waits_from(number: u32, act: &Act) -> Option<u32>
     ensures value { result ≡ waits_from number act.now }
 {
     match act {
-        Act::Calls(call) => match call.outcome {
-            Outcome::Waits => Some(number),
-            Outcome::Refused(_) | Outcome::Replied(_) => None,
-        },
-        Act::Writes(_) | Act::Ends(_) => None,
+        Act::Calls(call) if matches!(call.outcome, Outcome::Waits) => Some(number),
+        _ => None,
     }
 }
 
@@ -134,27 +131,6 @@ impl Tally {
         *self.givers.get(place as usize)?
     }
 
-    /// Keeps what process `pid` did in step `number`, by the kernel after it.
-    fn keep_act(
-        &mut self,
-        kernel: &Kernel,
-        number: u32,
-        pid: usize,
-        act: &Act,
-    ) -> Result<(), AllocError>
-        ensures kept { OnOk result (self.new
-            ≡ tally_with kernel.now number pid act.now self.old) }
-    {
-        let account = Account {
-            local: 0,
-            since: waits_from(number, act),
-        };
-        set(&mut self.accounts, pid, account);
-        keep_givers(&mut self.givers, number, act);
-        keep_origins(&mut self.origins, kernel, number, pid, act)?;
-        keep_units(&mut self.units, kernel, pid, act)
-    }
-
     /// Keeps what is told of step `number`, of process `pid`, by the kernel after it.
     pub fn keep(
         &mut self,
@@ -174,7 +150,17 @@ impl Tally {
                 set(&mut self.accounts, pid, Account { local, since });
                 Ok(())
             }
-            Told::Shown(event) => self.keep_act(kernel, number, pid, &event.act),
+            Told::Shown(event) => {
+                let act = &event.act;
+                let account = Account {
+                    local: 0,
+                    since: waits_from(number, act),
+                };
+                set(&mut self.accounts, pid, account);
+                keep_givers(&mut self.givers, number, act);
+                keep_origins(&mut self.origins, kernel, number, pid, act)?;
+                keep_units(&mut self.units, kernel, pid, act)
+            }
         }
     }
 }

@@ -2,7 +2,7 @@
 ghost use Rattle.std.specs.Prelude.{◌≡◌, ◌<◌, OnOk, IfSome, length, position};
 ghost use Rattle.std.specs.List.{find};
 ghost use Rattle.lab_told.specs.Answers.{act_done};
-ghost use Rattle.lab_told.specs.Units.{is_of, units_of, units_with, remaining_units, units_called, units_after};
+ghost use Rattle.lab_told.specs.Units.{is_of, units_of, units_with, remaining_units, units_after};
 
 use crate::told::Act;
 use ipc_kernel::Kernel;
@@ -87,23 +87,6 @@ fn count_units(
     Ok(())
 }
 
-/// Counts the unit that process `pid` took or gave by a call that was answered and not refused.
-fn keep_called(
-    counts: &mut Vec<UnitCount>,
-    pid: usize,
-    service: Service,
-    place: u8,
-) -> Result<(), AllocError>
-    ensures kept { OnOk result (counts.new.items
-        ≡ units_called pid service place counts.old.items) }
-{
-    match service {
-        Service::SemWait | Service::SemTrywait => count_units(counts, place, pid, 1, 0),
-        Service::SemPost => count_units(counts, place, pid, 0, 1),
-        _ => Ok(()),
-    }
-}
-
 /// Lets go of the counts for semaphores that are no more.
 fn forget(counts: &mut Vec<UnitCount>, kernel: &Kernel)
     ensures kept { counts.new.items ≡ remaining_units kernel.now counts.old.items }
@@ -122,8 +105,12 @@ pub fn keep_units(
     ensures kept { OnOk result (counts.new.items
         ≡ units_after kernel.now pid (act_done act.now) counts.old.items) }
 {
-    if let Some((service, place)) = act.done() {
-        keep_called(counts, pid, service, place)?;
+    match act.done() {
+        Some((Service::SemWait | Service::SemTrywait, place)) => {
+            count_units(counts, place, pid, 1, 0)?;
+        }
+        Some((Service::SemPost, place)) => count_units(counts, place, pid, 0, 1)?,
+        _ => {}
     }
     forget(counts, kernel);
     Ok(())

@@ -1,0 +1,9 @@
+use Rattle.std.proofs.Common.{flat_map, take}
+use Rattle.std.specs.Fmt.{HasWritten, IsPlainFormatter}
+use Rattle.lab_told.specs.Words.{further_word}
+use Rattle.lab_told.proofs.message.WordsDisplay.fmt.Given as goal
+
+-- the words so far are written
+abbrev pub invariant-loop-word : goal.invariant-loop-word
+invariant-loop-word g l =
+    IsPlainFormatter l.initial.f → HasWritten g.W.Write.write_str_gives l.initial.f (flat_map further_word (take l.word-index l.rest)) l.f

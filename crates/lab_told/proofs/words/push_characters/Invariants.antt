@@ -1,7 +1,0 @@
-use Rattle.std.proofs.Common.{◌≡◌, ◌++◌, take, flat_map, string_bytes}
-use Rattle.lab_told.specs.Words.{character_text}
-use Rattle.lab_told.proofs.words.push_characters.Given as goal
-
--- the words so far are added
-abbrev pub invariant-loop-word : goal.invariant-loop-word
-invariant-loop-word l = string_bytes l.text ≡ string_bytes l.initial.text ++ flat_map character_text (take l.word-index l.words)
