@@ -1,5 +1,5 @@
 -- The line of a step.
-use Rattle.std.specs.Prelude.{ℕ, Bool, false, ◌||◌, Option, Some, None, is_some, List, [], ◌++◌, codes, ◌+◌, ◌∷◌}
+use Rattle.std.specs.Prelude.{ℕ, Bool, false, ◌||◌, Option, Some, None, is_some, List, [], ◌++◌, codes, ◌∷◌}
 use Rattle.std.specs.Fmt.{decimal}
 use Rattle.lc3_table.specs.Text.{word_text}
 use Rattle.lc3_machine.specs.declared.want.How.{How}

@@ -15,8 +15,7 @@ fn push_byte(text: &mut String, byte: u8) -> Result<(), AllocError>
         return text.push(char::from(byte));
     }
     let escape = Escape(byte);
-    write!(text, "{escape}")?;
-    Ok(())
+    write!(text, "{escape}")
 }
 
 /// Adds bytes, each as it stands between quotation marks.

@@ -2,7 +2,7 @@
 //! source at their end.
 ghost use Rattle.std.specs.Prelude.{◌≡◌, ◌≤◌, ◌<◌, ◌^◌, ◌||◌, ◌++◌, OnOk, IfOk, IfSome, is_some, option_map, length, string_bytes};
 ghost use Rattle.std.specs.Fmt.{decimal};
-ghost use Rattle.lab_trace.specs.Forms.{form_for, process_column, local_column, head, separator, source_of, label_of, label_note, row_of, row_note, line_end};
+ghost use Rattle.lab_trace.specs.Forms.{form_for, process_column, local_column, head, separator, source_of, label_of, label_note, row_of, line_end};
 
 use crate::columns::{push_at_left, push_at_right};
 use lab_sources::{Near, Source};
@@ -13,6 +13,15 @@ use std::marker::Model;
 
 /// The width of the column of counted steps.
 const LOCAL_WIDTH: usize = 5;
+
+/// Where a process stands.
+#[derive(Clone, Copy)]
+pub struct Stand {
+    pub pid: usize,
+    pub address: u16,
+    /// The word there.
+    pub word: u16,
+}
 
 /// How the lines of a trace are written.
 #[derive(Drop)]
@@ -88,44 +97,41 @@ impl<'a> Form<'a> {
         &self,
         text: &mut String,
         step: &str,
-        pid: usize,
-        address: u16,
+        stand: Stand,
         local: u32,
     ) -> Result<(), AllocError>
         ensures text { OnOk result (string_bytes text.new ≡ string_bytes text.old
-            ++ head self.now step.now pid address local) }
+            ++ head self.now step.now stand.pid stand.address local) }
     {
         push_at_right(text, self.step, step)?;
         text.push_str(" ")?;
-        push_process(text, self.process, pid)?;
-        let address = Hex(address);
+        push_process(text, self.process, stand.pid)?;
+        let address = Hex(stand.address);
         write!(text, "{address} ")?;
         push_local(text, local)
     }
 
-    /// The line at an address of process `pid`, where it has a source, the first word of the line is
-    /// there and memory holds this word.
-    fn row(&self, pid: usize, address: u16, word: u16) -> Option<Row>
-        ensures row { result ≡ row_of self.now.sources pid address word }
+    /// The line where a process stands, if it has a source, the first word of the line is there and memory holds this word.
+    fn row(&self, stand: Stand) -> Option<Row>
+        ensures row { result ≡ row_of self.now.sources stand.pid stand.address stand.word }
     {
-        self.source(pid)?.held_row(address, word)
+        self.source(stand.pid)?.held_row(stand.address, stand.word)
     }
 
-    /// Adds the nearest label of an address of process `pid`, where there is one. `begun` says
+    /// Adds the nearest label of where a process stands, where there is one. `begun` says
     /// whether a note stands before it; the answer, whether one stands behind it.
     fn push_label_note(
         &self,
         text: &mut String,
         begun: bool,
-        pid: usize,
-        address: u16,
+        stand: Stand,
     ) -> Result<bool, AllocError>
         ensures text { OnOk result (string_bytes text.new ≡ string_bytes text.old
-            ++ label_note begun address (label_of self.now.sources pid address)) }
+            ++ label_note begun stand.address (label_of self.now.sources stand.pid stand.address)) }
         ensures noted { IfOk result (λ noted.
-            noted ≡ (begun || is_some (label_of self.now.sources pid address))) }
+            noted ≡ (begun || is_some (label_of self.now.sources stand.pid stand.address))) }
     {
-        let Some(near) = self.near(pid, address) else {
+        let Some(near) = self.near(stand.pid, stand.address) else {
             return Ok(begun);
         };
         let separator = separator(begun);
@@ -133,24 +139,23 @@ impl<'a> Form<'a> {
         Ok(true)
     }
 
-    /// Adds the end of a line of process `pid` at an address with this word: the nearest label, and
-    /// the line of the source there, where there are such. `begun` says whether a note stands
-    /// before them.
+    /// Adds the end of the line of where a process stands: the nearest label, and the line of the source there, where there
+    /// are such. `begun` says whether a note stands before them.
     #[tactic(auto, unfolding(crate::specs::Forms::line_end))]
     pub fn push_line_end(
         &self,
         text: &mut String,
         begun: bool,
-        pid: usize,
-        address: u16,
-        word: u16,
+        stand: Stand,
     ) -> Result<(), AllocError>
         ensures text { OnOk result (string_bytes text.new ≡ string_bytes text.old
-            ++ line_end self.now begun pid address word) }
+            ++ line_end self.now begun stand.pid stand.address stand.word) }
     {
-        let noted = self.push_label_note(text, begun, pid, address)?;
-        let row = self.row(pid, address, word);
-        push_row_note(text, noted, row)?;
+        let noted = self.push_label_note(text, begun, stand)?;
+        if let Some(row) = self.row(stand) {
+            let (separator, line) = (separator(noted), row.line);
+            write!(text, "{separator}line {line}")?;
+        }
         text.push_str("\n")
     }
 }
@@ -182,16 +187,4 @@ pub fn separator(begun: bool) -> &'static str
     ensures text { result.now ≡ separator begun }
 {
     if begun { ", " } else { " ; " }
-}
-
-/// Adds the line of a source, where there is one. `begun` says whether a note stands before it.
-fn push_row_note(text: &mut String, begun: bool, row: Option<Row>) -> Result<(), AllocError>
-    ensures text { OnOk result (string_bytes text.new ≡ string_bytes text.old
-        ++ row_note begun row) }
-{
-    if let Some(row) = row {
-        let (separator, line) = (separator(begun), row.line);
-        write!(text, "{separator}line {line}")?;
-    }
-    Ok(())
 }

@@ -1,26 +1,14 @@
 //! The line of a step.
 ghost use Rattle.std.specs.Prelude.{◌≡◌, ◌++◌, OnOk, IfOk, string_bytes};
-ghost use Rattle.lab_trace.specs.Lines.{level_note, wait_note, origin_note, notes, called_text, output_text, end_text, act_text, is_noted, columns, step_line};
+ghost use Rattle.lab_trace.specs.Lines.{wait_note, origin_note, notes, called_text, act_text, is_noted, columns, step_line};
 
 use crate::bytes::push_bytes;
-use crate::form::{Form, separator};
+use crate::form::{Form, Stand, separator};
 use crate::outcomes::{push_call, push_level, push_outcome};
 use lab_texts::how_name;
-use lab_told::{Act, Called, Event, Level, Origin, Told};
-use lc3_machine::How;
+use lab_told::{Act, Called, Event, Origin, Told};
 use lc3_table::WordText;
 use std::alloc::{AllocError, Global};
-
-fn push_level_note(text: &mut String, level: Option<Level>) -> Result<(), AllocError>
-    ensures text { OnOk result (string_bytes text.new ≡ string_bytes text.old
-        ++ level_note level) }
-{
-    let Some(level) = level else {
-        return Ok(());
-    };
-    text.push_str(separator(false))?;
-    push_level(text, level)
-}
 
 fn push_wait_note(text: &mut String, begun: bool, since: Option<u32>) -> Result<(), AllocError>
     ensures text { OnOk result (string_bytes text.new ≡ string_bytes text.old
@@ -52,7 +40,10 @@ fn push_notes(text: &mut String, call: &Called) -> Result<(), AllocError>
     ensures text { OnOk result (string_bytes text.new ≡ string_bytes text.old
         ++ notes call.now) }
 {
-    push_level_note(text, call.level)?;
+    if let Some(level) = call.level {
+        text.push_str(separator(false))?;
+        push_level(text, level)?;
+    }
     push_origin_note(text, call.level.is_some(), call.origin)?;
     push_wait_note(text, call.level.is_some(), call.since)
 }
@@ -68,32 +59,23 @@ fn push_called(text: &mut String, call: &Called) -> Result<(), AllocError>
     push_notes(text, call)
 }
 
-/// Adds the text of the instruction and the bytes that it wrote.
+/// Adds what a step did by the instruction with this word.
 #[tactic(auto, unfolding(crate::specs::Lines::output_text))]
-fn push_output(text: &mut String, word: u16, bytes: &[u8]) -> Result<(), AllocError>
-    ensures text { OnOk result (string_bytes text.new ≡ string_bytes text.old
-        ++ output_text word bytes.now) }
-{
-    let instruction = WordText(word);
-    write!(text, "{instruction} ")?;
-    push_bytes(text, bytes)
-}
-
-fn push_end(text: &mut String, how: How) -> Result<(), AllocError>
-    ensures text { OnOk result (string_bytes text.new ≡ string_bytes text.old ++ end_text how) }
-{
-    text.push_str("ends ")?;
-    text.push_str(how_name(how))
-}
-
 fn push_act(text: &mut String, word: u16, act: &Act) -> Result<(), AllocError>
     ensures text { OnOk result (string_bytes text.new ≡ string_bytes text.old
         ++ act_text word act.now) }
 {
     match act {
         Act::Calls(call) => push_called(text, call),
-        Act::Writes(bytes) => push_output(text, word, bytes.as_slice()),
-        Act::Ends(how) => push_end(text, *how),
+        Act::Writes(bytes) => {
+            let instruction = WordText(word);
+            write!(text, "{instruction} ")?;
+            push_bytes(text, bytes.as_slice())
+        }
+        Act::Ends(how) => {
+            let how = how_name(*how);
+            write!(text, "ends {how}")
+        }
     }
 }
 
@@ -121,7 +103,12 @@ pub fn columns_text(
 {
     let mut text = String::new(alloc);
     let number = format!(in alloc; "{number}")?;
-    form.push_head(&mut text, &number, pid, event.pc, event.local)?;
+    let stand = Stand {
+        pid,
+        address: event.pc,
+        word: event.word,
+    };
+    form.push_head(&mut text, &number, stand, event.local)?;
     Ok(text)
 }
 
@@ -149,6 +136,11 @@ pub fn step_line(
     };
     let mut line = columns_text(alloc, form, number, pid, event)?;
     push_act(&mut line, event.word, &event.act)?;
-    form.push_line_end(&mut line, is_noted(&event.act), pid, event.pc, event.word)?;
+    let stand = Stand {
+        pid,
+        address: event.pc,
+        word: event.word,
+    };
+    form.push_line_end(&mut line, is_noted(&event.act), stand)?;
     Ok(line)
 }

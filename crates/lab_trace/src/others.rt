@@ -9,43 +9,44 @@ use lab_sched::World;
 use lab_told::has_open;
 use std::alloc::{AllocError, Global};
 
-/// Adds process `other`, where it could serve a call of process `pid`.
+/// A call of a process.
+#[derive(Clone, Copy)]
+pub struct ProcessCall {
+    pub pid: usize,
+    pub service: Service,
+}
+
+/// Adds process `other`, where it could serve a call.
 #[tactic(auto, unfolding(crate::specs::Ends::other_text))]
 fn push_other(
     text: &mut String,
     kernel: &Kernel,
-    pid: usize,
+    call: ProcessCall,
     place: u8,
-    service: Service,
     other: usize,
 ) -> Result<(), AllocError>
     requires process { other < length kernel.now.processes }
     ensures text { OnOk result (string_bytes text.new ≡ string_bytes text.old
-        ++ other_text kernel.now pid place service other) }
+        ++ other_text kernel.now call.pid place call.service other) }
 {
+    let ProcessCall { pid, service } = call;
     if other != pid && has_open(kernel, place, service, other) {
         write!(text, " P{other}")?;
     }
     Ok(())
 }
 
-/// The other processes that could serve a call of process `pid`, each with a blank before it.
+/// The other processes that could serve a call, each with a blank before it.
 #[tactic(auto, unfolding(lab_texts::specs::Rows::texts_below))]
-fn others(
-    alloc: Global,
-    world: &World,
-    pid: usize,
-    place: u8,
-    service: Service,
-) -> Result<String, AllocError>
+fn others(alloc: Global, world: &World, call: ProcessCall, place: u8) -> Result<String, AllocError>
     ensures found { IfOk result (λ s. string_bytes s
         ≡ texts_below (length world.now.processes)
-        (other_text world.now.kernel pid place service)) }
+        (other_text world.now.kernel call.pid place call.service)) }
 {
     let mut found = String::new(alloc);
     let kernel = world.kernel();
     for other in 0..world.count() {
-        push_other(&mut found, kernel, pid, place, service, other)?;
+        push_other(&mut found, kernel, call, place, other)?;
     }
     Ok(found)
 }
@@ -62,19 +63,18 @@ pub fn push_or_nobody(text: &mut String, found: &str) -> Result<(), AllocError>
     }
 }
 
-/// Adds the other processes that could serve a call of process `pid`.
+/// Adds the other processes that could serve a call.
 #[tactic(auto, unfolding(crate::specs::Ends::others_text))]
 pub fn push_others(
     text: &mut String,
     world: &World,
-    pid: usize,
+    call: ProcessCall,
     place: u8,
-    service: Service,
 ) -> Result<(), AllocError>
     ensures text { OnOk result (string_bytes text.new ≡ string_bytes text.old
-        ++ others_text world.now pid place service) }
+        ++ others_text world.now call.pid place call.service) }
 {
-    let found = others(*text.allocator(), world, pid, place, service)?;
+    let found = others(*text.allocator(), world, call, place)?;
     push_or_nobody(text, &found)
 }
 

@@ -1,6 +1,6 @@
 //! A call in words, what became of it, and the level of its object.
 ghost use Rattle.std.specs.Prelude.{◌≡◌, ◌++◌, OnOk, string_bytes};
-ghost use Rattle.lab_trace.specs.Outcomes.{call_text, received_text, given_text, outcome_text, level_text};
+ghost use Rattle.lab_trace.specs.Outcomes.{call_text, given_text, outcome_text, level_text};
 
 use ipc_errors::error_name;
 use ipc_kernel::Reply;
@@ -14,20 +14,8 @@ pub fn push_call(text: &mut String, service: Service, arguments: &Text) -> Resul
     ensures text { OnOk result (string_bytes text.new ≡ string_bytes text.old
         ++ call_text service arguments.now) }
 {
-    text.push_str(service.name())?;
-    text.push_str("(")?;
-    text.push_str(arguments.as_str())?;
-    text.push_str(")")
-}
-
-fn push_received(text: &mut String, words: &[u16], priority: u16) -> Result<(), AllocError>
-    ensures text { OnOk result (string_bytes text.new ≡ string_bytes text.old
-        ++ received_text words.now priority) }
-{
-    text.push_str(" ")?;
-    push_message(text, words)?;
-    write!(text, " prio {priority}")?;
-    Ok(())
+    let (name, arguments) = (service.name(), arguments.as_str());
+    write!(text, "{name}({arguments})")
 }
 
 /// Adds what a reply gives beside its result.
@@ -38,12 +26,13 @@ fn push_given(text: &mut String, reply: &Reply) -> Result<(), AllocError>
 {
     match reply {
         Reply::Plain(_) => Ok(()),
-        Reply::Message { words, prio } => push_received(text, words.as_slice(), *prio),
-        Reply::Attr(words) => push_attributes(text, words[0], words[1], words[2], words[3]),
-        Reply::Value(value) => {
-            write!(text, " value {value}")?;
-            Ok(())
+        Reply::Message { words, prio } => {
+            text.push_str(" ")?;
+            push_message(text, words.as_slice())?;
+            write!(text, " prio {prio}")
         }
+        Reply::Attr(words) => push_attributes(text, words[0], words[1], words[2], words[3]),
+        Reply::Value(value) => write!(text, " value {value}"),
     }
 }
 
@@ -73,8 +62,7 @@ pub fn push_level(text: &mut String, level: Level) -> Result<(), AllocError>
         ++ level_text level) }
 {
     match level {
-        Level::Messages { count, most } => write!(text, "{count} of {most}")?,
-        Level::Value(value) => write!(text, "value {value}")?,
+        Level::Messages { count, most } => write!(text, "{count} of {most}"),
+        Level::Value(value) => write!(text, "value {value}"),
     }
-    Ok(())
 }

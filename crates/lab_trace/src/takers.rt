@@ -3,7 +3,7 @@ ghost use Rattle.std.specs.Prelude.{◌≡◌, ◌++◌, OnOk, IfOk, length, str
 ghost use Rattle.std.specs.Option.{option_map, option_copied};
 ghost use Rattle.lab_sched.specs.Held.{process_view};
 ghost use Rattle.lab_texts.specs.Rows.{texts_below};
-ghost use Rattle.lab_trace.specs.Ends.{times_text, ended_text, taker_of, taker_text, takers_text, takers_part};
+ghost use Rattle.lab_trace.specs.Ends.{taker_of, taker_text, takers_text, takers_part};
 
 use crate::others::push_or_nobody;
 use ipc_traps::Service;
@@ -11,28 +11,8 @@ use lab_sched::{Process, World};
 use lab_told::Tally;
 use std::alloc::{AllocError, Global};
 
-/// Adds how many units, where it is more than one.
-#[tactic(auto, unfolding(crate::specs::Ends::times_text))]
-fn push_times(text: &mut String, count: u32) -> Result<(), AllocError>
-    ensures text { OnOk result (string_bytes text.new ≡ string_bytes text.old ++ times_text count) }
-{
-    if count > 1 {
-        write!(text, "*{count}")?;
-    }
-    Ok(())
-}
-
-fn ended_text(process: Option<&Process>) -> &'static str
-    ensures text { result.now ≡ ended_text (option_map process_view (option_copied process.entry)) }
-{
-    match process {
-        Some(Process::Ended(_)) => "(ended)",
-        _ => "",
-    }
-}
-
 /// Adds process `pid`, where it took more units than it gave, by how many.
-#[tactic(auto, unfolding(crate::specs::Ends::taker_of))]
+#[tactic(auto, unfolding(crate::specs::Ends::taker_of, crate::specs::Ends::times_text))]
 fn push_taker(
     text: &mut String,
     pid: usize,
@@ -46,8 +26,13 @@ fn push_taker(
         return Ok(());
     }
     write!(text, " P{pid}")?;
-    push_times(text, count)?;
-    text.push_str(ended_text(process))
+    if count > 1 {
+        write!(text, "*{count}")?;
+    }
+    match process {
+        Some(Process::Ended(_)) => text.push_str("(ended)"),
+        _ => Ok(()),
+    }
 }
 
 /// The processes that took more units of the semaphore in a place than they gave, each with a blank before it.

@@ -6,13 +6,12 @@ ghost use Rattle.lab_sched.specs.Worlds.{run};
 ghost use Rattle.lab_sched.specs.Schedules.{steps_of};
 ghost use Rattle.lab_told.specs.Tellings.{AreThere};
 ghost use Rattle.lab_trace.specs.Lines.{line};
-ghost use Rattle.lab_trace.specs.Ends.{end_lines};
 ghost use Rattle.lab_trace.specs.Traces.{ending, trace_text, missing_after, Explains};
 ghost use Rattle.lab_trace.specs.Private.Faults.{IsFault};
 ghost use Rattle.lab_trace.specs.Private.Written.{WritesLine, BreaksLine};
 ghost use Rattle.lab_trace.specs.declared.fault.TraceFault.TheVariants.{NoProcess, Write};
 
-use crate::ends::push_ends;
+use crate::ends::stands;
 use crate::fault::TraceFault;
 use crate::form::Form;
 use crate::lines::step_line;
@@ -77,20 +76,6 @@ impl<'a, W: Write> Telling<Output<W>> for Form<'a> {
         let line = step_line(alloc, self, taken.number, taken.pid, taken.told)?;
         write_text(&line, output)
     }
-}
-
-/// Where the processes stand that haven't ended.
-pub fn stands(
-    alloc: Global,
-    world: &World,
-    tally: &Tally,
-    form: &Form<'_>,
-) -> Result<String, AllocError>
-    ensures text { IfOk result (λ s. string_bytes s ≡ end_lines form.now world.now tally.now) }
-{
-    let mut text = String::new(alloc);
-    push_ends(&mut text, world, form, tally)?;
-    Ok(text)
 }
 
 /// Where the processes stand that haven't ended, and the report.

@@ -5,4 +5,4 @@ use Rattle.lab_trace.proofs.others.others.Given as goal
 
 -- those so far are found
 abbrev pub invariant-loop-other : goal.invariant-loop-other
-invariant-loop-other l = string_bytes l.found ≡ texts_below l.other (other_text l.world.kernel l.pid l.place l.service)
+invariant-loop-other l = string_bytes l.found ≡ texts_below l.other (other_text l.world.kernel l.call.pid l.place l.call.service)
