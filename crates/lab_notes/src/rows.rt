@@ -1,6 +1,6 @@
 //! What is noted of the steps of a run.
-ghost use Rattle.std.specs.Prelude.{◌≡◌, IfOk, OnOk, length, slice_get};
-ghost use Rattle.lab_notes.specs.Notes.{refused_with, registers_of, refusal_of, rows_with, rows_by, new_rows};
+ghost use Rattle.std.specs.Prelude.{◌≡◌, IfOk, OnOk, slice_get};
+ghost use Rattle.lab_notes.specs.Notes.{refused_with, registers_of, refusal_of, rows_by, new_rows};
 
 use ipc_names::Errno;
 use ipc_traps::Service;
@@ -126,30 +126,6 @@ impl Rows {
         Ok(Rows { rows })
     }
 
-    /// Keeps a call of process `pid` that was refused with this error.
-    fn keep_refusal(
-        &mut self,
-        alloc: Global,
-        pid: usize,
-        event: &Event,
-        called: &Called,
-        error: Errno,
-        registers: Registers,
-    ) -> Result<(), AllocError>
-        ensures kept { OnOk result (self.new
-            ≡ rows_with pid (refusal_of event.now called.now error registers) self.old) }
-    {
-        let Some(row) = self.rows.get_mut(pid) else {
-            return Ok(());
-        };
-        if row.first.is_some() {
-            row.more = row.more.saturating_add(1);
-        } else {
-            row.first = Some(refusal_with(alloc, event, called, error, registers)?);
-        }
-        Ok(())
-    }
-
     /// Keeps what is told of a step of process `pid`, by what its registers hold behind it.
     pub fn keep(
         &mut self,
@@ -166,10 +142,18 @@ impl Rows {
         let Act::Calls(called) = &event.act else {
             return Ok(());
         };
-        match refused_with(&called.outcome) {
-            Some(error) => self.keep_refusal(alloc, pid, event, called, error, registers),
-            None => Ok(()),
+        let Some(error) = refused_with(&called.outcome) else {
+            return Ok(());
+        };
+        let Some(row) = self.rows.get_mut(pid) else {
+            return Ok(());
+        };
+        if row.first.is_some() {
+            row.more = row.more.saturating_add(1);
+        } else {
+            row.first = Some(refusal_with(alloc, event, called, error, registers)?);
         }
+        Ok(())
     }
 
     pub fn into_rows(self) -> Vec<Noted>

@@ -27,9 +27,8 @@ fn push_call(text: &mut String, service: Service, error: Errno) -> Result<(), Al
     ensures text { OnOk result (string_bytes text.new ≡ string_bytes text.old
         ++ call_text service error) }
 {
-    text.push_str(service.name())?;
-    text.push_str(" = ")?;
-    text.push_str(error_name(error))
+    let (name, error) = (service.name(), error_name(error));
+    write!(text, "{name} = {error}")
 }
 
 /// Adds a note of process `pid`, without its end: its first refused call, where that stands, and why it was refused.

@@ -1,6 +1,6 @@
 //! Why a call was refused, in a few words that name the argument.
 ghost use Rattle.std.specs.Prelude.{◌≡◌, ◌++◌, OnOk, string_bytes};
-ghost use Rattle.lab_notes.specs.Private.Why.{kind_of, called_text, open_fault, name_size_text, greatest_text, size_fault, size_text, words_text, word_text, range_text, long_name_text, has_attributes, open_range_text, fault_text};
+ghost use Rattle.lab_notes.specs.Private.Why.{called_text, open_fault, name_size_text, greatest_text, size_text, range_text, long_name_text, has_attributes, fault_text};
 
 use crate::rows::{Refusal, Registers};
 use ipc_names::{Errno, Flags, O_CREAT};
@@ -8,7 +8,6 @@ use ipc_objects::{MQ_PRIO_MAX, SEM_VALUE_MAX};
 use ipc_traps::{Service, is_in_memory};
 use lc3_word::Hex;
 use std::alloc::AllocError;
-use std::fmt::Write;
 
 const GREATEST_PRIORITY: u16 = MQ_PRIO_MAX - 1;
 
@@ -20,7 +19,13 @@ pub fn push_why(text: &mut String, refusal: &Refusal) -> Result<(), AllocError> 
     let object = refusal.object.as_str();
     match refusal.error {
         Errno::NoEntry => push_called(text, "no", refusal.service, object),
-        Errno::BadDescriptor => push_unusable(text, refusal),
+        Errno::BadDescriptor => match refusal.service {
+            Service::MqSend if refusal.is_open => write!(text, "{object} is not open to send"),
+            Service::MqReceive if refusal.is_open => {
+                write!(text, "{object} is not open to receive")
+            }
+            _ => write!(text, "{object} is no descriptor"),
+        },
         Errno::Again => text.push_str("it would have to wait"),
         Errno::Fault => push_fault(text, refusal.service, refusal.registers, object),
         Errno::Exists => push_called(text, "a", refusal.service, object),
@@ -30,17 +35,6 @@ pub fn push_why(text: &mut String, refusal: &Refusal) -> Result<(), AllocError> 
         Errno::NameTooLong => push_name_size(text, object),
         Errno::Overflow => push_greatest(text, object),
         Errno::MessageSize => push_size(text, refusal.service, refusal.registers.r2),
-    }
-}
-
-/// What a call is on.
-fn kind_of(service: Service) -> &'static str
-    ensures text { result.now ≡ kind_of service }
-{
-    if service.is_on_queues() {
-        "queue"
-    } else {
-        "semaphore"
     }
 }
 
@@ -54,9 +48,12 @@ fn push_called(
     ensures text { OnOk result (string_bytes text.new ≡ string_bytes text.old
         ++ called_text article.now service name.now) }
 {
-    let kind = kind_of(service);
-    write!(text, "{article} {kind} is called {name}")?;
-    Ok(())
+    let kind = if service.is_on_queues() {
+        "queue"
+    } else {
+        "semaphore"
+    };
+    write!(text, "{article} {kind} is called {name}")
 }
 
 /// What is wrong where too many are open.
@@ -75,8 +72,7 @@ fn push_name_size(text: &mut String, object: &str) -> Result<(), AllocError>
     ensures text { OnOk result (string_bytes text.new ≡ string_bytes text.old
         ++ name_size_text object.now) }
 {
-    write!(text, "the name at {object} has more than 255 characters")?;
-    Ok(())
+    write!(text, "the name at {object} has more than 255 characters")
 }
 
 /// Adds that a semaphore, which is shown so, can't be posted.
@@ -84,28 +80,7 @@ fn push_greatest(text: &mut String, object: &str) -> Result<(), AllocError>
     ensures text { OnOk result (string_bytes text.new ≡ string_bytes text.old
         ++ greatest_text object.now) }
 {
-    write!(text, "{object} has its greatest value")?;
-    Ok(())
-}
-
-/// Adds why a number is no descriptor for a call.
-fn push_unusable(text: &mut String, refusal: &Refusal) -> Result<(), AllocError> {
-    let object = refusal.object.as_str();
-    match refusal.service {
-        Service::MqSend if refusal.is_open => write!(text, "{object} is not open to send"),
-        Service::MqReceive if refusal.is_open => write!(text, "{object} is not open to receive"),
-        _ => write!(text, "{object} is no descriptor"),
-    }
-}
-
-/// What is wrong with a length.
-fn size_fault(service: Service) -> &'static str
-    ensures text { result.now ≡ size_fault service }
-{
-    match service {
-        Service::MqReceive => "the buffer is too short",
-        _ => "the message is too long",
-    }
+    write!(text, "{object} has its greatest value")
 }
 
 /// Adds which length is wrong.
@@ -113,39 +88,23 @@ fn push_size(text: &mut String, service: Service, length: u16) -> Result<(), All
     ensures text { OnOk result (string_bytes text.new ≡ string_bytes text.old
         ++ size_text service length) }
 {
-    let fault = size_fault(service);
-    write!(text, "length {length}: {fault}")?;
-    Ok(())
+    let fault = match service {
+        Service::MqReceive => "the buffer is too short",
+        _ => "the message is too long",
+    };
+    write!(text, "length {length}: {fault}")
 }
 
-/// Adds several words of memory that reach the devices.
-fn push_words(text: &mut String, at: u16, count: u16) -> Result<(), AllocError>
-    ensures text { OnOk result (string_bytes text.new ≡ string_bytes text.old
-        ++ words_text at count) }
-{
-    let at = Hex(at);
-    write!(text, "{count} words from {at} on reach xFE00")?;
-    Ok(())
-}
-
-/// Adds a word of memory that is none.
-fn push_word(text: &mut String, at: u16) -> Result<(), AllocError>
-    ensures text { OnOk result (string_bytes text.new ≡ string_bytes text.old ++ word_text at) }
-{
-    let at = Hex(at);
-    write!(text, "{at} is no address of memory")?;
-    Ok(())
-}
-
-/// Adds a range of memory that reaches the devices.
+/// Adds a range of memory that reaches the devices; a word is none of memory.
 fn push_range(text: &mut String, at: u16, count: u16) -> Result<(), AllocError>
     ensures text { OnOk result (string_bytes text.new ≡ string_bytes text.old
         ++ range_text at count) }
 {
+    let at = Hex(at);
     if count == 1 {
-        push_word(text, at)
+        write!(text, "{at} is no address of memory")
     } else {
-        push_words(text, at, count)
+        write!(text, "{count} words from {at} on reach xFE00")
     }
 }
 
@@ -154,8 +113,7 @@ fn push_long_name(text: &mut String, object: &str) -> Result<(), AllocError>
     ensures text { OnOk result (string_bytes text.new ≡ string_bytes text.old
         ++ long_name_text object.now) }
 {
-    write!(text, "the name at {object} reaches xFE00")?;
-    Ok(())
+    write!(text, "the name at {object} reaches xFE00")
 }
 
 /// Whether mq_open is given attributes.
@@ -163,18 +121,6 @@ fn has_attributes(registers: Registers) -> bool
     ensures value { result ≡ has_attributes registers }
 {
     registers.r1 & O_CREAT != 0 && registers.r2 != 0
-}
-
-/// Adds which range of mq_open, whose name is shown so, reaches the devices.
-fn push_open_range(text: &mut String, registers: Registers, object: &str) -> Result<(), AllocError>
-    ensures text { OnOk result (string_bytes text.new ≡ string_bytes text.old
-        ++ open_range_text registers object.now) }
-{
-    if has_attributes(registers) && !is_in_memory(registers.r2, ATTRIBUTES) {
-        push_range(text, registers.r2, ATTRIBUTES)
-    } else {
-        push_long_name(text, object)
-    }
 }
 
 /// Adds which range of memory reaches the devices.
@@ -189,7 +135,9 @@ fn push_fault(
 {
     let Registers { r1, r2, r3 } = registers;
     match service {
-        Service::MqOpen => push_open_range(text, registers, object),
+        Service::MqOpen if has_attributes(registers) && !is_in_memory(r2, ATTRIBUTES) => {
+            push_range(text, r2, ATTRIBUTES)
+        }
         Service::MqSend => push_range(text, r1, r2),
         Service::MqReceive if is_in_memory(r1, r2) => push_range(text, r3, 1),
         Service::MqReceive => push_range(text, r1, r2),
