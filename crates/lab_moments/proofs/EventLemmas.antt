@@ -1,9 +1,7 @@
 -- Moments and what was done have no floats.
-use Rattle.std.proofs.Common.{ℕ, ◌||◌, not, Bool, false, Option, Some, None, List, [], ◌∷◌, refl}
+use Rattle.std.proofs.Common.{ℕ, ◌||◌, not, Bool, Option, Some, None, List, [], ◌∷◌, refl}
 use Rattle.std.specs.Option.{option_map}
 use Rattle.serde_json.specs.Data.{Data, boolean}
-use Rattle.serde_json.specs.View.{items_of}
-use Rattle.serde_json.specs.Written.{has_float, items_have_float}
 use Rattle.ipc_kernel.specs.Limits.{object_places}
 use Rattle.ipc_kernel.specs.Places.{place_at}
 use Rattle.lab_sched.specs.Worlds.{WorldState}
@@ -17,25 +15,19 @@ use Rattle.lab_told.specs.declared.told.Called.{Called}
 use Rattle.lab_told.specs.declared.told.Event.{Event}
 use Rattle.lab_told.specs.declared.told.Told.{Told}
 use Rattle.lab_told.specs.declared.told.Told.TheVariants.{Nothing, Counted, Shown}
-use Rattle.lab_moments.specs.Values.{list, natural, naturals, or_null}
-use Rattle.lab_moments.specs.States.{state_in}
+use Rattle.lab_moments.specs.Values.{list, naturals, or_null}
 use Rattle.lab_moments.specs.Changes.{known_at, known_now, made_with, is_same, is_about, told_where, object_told, objects_told}
-use Rattle.lab_moments.specs.Holds.{hold_data, holds_data, holds_over}
+use Rattle.lab_moments.specs.Holds.{hold_data, holds_data}
 use Rattle.lab_moments.specs.Objects.{object_data, open_data}
 use Rattle.lab_moments.specs.Pasts.{Past}
 use Rattle.lab_moments.specs.declared.known.Known.{Known}
 use Rattle.lab_moments.specs.declared.holds.Hold.{Hold}
-use Rattle.lab_moments.specs.Events.{outcome_data, words_of, called_data, act_data, tells_open, open_told, event_data}
-use Rattle.lab_moments.specs.Between.{between_data}
+use Rattle.lab_moments.specs.Events.{outcome_data, called_data, act_data, tells_open, open_told, event_data}
 use Rattle.lab_moments.specs.Moments.{counted_moment, shown_moment, moment_by}
-use Rattle.lab_moments.proofs.PlainLemmas.{IsPlain, ArePlain, both, plain-one, plain-below, plain-map, plain-naturals, plain-if, value-if}
+use Rattle.lab_moments.proofs.PlainLemmas.{IsPlain, ArePlain, number-plain, plain-one, plain-below, plain-map, plain-naturals, plain-if, value-if}
 use Rattle.lab_moments.proofs.StateLemmas.{in-plain}
 use Rattle.lab_moments.proofs.BetweenLemmas.{between-plain}
 use Rattle.lab_moments.proofs.ObjectLemmas.{object-plain, open-plain}
-
-number-plain : (o : Option ℕ) → IsPlain (or_null (option_map natural o))
-number-plain None = refl
-number-plain (Some n) = refl
 
 words-plain : (o : Option (List ℕ)) → IsPlain (or_null (option_map naturals o))
 words-plain None = refl
@@ -48,27 +40,17 @@ outcome-plain (Replied reply) = refl
 
 called-plain : (c : Called) → IsPlain (called_data c)
 unfolding called_data
-called-plain c =
-    let place = has_float (or_null (option_map natural c.place)) in
-    let words = has_float (or_null (option_map naturals (words_of c.outcome c.sent))) in
-    let step : Option ℕ = option_map (λ o. o.step) c.origin in
-    let sender = has_float (or_null (option_map natural step)) in
-    let giver = has_float (or_null (option_map natural c.giver)) in
-    let outcome = has_float (outcome_data c.outcome) in
-    both place (outcome || (words || (sender || (giver || false)))) (number-plain c.place)
-    (both outcome (words || (sender || (giver || false))) (outcome-plain c.outcome)
-    (both words (sender || (giver || false)) (words-plain (words_of c.outcome c.sent))
-    (both sender (giver || false) (number-plain step) (both giver false (number-plain c.giver) refl))))
+called-plain c = simp (number-plain, outcome-plain, words-plain)
 
 pub act-plain : (act : Act) → IsPlain (act_data act)
 act-plain (Calls c) = called-plain c
-act-plain (Writes bytes) = both (has_float (naturals bytes)) false (plain-naturals bytes) refl
+act-plain (Writes bytes) = simp plain-naturals
 act-plain (Ends how) = refl
 
-told-plain : (changed about : Bool) (object : Data) → IsPlain object → ArePlain (told_where changed about object)
-told-plain changed about object h =
-    let told : Data = list (boolean changed ∷ object ∷ []) in
-    plain-if (changed || about) (told ∷ []) [] (plain-one told (plain-one object h)) refl
+told-plain : (changed about : Bool) (d : Data) → IsPlain d → ArePlain (told_where changed about d)
+told-plain changed about d h =
+    let told : Data = list (boolean changed ∷ d ∷ []) in
+    plain-if (changed || about) (told ∷ []) [] (plain-one told (plain-one d h)) refl
 
 objects-plain : (w : WorldState) (t : TallyState) (p : ℕ) (act : Act) (ks : List (Option Known)) → ArePlain (objects_told w t p act ks)
 unfolding objects_told
@@ -87,27 +69,15 @@ opened-plain w p act = value-if (tells_open act) (open_data w p) (open-plain w p
 
 event-plain : (v : Form) (n p : ℕ) (e : Event) (w : WorldState) (t : TallyState) (h : Past) → IsPlain (event_data v n p e w t h)
 unfolding event_data
-event-plain v n p e w t h =
-    let act = has_float (act_data e.act) in
-    let objects = items_have_float (items_of (objects_told w t p e.act h.objects)) in
-    let opened = has_float (open_told w p e.act) in
-    let over = has_float (holds_data (holds_over w.kernel p e.act h.holds)) in
-    both act (objects || (opened || (over || false))) (act-plain e.act)
-    (both objects (opened || (over || false)) (objects-plain w t p e.act h.objects)
-    (both opened (over || false) (opened-plain w p e.act)
-    (both over false (holds-plain (holds_over w.kernel p e.act h.holds)) refl)))
+event-plain v n p e w t h = simp (act-plain, objects-plain, opened-plain, holds-plain)
 
-pub counted-plain : (n p : ℕ) (w : WorldState) → IsPlain (counted_moment n p w)
+counted-plain : (n p : ℕ) (w : WorldState) → IsPlain (counted_moment n p w)
 unfolding counted_moment
-counted-plain n p w = both (has_float (state_in w p)) false (in-plain w p) refl
+counted-plain n p w = simp in-plain
 
-pub shown-plain : (v : Form) (n p : ℕ) (e : Event) (w : WorldState) (t : TallyState) (h : Past) → IsPlain (shown_moment v n p e w t h)
+shown-plain : (v : Form) (n p : ℕ) (e : Event) (w : WorldState) (t : TallyState) (h : Past) → IsPlain (shown_moment v n p e w t h)
 unfolding shown_moment
-shown-plain v n p e w t h =
-    let event = has_float (event_data v n p e w t h) in
-    let between = has_float (between_data h.between) in
-    both (has_float (state_in w p)) (event || (between || false)) (in-plain w p)
-    (both event (between || false) (event-plain v n p e w t h) (both between false (between-plain h.between) refl))
+shown-plain v n p e w t h = simp (in-plain, event-plain, between-plain)
 
 -- the moment of a step
 pub moment-plain : (v : Form) (whole : Bool) (n p : ℕ) (told : Told) (w : WorldState) (t : TallyState) (h : Past)

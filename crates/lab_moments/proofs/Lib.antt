@@ -1,5 +1,4 @@
 pub mod ValueLemmas
-pub mod KnownLemmas
 pub mod PlainLemmas
 pub mod StateLemmas
 pub mod ObjectLemmas

@@ -1,9 +1,7 @@
 -- Objects, and what a process has open, have no floats.
-use Rattle.std.proofs.Common.{ℕ, ◌==◌, ◌||◌, false, Option, Some, None, List, [], ◌∷◌, length, slice_get, refl}
+use Rattle.std.proofs.Common.{ℕ, ◌==◌, false, Option, Some, None, List, [], ◌∷◌, length, slice_get, refl}
 use Rattle.std.specs.Option.{option_map, option_map_or}
 use Rattle.serde_json.specs.Data.{boolean}
-use Rattle.serde_json.specs.View.{items_of}
-use Rattle.serde_json.specs.Written.{has_float, items_have_float}
 use Rattle.ipc_kernel.specs.Limits.{open_max}
 use Rattle.ipc_kernel.specs.declared.place.Place.{Place}
 use Rattle.ipc_kernel.specs.declared.place.Place.TheVariants.{Empty, Mq, Sem}
@@ -16,9 +14,9 @@ use Rattle.lab_sched.specs.Worlds.{Process, WorldState}
 use Rattle.lab_told.specs.Tallies.{TallyState}
 use Rattle.lab_told.specs.Units.{units_of, balance}
 use Rattle.lab_told.specs.declared.origins.Origin.{Origin}
-use Rattle.lab_moments.specs.Values.{list, natural, naturals, or_null, all_below}
-use Rattle.lab_moments.specs.Objects.{name_data, awaited_at, waiter, waiters, taker, taker_at, takers, semaphore_data, origin_data, message_data, origins_in, message_at, messages, queue_data, object_data, descriptor_data, slot_data, descriptor_at, slot_at, open_data}
-use Rattle.lab_moments.proofs.PlainLemmas.{IsPlain, ArePlain, both, plain-append, plain-below, plain-naturals, plain-some, plain-if}
+use Rattle.lab_moments.specs.Values.{list, natural, or_null, all_below}
+use Rattle.lab_moments.specs.Objects.{name_data, awaited_at, waiter, waiters, taker, taker_at, takers, semaphore_data, origin_data, message_data, message_at, messages, queue_data, object_data, descriptor_data, slot_data, descriptor_at, slot_at, open_data}
+use Rattle.lab_moments.proofs.PlainLemmas.{IsPlain, ArePlain, plain-append, plain-below, plain-naturals, plain-some, plain-if}
 
 name-plain : (name : Option (List ℕ)) → IsPlain (name_data name)
 name-plain None = refl
@@ -42,11 +40,7 @@ takers-plain w t place =
 
 semaphore-plain : (w : WorldState) (t : TallyState) (made place : ℕ) (held : Option (List ℕ) × ℕ) → IsPlain (semaphore_data w t made place held)
 unfolding semaphore_data
-semaphore-plain w t made place held =
-    let waits = items_have_float (items_of (waiters w place)) in
-    let takes = items_have_float (items_of (takers w t place)) in
-    both (has_float (name_data held.0)) (waits || (takes || false)) (name-plain held.0)
-    (both waits (takes || false) (waiters-plain w place) (both takes false (takers-plain w t place) refl))
+semaphore-plain w t made place held = simp (name-plain, waiters-plain, takers-plain)
 
 origin-plain : (o : Option Origin) → IsPlain (or_null (option_map origin_data o))
 origin-plain None = refl
@@ -54,9 +48,7 @@ origin-plain (Some o) = refl
 
 message-plain : (m : Message) (o : Option Origin) → IsPlain (message_data m o)
 unfolding message_data
-message-plain m o =
-    both (has_float (naturals m.words)) (has_float (or_null (option_map origin_data o)) || false) (plain-naturals m.words)
-    (both (has_float (or_null (option_map origin_data o))) false (origin-plain o) refl)
+message-plain m o = simp (plain-naturals, origin-plain)
 
 messages-plain : (os : List Origin) (q : QueueState) → ArePlain (messages os q)
 messages-plain os q =
@@ -65,11 +57,7 @@ messages-plain os q =
 
 queue-plain : (w : WorldState) (t : TallyState) (place : ℕ) (held : Option (List ℕ) × QueueState) → IsPlain (queue_data w t place held)
 unfolding queue_data
-queue-plain w t place held =
-    let waits = items_have_float (items_of (waiters w place)) in
-    let ms = items_have_float (items_of (messages (origins_in t place) held.1)) in
-    both (has_float (name_data held.0)) (waits || (ms || false)) (name-plain held.0)
-    (both waits (ms || false) (waiters-plain w place) (both ms false (messages-plain (origins_in t place) held.1) refl))
+queue-plain w t place held = simp (name-plain, waiters-plain, messages-plain)
 
 pub object-plain : (w : WorldState) (t : TallyState) (made place : ℕ) (o : Place) → IsPlain (object_data w t made place o)
 object-plain w t made place Empty = refl

@@ -5,7 +5,7 @@ use Rattle.std.specs.Option.{option_map, option_to_list}
 use Rattle.serde_json.specs.Data.{Data, null}
 use Rattle.serde_json.specs.View.{items_of}
 use Rattle.serde_json.specs.Written.{has_float, items_have_float}
-use Rattle.lab_moments.specs.Values.{natural, all_below}
+use Rattle.lab_moments.specs.Values.{natural, or_null, all_below}
 
 -- a value without a float, and a list of such
 abbrev pub IsPlain : Data → Type 0
@@ -37,6 +37,10 @@ pub plain-below : (n : ℕ) (f : ℕ → List Data) → ((i : ℕ) → ArePlain 
 unfolding all_below
 plain-below zero f h = refl
 plain-below (suc n) f h = plain-append (all_below n f) (f n) (plain-below n f h) (h n)
+
+pub number-plain : (o : Option ℕ) → IsPlain (or_null (option_map natural o))
+number-plain None = refl
+number-plain (Some n) = refl
 
 pub plain-map : {X : Type 0} (f : X → Data) (xs : List X) → ((x : X) → IsPlain (f x)) → ArePlain (map f xs)
 plain-map f [] h = refl

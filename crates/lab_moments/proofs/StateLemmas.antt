@@ -1,15 +1,13 @@
 -- The states of processes have no floats.
-use Rattle.std.proofs.Common.{ℕ, ◌+◌, ◌-◌, ◌||◌, false, Option, Some, None, [], ◌∷◌, length, slice_get, refl}
+use Rattle.std.proofs.Common.{ℕ, ◌+◌, Option, Some, None, [], ◌∷◌, length, slice_get, refl}
 use Rattle.std.specs.Prelude.{slice_index}
-use Rattle.serde_json.specs.View.{items_of}
-use Rattle.serde_json.specs.Written.{items_have_float}
 use Rattle.lc3_machine.specs.Process.{Process as Machine, reg}
 use Rattle.lab_sched.specs.Worlds.{Process, WorldState, machine_of}
 use Rattle.lab_told.specs.Services.{service_of_word}
 use Rattle.ipc_traps.specs.declared.service.Service.{Service}
 use Rattle.lab_moments.specs.Values.{natural}
-use Rattle.lab_moments.specs.States.{call_names, word_data, shown_count, words_from, registers, state_data, state_of, state_in, states}
-use Rattle.lab_moments.proofs.PlainLemmas.{IsPlain, ArePlain, both, plain-one, plain-below}
+use Rattle.lab_moments.specs.States.{call_names, word_data, words_from, registers, state_data, state_of, state_in, states}
+use Rattle.lab_moments.proofs.PlainLemmas.{IsPlain, ArePlain, plain-one, plain-below}
 
 pub names-plain : (s : Option Service) → ArePlain (call_names s)
 names-plain None = refl
@@ -29,10 +27,7 @@ words-plain m first count =
 
 state-plain : (m : Machine) → IsPlain (state_data m)
 unfolding state_data
-state-plain m =
-    let words = words_from m (m.pc - 3) (shown_count m.pc) in
-    both (items_have_float (items_of (registers m))) (items_have_float (items_of words) || false) (registers-plain m)
-    (both (items_have_float (items_of words)) false (words-plain m (m.pc - 3) (shown_count m.pc)) refl)
+state-plain m = simp (registers-plain, words-plain)
 
 of-plain : (o : Option Process) → IsPlain (state_of o)
 of-plain None = refl
@@ -42,5 +37,5 @@ pub in-plain : (w : WorldState) (p : ℕ) → IsPlain (state_in w p)
 unfolding state_in
 in-plain w p = of-plain (slice_get w.processes p)
 
-pub states-plain : (w : WorldState) → IsPlain (states w)
-states-plain w = plain-below (length w.processes) (λ p. state_in w p ∷ []) (λ p. plain-one (state_in w p) (in-plain w p))
+pub states_plain : (w : WorldState) → IsPlain (states w)
+states_plain w = plain-below (length w.processes) (λ p. state_in w p ∷ []) (λ p. plain-one (state_in w p) (in-plain w p))

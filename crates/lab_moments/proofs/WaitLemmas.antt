@@ -1,8 +1,6 @@
 -- Who lets a process wait, and the circles of such processes.
-use Rattle.std.proofs.Common.{◌≡◌, ℕ, zero, suc, ◌+◌, ◌-◌, ◌<◌, ◌≤◌, ◌==◌, ◌&&◌, ◌||◌, false, nat_lt, not, Option, Some, None, List, [], ◌∷◌, ◌++◌, length, take, position, refl, sym, ap, ◌∙◌, append_assoc, append-nil, arith}
+use Rattle.std.proofs.Common.{◌≡◌, ℕ, zero, suc, ◌+◌, ◌-◌, ◌<◌, ◌≤◌, ◌==◌, ◌&&◌, nat_lt, not, Option, Some, None, List, [], ◌∷◌, ◌++◌, length, take, position, refl, ap, append_assoc, append-nil, arith}
 use Rattle.std.specs.List.{list_any}
-use Rattle.serde_json.specs.Data.{Data}
-use Rattle.serde_json.specs.Written.{has_float}
 use Rattle.ipc_kernel.specs.Kernel.{KernelState}
 use Rattle.ipc_traps.specs.declared.service.Service.{Service}
 use Rattle.lab_sched.specs.Worlds.{WorldState}
@@ -15,7 +13,7 @@ use Rattle.lab_moments.specs.Waits.{other_at, others, taken_data, wait_in, waits
 use Rattle.lab_moments.specs.declared.holds.Hold.{Hold}
 use Rattle.lab_moments.specs.declared.known.Known.{Known}
 use Rattle.lab_moments.proofs.ObjectLemmas.{takers-plain}
-use Rattle.lab_moments.proofs.PlainLemmas.{IsPlain, ArePlain, both, plain-one, plain-below, plain-naturals, plain-if, value-if}
+use Rattle.lab_moments.proofs.PlainLemmas.{IsPlain, ArePlain, plain-one, plain-below, plain-naturals, plain-if, value-if}
 
 other-plain : (k : KernelState) (p place : ℕ) (s : Service) (q : ℕ) → ArePlain (other_at k p place s q)
 unfolding other_at
@@ -24,15 +22,12 @@ other-plain k p place s q = plain-if (not (q == p) && has_open k place s q) (nat
 others-plain : (w : WorldState) (p place : ℕ) (s : Service) → ArePlain (others w p place s)
 others-plain w p place s = plain-below (length w.processes) (other_at w.kernel p place s) (other-plain w.kernel p place s)
 
+taken-plain : (w : WorldState) (t : TallyState) (ks : List (Option Known)) (place : ℕ) → IsPlain (taken_data w t ks place)
+taken-plain w t ks place = value-if (nat_lt 0 (made_with (known_at ks place))) (list (takers w t place)) (takers-plain w t place)
+
 wait-plain : (w : WorldState) (t : TallyState) (ks : List (Option Known)) (p : ℕ) (o : Option (Service × ℕ)) → ArePlain (wait_in w t ks p o)
 wait-plain w t ks p None = refl
-wait-plain w t ks p (Some call) =
-    let taken : Data = taken_data w t ks call.1 in
-    let could : Data = list (others w p call.1 call.0) in
-    plain-one (list (natural p ∷ taken ∷ could ∷ []))
-    (both (has_float taken) (has_float could || false)
-    (value-if (nat_lt 0 (made_with (known_at ks call.1))) (list (takers w t call.1)) (takers-plain w t call.1))
-    (plain-one could (others-plain w p call.1 call.0)))
+wait-plain w t ks p (Some call) = simp (taken-plain, others-plain)
 
 pub waits-plain : (w : WorldState) (t : TallyState) (ks : List (Option Known)) → IsPlain (waits_data w t ks)
 unfolding waits_data
@@ -73,24 +68,14 @@ followed-all bs n i o h =
 pub followed-added : (bs : List (Option ℕ)) (n i p : ℕ) (o next : Option ℕ) (was now all : List ℕ) → i < n → o ≡ Some p → now ≡ was ++ p ∷ []
     → next ≡ blocker bs p → was ++ followed bs (n - i) o ≡ all → now ++ followed bs (n - (i + 1)) next ≡ all
 followed-added bs n i p o next was now all h some added behind so_far =
-    ap (λ (l : List ℕ). l ++ followed bs (n - (i + 1)) next) added
-    ∙ append_assoc was (p ∷ []) (followed bs (n - (i + 1)) next)
-    ∙ ap (λ (x : Option ℕ). was ++ (p ∷ followed bs (n - (i + 1)) x)) behind
-    ∙ ap (λ (l : List ℕ). was ++ l) (sym (followed-more bs n i p h))
-    ∙ ap (λ (x : Option ℕ). was ++ followed bs (n - i) x) (sym some)
-    ∙ so_far
+    rw (added, behind, append_assoc was (p ∷ []) (followed bs (n - (i + 1)) (blocker bs p))) (rw (some, followed-more bs n i p h) at so_far)
 
 -- nobody follows
 pub followed-stays : (bs : List (Option ℕ)) (n i : ℕ) (o : Option ℕ) (was all : List ℕ) → o ≡ None
     → was ++ followed bs (n - i) o ≡ all → was ++ followed bs (n - (i + 1)) o ≡ all
-followed-stays bs n i o was all none so_far =
-    ap (λ (x : Option ℕ). was ++ followed bs (n - (i + 1)) x) none
-    ∙ ap (λ (l : List ℕ). was ++ l) (followed-none bs (n - (i + 1)) ∙ sym (followed-none bs (n - i)))
-    ∙ ap (λ (x : Option ℕ). was ++ followed bs (n - i) x) (sym none)
-    ∙ so_far
+followed-stays bs n i o was all none so_far = rw (none, followed-none bs (n - (i + 1))) (rw (none, followed-none bs (n - i)) at so_far)
 
 -- all of them
 pub followed-whole : (bs : List (Option ℕ)) (n i : ℕ) (o : Option ℕ) (was all : List ℕ) → n ≤ i
     → was ++ followed bs (n - i) o ≡ all → was ≡ all
-followed-whole bs n i o was all h so_far =
-    sym (append-nil was) ∙ ap (λ (l : List ℕ). was ++ l) (sym (followed-all bs n i o h)) ∙ so_far
+followed-whole bs n i o was all h so_far = rw (followed-all bs n i o h, append-nil was) at so_far

@@ -1,8 +1,8 @@
 //! The steps between two lines of the trace.
-ghost use Rattle.std.specs.Prelude.{◌≡◌, IfOk, OnOk, map, length, option_to_list, slice_set};
+ghost use Rattle.std.specs.Prelude.{◌≡◌, IfOk, OnOk, option_to_list, slice_set};
 ghost use Rattle.std.specs.Option.{option_map};
 ghost use Rattle.serde_json.specs.View.{view};
-ghost use Rattle.lab_moments.specs.Between.{none_between, count_of, with_steps, between_after, count_data, between_data};
+ghost use Rattle.lab_moments.specs.Between.{count_of, with_steps, between_after, count_data, between_data};
 
 use crate::values::push_some;
 use lab_told::{Taken, Told};
@@ -40,21 +40,6 @@ fn count_of(between: &[StepCount], pid: usize) -> StepCount
     }
 }
 
-/// Keeps the steps of process `pid`, where it is there.
-fn set(between: &mut Vec<StepCount>, pid: usize, count: StepCount)
-    ensures set { between.new.items ≡ slice_set between.old.items pid count }
-{
-    if let Some(kept) = between.get_mut(pid) {
-        *kept = count;
-    }
-}
-
-fn clear(between: &mut Vec<StepCount>)
-    ensures none { between.new.items ≡ none_between (length between.old.items) }
-{
-    between.fill(NO_STEPS);
-}
-
 /// Adds so many counted steps of process `pid`, and so many without an effect.
 fn add_steps(
     between: &mut Vec<StepCount>,
@@ -68,7 +53,9 @@ fn add_steps(
     let was = count_of(between, pid);
     let local = was.local.checked_add(local).ok_or(AllocError)?;
     let idle = was.idle.checked_add(idle).ok_or(AllocError)?;
-    set(between, pid, StepCount { local, idle });
+    if let Some(kept) = between.get_mut(pid) {
+        *kept = StepCount { local, idle };
+    }
     Ok(())
 }
 
@@ -82,14 +69,14 @@ pub fn keep_between(between: &mut Vec<StepCount>, taken: &Taken<'_>) -> Result<(
         Told::Nothing => add_steps(between, pid, 0, if taken.waited { count } else { 0 }),
         Told::Counted => add_steps(between, pid, count, 0),
         Told::Shown(_) => {
-            clear(between);
+            between.fill(NO_STEPS);
             Ok(())
         }
     }
 }
 
 /// The steps of each process that took some, one by one.
-#[tactic(auto, using(crate::proofs::ValueLemmas::all_below_none), unfolding(crate::specs::Between::between_data))]
+#[tactic(auto, using(crate::proofs::ValueLemmas::below), unfolding(crate::specs::Between::between_data))]
 pub fn between_value(alloc: Global, between: &[StepCount]) -> Result<Value, AllocError>
     ensures value { IfOk result (λ v. view v ≡ between_data between.now) }
 {

@@ -1,5 +1,5 @@
 //! Circles of processes, of which each waits for what the next has taken.
-ghost use Rattle.std.specs.Prelude.{◌≡◌, ◌==◌, ◌<◌, ◌∷◌, IfOk, IfSome, map, length, slice_get, position, nat_lt};
+ghost use Rattle.std.specs.Prelude.{◌≡◌, ◌==◌, ◌<◌, ◌∷◌, IfOk, IfSome, length, position, nat_lt};
 ghost use Rattle.std.specs.List.{find, list_any};
 ghost use Rattle.std.specs.Option.{option_map, option_to_list};
 ghost use Rattle.serde_json.specs.View.{view};
@@ -37,14 +37,11 @@ fn blocker_of(world: &World, holds: &[Hold], pid: usize) -> Option<usize>
     ensures blocker { result ≡ blocker_in world.now holds.now (awaited_at world.now pid) }
 {
     let (_, place) = awaited_at(world, pid)?;
-    match last_blocking(world, holds, place) {
-        Some(hold) => Some(hold.pid),
-        None => None,
-    }
+    Some(last_blocking(world, holds, place)?.pid)
 }
 
 /// Of each process the one that waits and has taken what it waits for.
-#[tactic(auto, using(crate::proofs::KnownLemmas::below_none), unfolding(crate::specs::Waits::blockers))]
+#[tactic(auto, using(crate::proofs::ValueLemmas::below), unfolding(crate::specs::Waits::blockers))]
 fn blockers(alloc: Global, world: &World, holds: &[Hold]) -> Result<Vec<Option<usize>>, AllocError>
     ensures blockers { IfOk result (λ v. v.items ≡ blockers world.now holds.now) }
 {
@@ -117,7 +114,7 @@ fn circle_from(alloc: Global, pid: usize, behind: &[usize]) -> Result<Option<Val
 }
 
 /// The circles of processes in a world, each by its least one, by the units that are taken.
-#[tactic(auto, using(crate::proofs::ValueLemmas::all_below_none), unfolding(crate::specs::Waits::circles_data))]
+#[tactic(auto, using(crate::proofs::ValueLemmas::below), unfolding(crate::specs::Waits::circles_data))]
 pub fn circles_value(alloc: Global, world: &World, holds: &[Hold]) -> Result<Value, AllocError>
     ensures value { IfOk result (λ v. view v ≡ circles_data world.now holds.now) }
 {

@@ -10,7 +10,7 @@ use crate::holds::over_value;
 use crate::known::objects_told;
 use crate::open::open_value;
 use crate::past::Past;
-use crate::values::{bytes_value, words_value};
+use crate::values::list_value;
 use ipc_errors::error_name;
 use ipc_kernel::Reply;
 use ipc_traps::Service;
@@ -37,10 +37,10 @@ fn message_words(alloc: Global, call: &Called) -> Result<Value, AllocError>
         ≡ or_null (option_map naturals (words_of call.now.outcome call.now.sent))) }
 {
     if let Outcome::Replied(Reply::Message { words, .. }) = &call.outcome {
-        return words_value(alloc, words.as_slice());
+        return list_value(alloc, words.as_slice());
     }
     match &call.sent {
-        Some(words) => words_value(alloc, words.as_slice()),
+        Some(words) => list_value(alloc, words.as_slice()),
         None => Ok(Value::Null),
     }
 }
@@ -63,10 +63,7 @@ fn step_value(step: Option<u32>) -> Value
 fn sender(origin: Option<Origin>) -> Option<u32>
     ensures step { result ≡ option_map (λ o. o.step) origin }
 {
-    match origin {
-        Some(origin) => Some(origin.step),
-        None => None,
-    }
+    Some(origin?.step)
 }
 
 fn answer_text(alloc: Global, outcome: &Outcome) -> Result<String, AllocError>
@@ -101,7 +98,7 @@ pub fn act_value(alloc: Global, act: &Act) -> Result<Value, AllocError>
 {
     match act {
         Act::Calls(call) => called_value(alloc, call),
-        Act::Writes(bytes) => { json!(in alloc; ["output", bytes_value(alloc, bytes.as_slice())?]) }
+        Act::Writes(bytes) => { json!(in alloc; ["output", list_value(alloc, bytes.as_slice())?]) }
         Act::Ends(how) => {
             let how = how_name(*how);
             json!(in alloc; ["ends", how])

@@ -1,12 +1,13 @@
 //! The units of semaphores that processes have taken and not given back.
-ghost use Rattle.std.specs.Prelude.{◌≡◌, [], IfOk, OnOk, map};
+ghost use Rattle.std.specs.Prelude.{◌≡◌, IfOk, OnOk};
 ghost use Rattle.std.specs.List.{find, filter};
-ghost use Rattle.std.specs.Option.{option_map, option_to_list};
+ghost use Rattle.std.specs.Option.{option_to_list};
 ghost use Rattle.serde_json.specs.View.{view};
 ghost use Rattle.lab_told.specs.Answers.{act_done};
 ghost use Rattle.lab_moments.specs.Holds.{given_by, has_taken, holds_after, holds_data, holds_over, is_hold_of, is_kept, is_over, taken_by};
 
 use crate::known::{Known, made_with};
+use crate::values::{AsData, list_value};
 use ipc_kernel::Kernel;
 use ipc_traps::Service;
 use lab_told::{Act, Taken, Tally};
@@ -22,6 +23,16 @@ pub struct Hold {
     pub place: u8,
     /// The step in which the process took it.
     pub step: u32,
+}
+
+impl AsData for Hold {
+    ghost use Rattle.lab_moments.specs.Holds.{hold_data};
+
+    ghost form = { hold_data };
+
+    fn value(&self, alloc: Global) -> Result<Value, AllocError> {
+        json!(in alloc; [self.pid, self.step])
+    }
 }
 
 fn is_hold_of(hold: &Hold, place: u8, pid: usize) -> bool
@@ -91,30 +102,17 @@ fn over(
 ) -> Result<Vec<Hold>, AllocError>
     ensures over { IfOk result (λ v. v.items ≡ filter (is_over kernel.now given) holds.now) }
 {
-    let mut over = Vec::new(alloc);
-    for hold in holds {
-        if !is_kept(kernel, given, *hold) {
-            over.push(*hold)?;
-        }
-    }
-    Ok(over)
+    holds
+        .iter()
+        .copied()
+        .filter(|hold| !is_kept(kernel, given, *hold))
+        .collect(alloc)
 }
 
 fn drop_over(holds: &mut Vec<Hold>, kernel: &Kernel, given: Option<Hold>)
     ensures kept { holds.new.items ≡ filter (is_kept kernel.now given) holds.old.items }
 {
     holds.retain(|hold| is_kept(kernel, given, *hold));
-}
-
-/// Units, one by one.
-pub fn holds_value(alloc: Global, holds: &[Hold]) -> Result<Value, AllocError>
-    ensures value { IfOk result (λ v. view v ≡ holds_data holds.now) }
-{
-    let mut values = Vec::new(alloc);
-    for hold in holds {
-        values.push(json!(in alloc; [hold.pid, hold.step])?)?;
-    }
-    Ok(Value::Array(values))
 }
 
 /// Keeps what a process did in a step among the units that are taken, the last one first.
@@ -148,5 +146,5 @@ pub fn over_value(
         ≡ holds_data (holds_over kernel.now pid act.now holds.now)) }
 {
     let given = given_by(holds, pid, act);
-    holds_value(alloc, &over(alloc, kernel, given, holds)?)
+    list_value(alloc, &over(alloc, kernel, given, holds)?)
 }

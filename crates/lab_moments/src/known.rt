@@ -93,7 +93,7 @@ pub fn made_with(objects: &[Option<Known>], place: u8) -> u16
 }
 
 /// What is known of the object in each place after a step, by the kernel after it.
-#[tactic(auto, using(crate::proofs::KnownLemmas::below_none), unfolding(crate::specs::Changes::known_after))]
+#[tactic(auto, using(crate::proofs::ValueLemmas::below), unfolding(crate::specs::Changes::known_after))]
 pub fn known_after(
     alloc: Global,
     objects: &[Option<Known>],
@@ -134,7 +134,7 @@ fn object_told(
 }
 
 /// The objects that are told after a step, in order of place.
-#[tactic(auto, using(crate::proofs::ValueLemmas::all_below_none), unfolding(crate::specs::Changes::objects_told))]
+#[tactic(auto, using(crate::proofs::ValueLemmas::below), unfolding(crate::specs::Changes::objects_told))]
 pub fn objects_told(
     alloc: Global,
     objects: &[Option<Known>],

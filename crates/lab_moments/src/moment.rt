@@ -1,5 +1,5 @@
 //! The moment after a step.
-ghost use Rattle.std.specs.Prelude.{◌≡◌, ◌<◌, false, IfOk, length, option_to_list};
+ghost use Rattle.std.specs.Prelude.{◌≡◌, ◌<◌, IfOk, length, option_to_list};
 ghost use Rattle.std.specs.Option.{option_map};
 ghost use Rattle.serde_json.specs.View.{view};
 ghost use Rattle.lab_moments.specs.Moments.{counted_moment, shown_moment, moment_by};

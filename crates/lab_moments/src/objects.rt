@@ -1,5 +1,5 @@
 //! Message queues and semaphores at a moment, and who waits for them.
-ghost use Rattle.std.specs.Prelude.{◌≡◌, ◌<◌, [], Some, IfOk, map, length, filter};
+ghost use Rattle.std.specs.Prelude.{◌≡◌, ◌<◌, Some, IfOk, map, length, filter};
 ghost use Rattle.std.specs.Option.{option_map, option_copied, option_to_list};
 ghost use Rattle.serde_json.specs.View.{view};
 ghost use Rattle.ipc_kernel.specs.Places.{place_at};
@@ -8,7 +8,7 @@ ghost use Rattle.lab_told.specs.Origins.{is_in};
 ghost use Rattle.lab_moments.specs.Values.{or_null};
 ghost use Rattle.lab_moments.specs.Objects.{name_data, awaited, awaited_at, waiter, waiters, taker_at, takers, semaphore_data, origin_data, message_data, message_at, messages, queue_data, object_data};
 
-use crate::values::{push_some, words_value};
+use crate::values::{list_value, push_some};
 use ipc_kernel::Kernel;
 use ipc_names::Name;
 use ipc_objects::Queue;
@@ -62,7 +62,7 @@ fn waiter(world: &World, place: u8, pid: usize) -> Option<Value>
     }
 }
 
-#[tactic(auto, using(crate::proofs::ValueLemmas::all_below_none))]
+#[tactic(auto, using(crate::proofs::ValueLemmas::below))]
 fn waiters(alloc: Global, world: &World, place: u8) -> Result<Vec<Value>, AllocError>
     ensures waiters { IfOk result (λ v. map view v.items ≡ waiters world.now place) }
 {
@@ -93,7 +93,7 @@ fn taker_at(
 }
 
 /// The processes that took more units of the semaphore in a place than they gave.
-#[tactic(auto, using(crate::proofs::ValueLemmas::all_below_none))]
+#[tactic(auto, using(crate::proofs::ValueLemmas::below))]
 pub fn takers(
     alloc: Global,
     world: &World,
@@ -110,28 +110,34 @@ pub fn takers(
     Ok(takers)
 }
 
+/// The place of an object in a world, with the tally of the steps to that.
+#[derive(Clone, Copy)]
+struct ObjectPlace<'a> {
+    world: &'a World,
+    tally: &'a Tally,
+    place: u8,
+}
+
 /// The semaphore in a place, which was made with some value.
 #[tactic(auto, unfolding(crate::specs::Objects::semaphore_data))]
 fn semaphore_value(
     alloc: Global,
-    world: &World,
-    tally: &Tally,
+    at: &ObjectPlace<'_>,
     made: u16,
-    place: u8,
     name: Option<&Name>,
     value: u16,
 ) -> Result<Value, AllocError>
-    ensures value { IfOk result (λ v. view v
-        ≡ semaphore_data world.now tally.now made place (option_copied name.entry, value)) }
+    ensures value { IfOk result (λ v. view v ≡ semaphore_data at.now.world.now at.now.tally.now
+        made at.now.place (option_copied name.entry, value)) }
 {
     json!(in alloc; [
         "sem",
-        place,
+        at.place,
         name_value(alloc, name)?,
-        waiters(alloc, world, place)?,
+        waiters(alloc, at.world, at.place)?,
         value,
         made,
-        takers(alloc, world, tally, place)?
+        takers(alloc, at.world, at.tally, at.place)?
     ])
 }
 
@@ -168,7 +174,7 @@ fn message_value(
         ≡ message_data (record { priority = priority; words = words.now })
         (option_copied origin.entry)) }
 {
-    json!(in alloc; [priority, words_value(alloc, words)?, origin_value(alloc, origin)?])
+    json!(in alloc; [priority, list_value(alloc, words)?, origin_value(alloc, origin)?])
 }
 
 /// Message number `index` of a queue, where it is there.
@@ -191,7 +197,7 @@ fn message_at(
 }
 
 /// The messages of a queue in the order of receive.
-#[tactic(auto, using(crate::proofs::ValueLemmas::all_below_none))]
+#[tactic(auto, using(crate::proofs::ValueLemmas::below))]
 fn messages(alloc: Global, queue: &Queue, origins: &[Origin]) -> Result<Vec<Value>, AllocError>
     ensures messages { IfOk result (λ v. map view v.items ≡ messages origins.now queue.now) }
 {
@@ -207,24 +213,22 @@ fn messages(alloc: Global, queue: &Queue, origins: &[Origin]) -> Result<Vec<Valu
 #[tactic(auto, unfolding(crate::specs::Objects::queue_data))]
 fn queue_value(
     alloc: Global,
-    world: &World,
-    tally: &Tally,
-    place: u8,
+    at: &ObjectPlace<'_>,
     name: Option<&Name>,
     queue: &Queue,
 ) -> Result<Value, AllocError>
-    ensures value { IfOk result (λ v. view v
-        ≡ queue_data world.now tally.now place (option_copied name.entry, queue.now)) }
+    ensures value { IfOk result (λ v. view v ≡ queue_data at.now.world.now at.now.tally.now
+        at.now.place (option_copied name.entry, queue.now)) }
 {
     let (most, size, _) = queue.attr();
     json!(in alloc; [
         "mq",
-        place,
+        at.place,
         name_value(alloc, name)?,
-        waiters(alloc, world, place)?,
+        waiters(alloc, at.world, at.place)?,
         most,
         size,
-        messages(alloc, queue, &origins_in(alloc, tally, place)?)?
+        messages(alloc, queue, &origins_in(alloc, at.tally, at.place)?)?
     ])
 }
 
@@ -240,11 +244,16 @@ pub fn object_value(
         ≡ object_data world.now tally.now made place (place_at world.now.kernel.places place)) }
 {
     let kernel = world.kernel();
+    let at = ObjectPlace {
+        world,
+        tally,
+        place,
+    };
     if let Some((name, queue)) = kernel.queue_at(place) {
-        return queue_value(alloc, world, tally, place, name, queue);
+        return queue_value(alloc, &at, name, queue);
     }
     match kernel.semaphore_at(place) {
-        Some((name, value)) => semaphore_value(alloc, world, tally, made, place, name, value),
+        Some((name, value)) => semaphore_value(alloc, &at, made, name, value),
         None => json!(in alloc; ["gone", place]),
     }
 }

@@ -1,5 +1,5 @@
 //! What a process has open.
-ghost use Rattle.std.specs.Prelude.{◌≡◌, ◌++◌, ◌<◌, IfOk, OnOk, map, length, option_to_list};
+ghost use Rattle.std.specs.Prelude.{◌≡◌, ◌++◌, ◌<◌, IfOk, OnOk, map, length};
 ghost use Rattle.std.specs.Option.{option_map};
 ghost use Rattle.serde_json.specs.View.{view};
 ghost use Rattle.ipc_kernel.specs.Limits.{open_max};
@@ -39,7 +39,7 @@ fn slot_value(alloc: Global, number: u16, held: Option<Slot>) -> Result<Option<V
     Ok(Some(json!(in alloc; ["sem", number, place, opens])?))
 }
 
-#[tactic(auto, using(crate::proofs::ValueLemmas::all_below_behind))]
+#[tactic(auto, using(crate::proofs::ValueLemmas::below))]
 fn push_descriptors(values: &mut Vec<Value>, world: &World, pid: usize) -> Result<(), AllocError>
     requires process { pid < length world.now.processes }
     ensures added { OnOk result (map view values.new.items
@@ -54,7 +54,7 @@ fn push_descriptors(values: &mut Vec<Value>, world: &World, pid: usize) -> Resul
     Ok(())
 }
 
-#[tactic(auto, using(crate::proofs::ValueLemmas::all_below_behind))]
+#[tactic(auto, using(crate::proofs::ValueLemmas::below))]
 fn push_slots(values: &mut Vec<Value>, world: &World, pid: usize) -> Result<(), AllocError>
     requires process { pid < length world.now.processes }
     ensures added { OnOk result (map view values.new.items

@@ -1,5 +1,5 @@
 //! What a page keeps of the steps so far, beside the world and the tally.
-ghost use Rattle.std.specs.Prelude.{◌≡◌, ◌==◌, ◌++◌, not, IfOk, OnOk, length};
+ghost use Rattle.std.specs.Prelude.{◌≡◌, ◌==◌, ◌++◌, not, IfOk, OnOk};
 ghost use Rattle.std.specs.List.{filter};
 ghost use Rattle.lab_told.specs.Answers.{act_done};
 ghost use Rattle.lab_moments.specs.Pasts.{first_past, past_after, past_with, received_by, sent_by, unreceived_without};

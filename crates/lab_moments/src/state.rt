@@ -34,7 +34,7 @@ fn word_value(alloc: Global, word: u16) -> Result<Value, AllocError>
 }
 
 /// So many words of the memory of a process, from an address on.
-#[tactic(auto, using(crate::proofs::ValueLemmas::all_below_none))]
+#[tactic(auto, using(crate::proofs::ValueLemmas::below))]
 fn words_from(
     alloc: Global,
     process: &Process,
@@ -60,7 +60,7 @@ fn register(process: &Process, number: u16) -> u16
     process.machine().reg(Reg::of_low_bits(number))
 }
 
-#[tactic(auto, using(crate::proofs::ValueLemmas::all_below_none))]
+#[tactic(auto, using(crate::proofs::ValueLemmas::below))]
 fn registers(alloc: Global, process: &Process) -> Result<Vec<Value>, AllocError>
     ensures registers { IfOk result (λ v. map view v.items
         ≡ registers (machine_of (process_view process.now))) }
@@ -110,7 +110,7 @@ pub fn state_in(alloc: Global, world: &World, pid: usize) -> Result<Value, Alloc
 }
 
 /// The processes of a world.
-#[tactic(auto, using(crate::proofs::ValueLemmas::all_below_none))]
+#[tactic(auto, using(crate::proofs::ValueLemmas::below))]
 pub fn states(alloc: Global, world: &World) -> Result<Value, AllocError>
     ensures value { IfOk result (λ v. view v ≡ states world.now) }
 {

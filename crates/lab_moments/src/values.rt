@@ -1,41 +1,53 @@
 //! What the data of a page are made of: values of JSON.
 ghost use Rattle.std.specs.Prelude.{◌≡◌, ◌++◌, IfOk, OnOk, map, option_to_list};
 ghost use Rattle.std.specs.Option.{option_map};
+ghost use Rattle.serde_json.specs.Data.{Data};
 ghost use Rattle.serde_json.specs.View.{view};
-ghost use Rattle.lab_moments.specs.Values.{naturals};
+ghost use Rattle.lab_moments.specs.Values.{list, natural};
 
 use serde_json::Value;
 use std::alloc::{AllocError, Global};
 
-/// Words as numbers.
-pub fn words_value(alloc: Global, words: &[u16]) -> Result<Value, AllocError>
-    ensures value { IfOk result (λ v. view v ≡ naturals words.now) }
-{
-    let mut values = Vec::new(alloc);
-    for word in words {
-        values.push(Value::from(*word))?;
-    }
-    Ok(Value::Array(values))
+/// What stands in the data of a page.
+pub trait AsData {
+    /// The form that it has there.
+    ghost form: { Self → Data };
+
+    fn value(&self, alloc: Global) -> Result<Value, AllocError>
+        ensures value { IfOk result (λ v. view v ≡ form self.now) };
 }
 
-/// Bytes as numbers.
-pub fn bytes_value(alloc: Global, bytes: &[u8]) -> Result<Value, AllocError>
-    ensures value { IfOk result (λ v. view v ≡ naturals bytes.now) }
-{
-    let mut values = Vec::new(alloc);
-    for byte in bytes {
-        values.push(Value::from(*byte))?;
+impl AsData for u8 {
+    ghost form = { natural };
+
+    fn value(&self, _alloc: Global) -> Result<Value, AllocError> {
+        Ok(Value::from(*self))
     }
-    Ok(Value::Array(values))
 }
 
-/// Steps by their numbers.
-pub fn steps_value(alloc: Global, steps: &[u32]) -> Result<Value, AllocError>
-    ensures value { IfOk result (λ v. view v ≡ naturals steps.now) }
+impl AsData for u16 {
+    ghost form = { natural };
+
+    fn value(&self, _alloc: Global) -> Result<Value, AllocError> {
+        Ok(Value::from(*self))
+    }
+}
+
+impl AsData for u32 {
+    ghost form = { natural };
+
+    fn value(&self, _alloc: Global) -> Result<Value, AllocError> {
+        Ok(Value::from(*self))
+    }
+}
+
+/// A list of what stands in the data of a page.
+pub fn list_value<T: AsData>(alloc: Global, items: &[T]) -> Result<Value, AllocError>
+    ensures value { IfOk result (λ v. view v ≡ list (map T.form items.now)) }
 {
     let mut values = Vec::new(alloc);
-    for step in steps {
-        values.push(Value::from(*step))?;
+    for item in items {
+        values.push(item.value(alloc)?)?;
     }
     Ok(Value::Array(values))
 }

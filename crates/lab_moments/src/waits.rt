@@ -29,7 +29,7 @@ fn other_at(kernel: &Kernel, pid: usize, place: u8, service: Service, other: usi
     }
 }
 
-#[tactic(auto, using(crate::proofs::ValueLemmas::all_below_none))]
+#[tactic(auto, using(crate::proofs::ValueLemmas::below))]
 fn others(
     alloc: Global,
     world: &World,
@@ -89,7 +89,7 @@ fn wait_at(
 }
 
 /// The processes that wait, each with who could let it go on.
-#[tactic(auto, using(crate::proofs::ValueLemmas::all_below_none), unfolding(crate::specs::Waits::waits_data))]
+#[tactic(auto, using(crate::proofs::ValueLemmas::below), unfolding(crate::specs::Waits::waits_data))]
 pub fn waits_value(
     alloc: Global,
     world: &World,
