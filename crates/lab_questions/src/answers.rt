@@ -1,7 +1,7 @@
 //! Answers on what was found.
-ghost use Rattle.std.specs.Prelude.{◌≡◌, None, map, string_bytes, All, IfOk, IfSome};
+ghost use Rattle.std.specs.Prelude.{◌≡◌, None, map, position, string_bytes, bytes_eq, All, IfOk, IfSome};
 ghost use Rattle.std.specs.Option.{option_copied};
-ghost use Rattle.lab_questions.specs.EndTexts.{AreTold, told_end};
+ghost use Rattle.lab_questions.specs.EndTexts.{text_of, told_ends, AreTold, told_end};
 ghost use Rattle.lab_worlds.specs.Calls.{Alongside};
 ghost use Rattle.lab_questions.specs.Judgments.{IsAnswer};
 ghost use Rattle.lab_questions.specs.Outputs.{IsOutputAnswer};
@@ -48,6 +48,8 @@ pub struct Answers {
     pub text: String,
     /// The numbers of the ends that are told, counted from 0, in the order in which they are.
     pub told: Vec<usize>,
+    /// What is told of each of these.
+    pub texts: Vec<String>,
     pub failure: Option<Failure>,
 }
 
@@ -58,6 +60,7 @@ pub(crate) struct Said {
     pub output_faults: Vec<Option<usize>>,
     pub text: String,
     pub told: Vec<usize>,
+    pub texts: Vec<String>,
     pub failure: Option<Failure>,
 }
 
@@ -70,12 +73,19 @@ impl Answers {
         self.exploration.ends.get(*self.told.get(before)?)
     }
 
-    /// What is told of a world at rest: two ends of which the same is told are told as one.
-    pub fn text_of(&self, alloc: Global, world: &World) -> Result<String, AllocError>
-        ensures text { IfOk result
-            (λ text. string_bytes text ≡ shown_text self.now.asked.show world.now) }
+    /// The number of the end that a world at rest is told as, counted from 0, if it is: two ends of which the same is told are
+    /// told as one.
+    pub fn number_of(&self, alloc: Global, world: &World) -> Result<Option<usize>, AllocError>
+        ensures number { IfOk result (λ number. number
+            ≡ position (λ told. bytes_eq (string_bytes told)
+            (shown_text self.now.asked.show world.now)) self.now.texts.items) }
     {
-        shown_text(alloc, world, self.asked.show)
+        let text = shown_text(alloc, world, self.asked.show)?;
+        Ok(
+            self.texts
+                .iter()
+                .position(|told| told.as_str() == text.as_str()),
+        )
     }
 }
 
@@ -115,6 +125,8 @@ pub(crate) fn said_of(
     ensures text { IfOk result (λ s. string_bytes s.text
         ≡ answers_text walks asked.now found.now s.answers.items s.output_faults.items ways.now) }
     ensures told { IfOk result (λ s. AreTold asked.now.show found.now.ends.items s.told.items) }
+    ensures texts { IfOk result (λ s. map string_bytes s.texts.items
+        ≡ map (text_of asked.now.show) (told_ends asked.now.show found.now.ends.items)) }
     ensures none { IfOk result (λ s. s.failure ≡ None
         → Passes found.now s.answers.items s.output_faults.items × AreAlways ways.now) }
     ensures some { IfOk result (λ s. IfSome s.failure (λ f.
@@ -137,6 +149,7 @@ pub(crate) fn said_of(
         output_faults,
         text: told.text,
         told: told.numbers,
+        texts: told.texts,
         failure,
     })
 }

@@ -8,7 +8,7 @@ ghost use Rattle.lab_worlds.specs.Reached.{AreReached, AreKept};
 ghost use Rattle.lab_worlds.specs.Lassos.{IsLasso, CanBeRepeated, AreBounded};
 ghost use Rattle.lab_worlds.specs.Fairness.{IsFairLasso, AreFairlyEndless, AreFairlyBounded};
 ghost use Rattle.lab_questions.specs.Claims.{SaysComplete, SaysEndless, SaysStuck, TellsEveryEnd};
-ghost use Rattle.lab_questions.specs.EndTexts.{told_ends, AreTold};
+ghost use Rattle.lab_questions.specs.EndTexts.{text_of, told_ends, AreTold};
 ghost use Rattle.lab_questions.specs.Judgments.{IsAnswer, HasOtherVerdict, verdict_asked};
 ghost use Rattle.lab_questions.specs.Objects.{named, AreUnopened, StandsBefore};
 ghost use Rattle.lab_questions.specs.Outputs.{IsOutputAnswer, IsOutputRefuted, AlwaysWritten};
@@ -63,6 +63,8 @@ pub fn ask<O: Observer, R: Threads + Sync>(
         a.ways.items) }
     ensures numbers { IfOk result (λ a.
         AreTold asked.show a.exploration.ends.items a.told.items) }
+    ensures texts { IfOk result (λ a. map string_bytes a.texts.items
+        ≡ map (text_of asked.show) (told_ends asked.show a.exploration.ends.items)) }
     ensures answers { IfOk result (λ a.
         All (IsAnswer asked.waiters.items a.exploration.ends.items) a.answers.items) }
     ensures output_answers { IfOk result (λ a. Alongside (IsOutputAnswer a.exploration.ends.items)
@@ -151,6 +153,7 @@ pub fn ask<O: Observer, R: Threads + Sync>(
         unopened: found.unopened,
         text: said.text,
         told: said.told,
+        texts: said.texts,
         failure: said.failure,
     })
 }

@@ -1,6 +1,6 @@
 //! The lines of answers.
-ghost use Rattle.std.specs.Prelude.{◌≡◌, ◌<◌, ◌++◌, Some, length, OnOk, IfOk, IfSome, All, string_bytes, flat_map};
-ghost use Rattle.lab_questions.specs.EndTexts.{schedule_line, AreTold};
+ghost use Rattle.std.specs.Prelude.{◌≡◌, ◌<◌, ◌++◌, Some, length, map, OnOk, IfOk, IfSome, All, string_bytes, flat_map};
+ghost use Rattle.lab_questions.specs.EndTexts.{text_of, told_ends, schedule_line, AreTold};
 ghost use Rattle.lab_questions.specs.Texts.{schedule_at, first_lines, fault_lines, answer_lines, need_lines, needs_lines, condition_lines, reached_lines, word_lines, last_lines, judged_lines, answers_text};
 
 use crate::called::push_calls;
@@ -239,6 +239,9 @@ pub(crate) fn tell(alloc: Global, judged: Judged<'_>, walks: bool) -> Result<Tol
     ensures text { IfOk result (λ told. string_bytes told.text
         ≡ answers_text walks judged.entry.asked.now judged.entry.found.now
         judged.entry.answers.now judged.entry.faults.now judged.entry.ways.now) }
+    ensures texts { IfOk result (λ told. map string_bytes told.texts.items
+        ≡ map (text_of judged.entry.asked.now.show)
+        (told_ends judged.entry.asked.now.show judged.entry.found.now.ends.items)) }
     ensures told { IfOk result (λ told. AreTold judged.entry.asked.now.show
         judged.entry.found.now.ends.items told.numbers.items) }
 {

@@ -1,7 +1,7 @@
 //! The ends that are told: each text once.
 ghost use Rattle.std.specs.Prelude.{◌≡◌, map, IfOk, OnOk, string_bytes, bytes_eq};
 ghost use Rattle.std.specs.List.{list_any};
-ghost use Rattle.lab_questions.specs.EndTexts.{told_ends, ends_text, AreTold};
+ghost use Rattle.lab_questions.specs.EndTexts.{text_of, told_ends, ends_text, AreTold};
 ghost use Rattle.lab_questions.specs.Private.Told.{TellsNext};
 
 use crate::Show;
@@ -51,6 +51,8 @@ impl Told {
 pub(crate) fn told_of(alloc: Global, show: Show, ends: &[End]) -> Result<Told, AllocError>
     ensures text { IfOk result (λ told.
         string_bytes told.text ≡ ends_text show 1 (told_ends show ends.now)) }
+    ensures texts { IfOk result (λ told. map string_bytes told.texts.items
+        ≡ map (text_of show) (told_ends show ends.now)) }
     ensures numbers { IfOk result (λ told. AreTold show ends.now told.numbers.items) }
 {
     let mut told = Told {

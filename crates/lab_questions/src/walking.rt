@@ -2,7 +2,7 @@
 ghost use Rattle.std.specs.Prelude.{◌≡◌, None, true, false, [], map, string_bytes, All, IfOk, IfSome};
 ghost use Rattle.lab_worlds.specs.Ends.{AreEnds};
 ghost use Rattle.lab_worlds.specs.Calls.{Alongside};
-ghost use Rattle.lab_questions.specs.EndTexts.{AreTold};
+ghost use Rattle.lab_questions.specs.EndTexts.{text_of, told_ends, AreTold};
 ghost use Rattle.lab_questions.specs.Judgments.{IsAnswer};
 ghost use Rattle.lab_questions.specs.Outputs.{IsOutputAnswer, IsOutputRefuted};
 ghost use Rattle.lab_questions.specs.Programs.{IsRefuted};
@@ -31,6 +31,8 @@ pub fn ask_walks<O: Observer>(
         ≡ answers_text true asked a.exploration a.answers.items a.output_faults.items []) }
     ensures numbers { IfOk result (λ a.
         AreTold asked.show a.exploration.ends.items a.told.items) }
+    ensures texts { IfOk result (λ a. map string_bytes a.texts.items
+        ≡ map (text_of asked.show) (told_ends asked.show a.exploration.ends.items)) }
     ensures words { IfOk result (λ a. map (λ x. x.word) a.answers.items ≡ asked.words.items) }
     ensures answers { IfOk result (λ a.
         All (IsAnswer asked.waiters.items a.exploration.ends.items) a.answers.items) }
@@ -63,6 +65,7 @@ pub fn ask_walks<O: Observer>(
         unopened: Vec::new(alloc),
         text: said.text,
         told: said.told,
+        texts: said.texts,
         failure: said.failure,
     })
 }
