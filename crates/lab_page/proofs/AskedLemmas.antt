@@ -1,8 +1,6 @@
 -- What was asked has no floats.
-use Rattle.std.proofs.Common.{Bool, false, List, map, refl}
-use Rattle.serde_json.specs.View.{items_of}
-use Rattle.serde_json.specs.Written.{items_have_float}
-use Rattle.lab_moments.proofs.PlainLemmas.{IsPlain, both, plain-map}
+use Rattle.std.proofs.Common.{Bool, List, refl}
+use Rattle.lab_moments.proofs.PlainLemmas.{IsPlain, plain-map}
 use Rattle.lab_page.specs.Asked.{asked_data, asked_list, shown_data}
 use Rattle.lab_page.specs.declared.asked.Asked.{Asked}
 use Rattle.lab_page.specs.declared.asked.ShownRun.{ShownRun}
@@ -14,8 +12,7 @@ shown-plain (Other n) = refl
 
 one-plain : (complete : Bool) (a : Asked) → IsPlain (asked_data complete a)
 unfolding asked_data
-one-plain complete a =
-    both (items_have_float (items_of (map shown_data a.runs.items))) false (plain-map shown_data a.runs.items shown-plain) refl
+one-plain complete a = simp (plain-map shown_data a.runs.items shown-plain)
 
 pub asked-plain : (complete : Bool) (all : List Asked) → IsPlain (asked_list complete all)
 asked-plain complete all = plain-map (asked_data complete) all (one-plain complete)

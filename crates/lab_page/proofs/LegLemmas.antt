@@ -1,24 +1,22 @@
 -- What steps tell: they have no floats, and one step more is told behind the others.
-use Rattle.std.proofs.Common.{◌≡◌, ℕ, ◌+◌, ◌++◌, List, [], ◌∷◌, false, length, replicate, refl, sym, ap, ◌∙◌, append-nil, append_assoc, arith}
+use Rattle.std.proofs.Common.{◌≡◌, ℕ, ◌+◌, ◌++◌, List, [], ◌∷◌, false, replicate, refl, sym, ap, ◌∙◌, append-nil, append_assoc, arith}
 use Rattle.std.proofs.lemmas.List.{replicate-append-replicate}
 use Rattle.serde_json.specs.Data.{Data}
-use Rattle.serde_json.specs.View.{items_of}
-use Rattle.serde_json.specs.Written.{has_float, items_have_float}
+use Rattle.serde_json.specs.Written.{has_float}
 use Rattle.lab_sched.specs.Worlds.{WorldState, step}
-use Rattle.lab_told.specs.Scenes.{Scene, scene_at, first_scene, told, next_tally, next, scene_after}
+use Rattle.lab_told.specs.Scenes.{Scene, scene_at, told, next_tally, next, scene_after}
 use Rattle.lab_told.specs.Tallies.{TallyState}
 use Rattle.lab_told.specs.declared.told.Event.{Event}
 use Rattle.lab_told.specs.declared.told.Told.{Told}
 use Rattle.lab_told.specs.declared.told.Told.TheVariants.{Nothing, Counted, Shown}
 use Rattle.lab_told.proofs.SceneLemmas.{scene-append}
-use Rattle.lab_moments.specs.Events.{act_data}
-use Rattle.lab_moments.proofs.PlainLemmas.{IsPlain, ArePlain, both, plain-one, plain-append}
+use Rattle.lab_moments.proofs.PlainLemmas.{IsPlain, ArePlain, plain-one, plain-append}
 use Rattle.lab_moments.proofs.EventLemmas.{act-plain}
 use Rattle.lab_page.specs.Legs.{event_data, told_data, leg_events, leg_data}
 
 event-plain : (n : ℕ) (e : Event) → IsPlain (event_data n e)
 unfolding event_data
-event-plain n e = both (has_float (act_data e.act)) false (act-plain e.act) refl
+event-plain n e = simp act-plain
 
 told-plain : (n : ℕ) (t : Told) → ArePlain (told_data n t)
 told-plain n Nothing = refl
@@ -33,9 +31,7 @@ events-plain s (p ∷ ps) =
 
 pub leg_plain : (w : WorldState) (p n : ℕ) → has_float (leg_data w p n) ≡ false
 unfolding leg_data
-leg_plain w p n =
-    let ps : List ℕ = replicate n p in
-    both (items_have_float (items_of (leg_events (first_scene w) ps))) false (events-plain (first_scene w) ps) refl
+leg_plain w p n = simp events-plain
 
 pub leg-none : (s : Scene) → leg_events s [] ≡ []
 unfolding leg_events
@@ -62,9 +58,7 @@ leg-more s u done p is =
 
 pub leg-added : (s u : Scene) (done p : ℕ) (old now more : List Data) → u ≡ scene_after s (replicate done p) → now ≡ old ++ more
     → old ≡ leg_events s (replicate done p) → more ≡ told_data u.number (told u p) → now ≡ leg_events s (replicate (done + 1) p)
-leg-added s u done p old now more is items so_far added =
-    items ∙ ap (λ (l : List Data). l ++ more) so_far ∙ ap (λ (l : List Data). leg_events s (replicate done p) ++ l) added
-    ∙ leg-more s u done p is
+leg-added s u done p old now more is items so_far added = rw (items, so_far, added) (leg-more s u done p is)
 
 one-step : (u : Scene) (p : ℕ) → next u p ≡ scene_after u (p ∷ [])
 unfolding scene_after

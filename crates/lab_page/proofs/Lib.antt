@@ -1,5 +1,3 @@
-pub mod PastLemmas
-pub mod StandLemmas
 pub mod JsonLemmas
 pub mod MomentLemmas
 pub mod FaultLemmas
@@ -7,10 +5,6 @@ pub mod WrittenLemmas
 pub mod RunLemmas
 pub mod StoreLemmas
 pub mod SourceLemmas
-pub mod GetLemmas
 pub mod LegLemmas
 pub mod WorldLemmas
 pub mod AskedLemmas
-pub mod EndLemmas
-pub mod EndsMadeLemmas
-pub mod PageLemmas

@@ -1,28 +1,19 @@
--- The moments of steps, one after another.
-use Rattle.std.proofs.Common.{◌≡◌, ℕ, zero, suc, ◌+◌, Bool, List, [], ◌∷◌, ◌++◌, replicate, refl, sym, ap, ◌∙◌, append_assoc, append-nil}
+-- The moments of steps, one after another, and what is kept of steps without an effect.
+use Rattle.std.proofs.Common.{◌≡◌, ℕ, suc, Bool, List, [], ◌∷◌, ◌++◌, refl, sym, ap, ◌∙◌, append_assoc}
 use Rattle.serde_json.specs.Data.{Data}
-use Rattle.lab_sched.specs.Worlds.{StepEffect, nothing, local_step, kernel_step, step_effect_in}
-use Rattle.lab_told.specs.Scenes.{Scene, told, next, scene_after}
-use Rattle.lab_trace.specs.Forms.{Form}
+use Rattle.lab_sched.specs.Worlds.{nothing, step_effect_in}
+use Rattle.lab_told.specs.Scenes.{Scene, next, scene_after}
+use Rattle.lab_told.specs.Tellings.{waits_at}
 use Rattle.lab_told.specs.declared.told.Told.{Told}
 use Rattle.lab_told.specs.declared.told.Told.TheVariants.{Nothing}
-use Rattle.lab_told.proofs.SceneLemmas.{renumbered, next-still, told-still, told-some}
-use Rattle.lab_moments.specs.Pasts.{Past}
+use Rattle.lab_told.proofs.SceneLemmas.{renumbered, told-still}
+use Rattle.lab_trace.specs.Forms.{Form}
+use Rattle.lab_moments.specs.Between.{between_after}
 use Rattle.lab_moments.specs.Moments.{moment_by}
-use Rattle.lab_page.specs.Moments.{moment, moments, next_past, past_then}
-
-pub moments-none : (v : Form) (whole : Bool) (s : Scene) (b : Past) → moments v whole s b [] ≡ []
-unfolding moments
-moments-none v whole s b = refl
-
-pub moments-first : (v : Form) (whole : Bool) (s : Scene) (b : Past) (p : ℕ) (ps : List ℕ)
-    → moments v whole s b (p ∷ ps) ≡ moment v whole s b p ++ moments v whole (next s p) (next_past s p b) ps
-unfolding moments
-moments-first v whole s b p ps = refl
-
-moments-one : (v : Form) (whole : Bool) (s : Scene) (b : Past) (p : ℕ) → moments v whole s b (p ∷ []) ≡ moment v whole s b p
-unfolding moments
-moments-one v whole s b p = append-nil (moment v whole s b p)
+use Rattle.lab_moments.specs.Pasts.{Past, past_after}
+use Rattle.lab_moments.specs.declared.between.StepCount.{StepCount}
+use Rattle.lab_moments.proofs.BetweenLemmas.{after-more}
+use Rattle.lab_page.specs.Moments.{moment, moments, past_by, next_past, past_then}
 
 pub moments-append : (v : Form) (whole : Bool) (s : Scene) (b : Past) (xs ys : List ℕ)
     → moments v whole s b (xs ++ ys) ≡ moments v whole s b xs ++ moments v whole (scene_after s xs) (past_then s xs b) ys
@@ -34,33 +25,22 @@ moments-append v whole s b (x ∷ xs) ys =
     (moments v whole (scene_after (next s x) xs) (past_then (next s x) xs (next_past s x b)) ys))
 
 -- a step without an effect has no moment
-moment-still : (v : Form) (whole : Bool) (s : Scene) (b : Past) (p : ℕ) → step_effect_in s.world p ≡ nothing → moment v whole s b p ≡ []
+pub moment-still : (v : Form) (whole : Bool) (s : Scene) (b : Past) (p : ℕ) → step_effect_in s.world p ≡ nothing → moment v whole s b p ≡ []
 unfolding moment
 moment-still v whole s b p e =
     ap (λ (t : Told). moment_by v whole s.number p t (next s p).world (next s p).tally b) (told-still s p e)
 
--- nor have n of them
-moments-still : (n : ℕ) (v : Form) (whole : Bool) (s : Scene) (b : Past) (p : ℕ) → step_effect_in s.world p ≡ nothing
-    → moments v whole s b (replicate n p) ≡ []
-unfolding moments
-moments-still zero v whole s b p e = refl
-moments-still (suc n) v whole s b p e =
-    ap (λ (l : List Data). l ++ moments v whole (next s p) (next_past s p b) (replicate n p)) (moment-still v whole s b p e)
-    ∙ ap (λ x. moments v whole x (next_past s p b) (replicate n p)) (next-still s p e)
-    ∙ moments-still n v whole (renumbered s (s.number + 1)) (next_past s p b) p e
+-- after so many steps without an effect
+abbrev still : ℕ → ℕ → Bool → Past → Past
+still n p waits h = record h { between = between_after n p waits Nothing h.between }
 
--- what a step is told as stands for: itself, or so many steps without an effect
-pub moments-told : (v : Form) (whole : Bool) (s : Scene) (b : Past) (p k : ℕ) → ((told s p ≡ Nothing → ⊥) → k ≡ 1)
-    → moments v whole s b (replicate k p) ≡ moment v whole s b p
-moments-told v whole s b p k one = by (step_effect_in s.world p) refl
-  where
-    single : k ≡ 1 → moments v whole s b (replicate k p) ≡ moment v whole s b p
-    single e = ap (λ (n : ℕ). moments v whole s b (replicate n p)) e ∙ moments-one v whole s b p
+pub past-still : (n : ℕ) (s : Scene) (p : ℕ) (h : Past) → step_effect_in s.world p ≡ nothing → past_by n s p h ≡ still n p (waits_at s p) h
+past-still n s p h e = ap (λ (t : Told). past_after n s.number p (waits_at s p) t (next s p).world (next s p).tally h) (told-still s p e)
 
-    other : (u : StepEffect) → step_effect_in s.world p ≡ u → (u ≡ nothing → ⊥) → moments v whole s b (replicate k p) ≡ moment v whole s b p
-    other u at ne = single (one (told-some s p (λ e. ne (sym at ∙ e))))
-
-    by : (u : StepEffect) → step_effect_in s.world p ≡ u → moments v whole s b (replicate k p) ≡ moment v whole s b p
-    by nothing at = moments-still k v whole s b p at ∙ sym (moment-still v whole s b p at)
-    by (local_step m) at = other (local_step m) at (λ e. cc)
-    by (kernel_step m c a) at = other (kernel_step m c a) at (λ e. cc)
+-- one more of them, with another number
+pub past-more : (n m : ℕ) (s : Scene) (p : ℕ) (h : Past) → step_effect_in s.world p ≡ nothing
+    → past_by (suc n) s p h ≡ next_past (renumbered s m) p (past_by n s p h)
+past-more n m s p h e =
+    past-still (suc n) s p h e ∙ ap (λ (b : List StepCount). record h { between = b }) (sym (after-more n p (waits_at s p) h.between))
+    ∙ sym (past-still 1 (renumbered s m) p (still n p (waits_at s p) h) e)
+    ∙ ap (next_past (renumbered s m) p) (sym (past-still n s p h e))

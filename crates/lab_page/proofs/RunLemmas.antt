@@ -1,7 +1,7 @@
 -- The JSON of a whole run.
-use Rattle.std.proofs.Common.{◌≡◌, ℕ, ◌||◌, Bool, false, Option, Some, None, List, [], ◌∷◌, ◌++◌, codes, length, slice_get, refl, ap, subst, ◌∙◌}
-use Rattle.serde_json.specs.Data.{Data}
-use Rattle.serde_json.specs.Written.{compact_text, has_float}
+use Rattle.std.proofs.Common.{◌≡◌, ℕ, Bool, Option, Some, None, List, [], ◌∷◌, ◌++◌, codes, length, slice_get, refl, subst}
+use Rattle.std.specs.Option.{option_map}
+use Rattle.serde_json.specs.Written.{compact_text}
 use Rattle.lab_sched.specs.Schedules.{steps_of}
 use Rattle.lab_sched.specs.Worlds.{Process, WorldState, machine_of}
 use Rattle.lab_sched.specs.declared.schedule.block.Block.{Block}
@@ -9,29 +9,33 @@ use Rattle.lab_sources.specs.declared.source.Source.{Source}
 use Rattle.lab_told.specs.Scenes.{Scene, first_scene, scene_after}
 use Rattle.lab_trace.specs.Lines.{events}
 use Rattle.lab_trace.specs.Traces.{ending, trace_with, trace_text}
-use Rattle.lab_trace.specs.Forms.{Form, form_for}
+use Rattle.lab_trace.specs.Forms.{Form}
 use Rattle.lab_moments.specs.States.{states}
-use Rattle.lab_moments.specs.Between.{between_data}
-use Rattle.lab_moments.specs.Holds.{holds_data}
 use Rattle.lab_moments.specs.Pasts.{Past, first_past}
-use Rattle.lab_moments.specs.Waits.{waits_data, circles_data}
-use Rattle.lab_moments.specs.Values.{naturals}
+use Rattle.lab_moments.specs.Values.{or_null}
+use Rattle.lab_page.specs.Ends.{endless_shown}
 use Rattle.lab_page.specs.Faults.{IsFault}
 use Rattle.lab_page.specs.Moments.{moments, past_then}
 use Rattle.lab_page.specs.Private.Json.{more_json, run_end}
-use Rattle.lab_page.specs.Runs.{block_data, schedule_data, output_of, outputs, outcome_at, is_whole, run_from, run_data}
+use Rattle.lab_page.specs.Runs.{block_data, schedule_data, output_of, outputs, outcome_at, run_from, run_data}
 use Rattle.lab_page.specs.Private.Looks.{look_for}
+use Rattle.lab_page.specs.declared.ends.Endless.{Endless}
 use Rattle.lab_page.specs.declared.fault.PageFault.{PageFault}
 use Rattle.lab_page.specs.declared.run.Look.{Look}
-use Rattle.lab_moments.proofs.PlainLemmas.{IsPlain, both, plain-one, plain-below, plain-map, plain-naturals}
+use Rattle.lab_moments.proofs.PlainLemmas.{IsPlain, number-plain, plain-one, plain-below, plain-map, plain-naturals}
 use Rattle.lab_moments.proofs.BetweenLemmas.{between-plain}
 use Rattle.lab_moments.proofs.EventLemmas.{holds-plain}
 use Rattle.lab_moments.proofs.WaitLemmas.{waits-plain, circles-plain}
 use Rattle.lab_page.proofs.JsonLemmas.{run-json}
 use Rattle.lab_page.proofs.FaultLemmas.{fault-longer}
 
-pub schedule-plain : (s : List Block) → IsPlain (schedule_data s)
-schedule-plain s = plain-map block_data s (λ b. refl)
+pub schedule_plain : (s : List Block) → IsPlain (schedule_data s)
+schedule_plain s = plain-map block_data s (λ b. refl)
+
+-- an interleaving that never ends
+pub endless_plain : (o : Option Endless) → IsPlain (or_null (option_map endless_shown o))
+endless_plain None = refl
+endless_plain (Some e) = simp (schedule_plain, number-plain)
 
 output-plain : (o : Option Process) → IsPlain (output_of o)
 output-plain None = refl
@@ -44,17 +48,7 @@ outputs-plain w =
 
 pub outcome-plain : (v : Form) (s : Scene) (h : Past) → IsPlain (outcome_at v s h)
 unfolding outcome_at
-outcome-plain v s h =
-    let circles = has_float (circles_data s.world h.holds) in
-    let waits = has_float (waits_data s.world s.tally h.objects) in
-    let unreceived = has_float (naturals h.unreceived) in
-    let holds = has_float (holds_data h.holds) in
-    let between = has_float (between_data h.between) in
-    both (has_float (outputs s.world)) (between || (holds || (unreceived || (waits || (circles || false))))) (outputs-plain s.world)
-    (both between (holds || (unreceived || (waits || (circles || false)))) (between-plain h.between)
-    (both holds (unreceived || (waits || (circles || false))) (holds-plain h.holds)
-    (both unreceived (waits || (circles || false)) (plain-naturals h.unreceived)
-    (both waits (circles || false) (waits-plain s.world s.tally h.objects) (both circles false (circles-plain s.world h.holds) refl)))))
+outcome-plain v s h = simp (outputs-plain, between-plain, holds-plain, plain-naturals, waits-plain, circles-plain)
 
 -- the JSON up to the moment before the first step
 abbrev start : Scene → List ℕ
@@ -66,11 +60,7 @@ pub run-made : (v : Form) (b : Bool) (x u : Scene) (h : Past) (s : List Block) (
     → all ≡ added ++ run_end (outcome_at v u h) (schedule_data s) b → all ≡ compact_text (run_from v b x s)
 unfolding run_from
 run-made v b x u h s first added all first-is added-is led kept all-is =
-    let ms : List Data = moments v b x (first_past x.world) (steps_of s) in
-    all-is ∙ ap (λ (l : List ℕ). l ++ run_end (outcome_at v u h) (schedule_data s) b) (added-is ∙ ap (λ (l : List ℕ). l ++ more_json ms) first-is)
-    ∙ ap (λ (y : Scene). (start x ++ more_json ms) ++ run_end (outcome_at v y h) (schedule_data s) b) led
-    ∙ ap (λ (y : Past). (start x ++ more_json ms) ++ run_end (outcome_at v (scene_after x (steps_of s)) y) (schedule_data s) b) kept
-    ∙ run-json (states x.world) ms _ (schedule_data s) b
+    rw (all-is, added-is, first-is, led, kept) (run-json (states x.world) _ _ (schedule_data s) b)
 
 -- why there is none
 pub run-fault : (e : PageFault) (v : Form) (b : Bool) (x : Scene) (s : List Block)
@@ -82,21 +72,15 @@ run-fault e v b x s fault =
 pub run-first : (l : Look) (w : WorldState) (s : List Block) (ss : List (Option Source)) (x : Scene) → l ≡ look_for w s ss → x ≡ first_scene w
     → run_from l.page l.whole x s ≡ run_data w s
 unfolding run_data
-run-first l w s ss x look first =
-    ap (λ (k : Look). run_from k.page k.whole x s) look
-    ∙ ap (λ (y : Scene). run_from (form_for (length (steps_of s)) (length w.processes) []) (is_whole s) y s) first
+run-first l w s ss x look first = rw (look, first) refl
 
 -- its trace by what was made of its steps
 pub trace-made : (v : Form) (x u : Scene) (ps first added all : List ℕ) → first ≡ [] → added ≡ first ++ events v x ps → u ≡ scene_after x ps
     → all ≡ added ++ ending v u.world u.tally → all ≡ trace_with v x ps
-trace-made v x u ps first added all none added-is led all-is =
-    all-is ∙ ap (λ (l : List ℕ). l ++ ending v u.world u.tally) (added-is ∙ ap (λ (l : List ℕ). l ++ events v x ps) none)
-    ∙ ap (λ (y : Scene). events v x ps ++ ending v y.world y.tally) led
+trace-made v x u ps first added all none added-is led all-is = rw (all-is, added-is, none, led) refl
 
 -- the trace of a world, by how it is written
 pub trace-first : (l : Look) (w : WorldState) (s : List Block) (ss : List (Option Source)) (x : Scene) → l ≡ look_for w s ss → x ≡ first_scene w
     → trace_with l.trace x (steps_of s) ≡ trace_text w ss (steps_of s)
 unfolding trace_text
-trace-first l w s ss x look first =
-    ap (λ (k : Look). trace_with k.trace x (steps_of s)) look
-    ∙ ap (λ (y : Scene). trace_with (form_for (length (steps_of s)) (length w.processes) ss) y (steps_of s)) first
+trace-first l w s ss x look first = rw (look, first) refl

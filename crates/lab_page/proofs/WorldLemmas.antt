@@ -1,9 +1,8 @@
 -- Worlds of a picture have no floats.
-use Rattle.std.proofs.Common.{◌≡◌, ℕ, ◌||◌, Bool, false, Option, Some, None, List, [], ◌∷◌, length, map, slice_get, refl}
+use Rattle.std.proofs.Common.{◌≡◌, ℕ, false, Option, Some, None, List, [], ◌∷◌, length, map, slice_get, refl}
 use Rattle.std.specs.Option.{option_map}
 use Rattle.serde_json.specs.Data.{string}
-use Rattle.serde_json.specs.View.{items_of}
-use Rattle.serde_json.specs.Written.{has_float, items_have_float}
+use Rattle.serde_json.specs.Written.{has_float}
 use Rattle.lab_sched.specs.Worlds.{Process, WorldState}
 use Rattle.lab_sched.specs.declared.verdict.Verdict.{Verdict}
 use Rattle.ipc_kernel.specs.Kernel.{KernelState}
@@ -13,17 +12,12 @@ use Rattle.ipc_kernel.specs.Places.{is_empty, place_at}
 use Rattle.ipc_kernel.specs.declared.place.Place.{Place}
 use Rattle.lab_told.specs.Tallies.{TallyState, new_tally}
 use Rattle.lab_moments.specs.Objects.{object_data}
-use Rattle.lab_moments.specs.Values.{list, natural, or_null}
-use Rattle.lab_page.specs.Runs.{outputs}
-use Rattle.lab_page.specs.Worlds.{place_before, standing_data, standing_in, standing_at, standings, object_in, objects, node_data, edge_data}
+use Rattle.lab_moments.specs.Values.{list, or_null}
+use Rattle.lab_page.specs.Worlds.{standing_data, standing_in, standing_at, standings, object_in, objects, node_data, edge_data}
 use Rattle.lab_page.specs.declared.worlds.WorldEdge.{WorldEdge}
-use Rattle.lab_moments.proofs.PlainLemmas.{IsPlain, ArePlain, both, plain-one, plain-below, plain-map, plain-if}
+use Rattle.lab_moments.proofs.PlainLemmas.{IsPlain, ArePlain, number-plain, plain-one, plain-below, plain-map, plain-if}
 use Rattle.lab_moments.proofs.ObjectLemmas.{object-plain}
 use Rattle.lab_page.proofs.RunLemmas.{outputs-plain}
-
-pub number-plain : (o : Option ℕ) → IsPlain (or_null (option_map natural o))
-number-plain None = refl
-number-plain (Some n) = refl
 
 verdict-plain : (o : Option Verdict) → IsPlain (or_null (option_map (λ v. string (verdict_word v)) o))
 verdict-plain None = refl
@@ -32,8 +26,7 @@ verdict-plain (Some v) = refl
 standing-plain : (k : KernelState) (p : ℕ) (o : Option Process) → ArePlain (standing_in k p o)
 unfolding standing_data
 standing-plain k p None = refl
-standing-plain k p (Some s) =
-    plain-one (standing_data k p s) (both (has_float (or_null (option_map natural (place_before k p s)))) false (number-plain (place_before k p s)) refl)
+standing-plain k p (Some s) = simp number-plain
 
 standings-plain : (w : WorldState) → ArePlain (standings w)
 standings-plain w =
@@ -51,16 +44,7 @@ objects-plain w =
 
 pub node_plain : (w : WorldState) (calls : ℕ) (verdict : Option Verdict) (end : Option ℕ) → IsPlain (node_data w calls verdict end)
 unfolding node_data
-node_plain w calls verdict end =
-    let stands = items_have_float (items_of (standings w)) in
-    let told = has_float (or_null (option_map (λ v. string (verdict_word v)) verdict)) in
-    let last = has_float (or_null (option_map natural end)) in
-    let written = has_float (outputs w) in
-    let held = items_have_float (items_of (objects w)) in
-    both stands (told || (last || (written || (held || false)))) (standings-plain w)
-    (both told (last || (written || (held || false))) (verdict-plain verdict)
-    (both last (written || (held || false)) (number-plain end)
-    (both written (held || false) (outputs-plain w) (both held false (objects-plain w) refl))))
+node_plain w calls verdict end = simp (standings-plain, verdict-plain, number-plain, outputs-plain, objects-plain)
 
 pub edges_plain : (edges : List WorldEdge) → has_float (list (map edge_data edges)) ≡ false
 edges_plain edges = plain-map edge_data edges (λ e. refl)

@@ -7,4 +7,5 @@ pub mod Worlds
 pub mod Asked
 pub mod Ends
 pub mod Faults
+pub mod Paged
 pub mod Private

@@ -1,9 +1,9 @@
 //! What was asked of an exploration, as a page holds it.
-ghost use Rattle.std.specs.Prelude.{◌≡◌, IfOk, map};
+ghost use Rattle.std.specs.Prelude.{◌≡◌, IfOk};
 ghost use Rattle.serde_json.specs.View.{view};
-ghost use Rattle.lab_moments.specs.Values.{list};
-ghost use Rattle.lab_page.specs.Asked.{answer_text, asked_data, asked_list, shown_data};
+ghost use Rattle.lab_page.specs.Asked.{answer_text, asked_data, asked_list};
 
+use lab_moments::{AsData, list_value};
 use serde_json::{Value, json};
 use std::alloc::{AllocError, Global};
 
@@ -40,23 +40,17 @@ fn answer_text(failed: bool, complete: bool) -> &'static str
     }
 }
 
-fn shown_value(alloc: Global, run: ShownRun) -> Result<Value, AllocError>
-    ensures value { IfOk result (λ v. view v ≡ shown_data run) }
-{
-    match run {
-        ShownRun::End(number) => json!(in alloc; ["end", number]),
-        ShownRun::Other(number) => json!(in alloc; ["run", number]),
-    }
-}
+impl AsData for ShownRun {
+    ghost use Rattle.lab_page.specs.Asked.{shown_data};
 
-fn runs_value(alloc: Global, runs: &[ShownRun]) -> Result<Value, AllocError>
-    ensures value { IfOk result (λ v. view v ≡ list (map shown_data runs.now)) }
-{
-    let mut values = Vec::new(alloc);
-    for run in runs {
-        values.push(shown_value(alloc, *run)?)?;
+    ghost form = { shown_data };
+
+    fn value(&self, alloc: Global) -> Result<Value, AllocError> {
+        match *self {
+            ShownRun::End(number) => json!(in alloc; ["end", number]),
+            ShownRun::Other(number) => json!(in alloc; ["run", number]),
+        }
     }
-    Ok(Value::Array(values))
 }
 
 #[tactic(auto, unfolding(crate::specs::Asked::asked_data))]
@@ -64,7 +58,7 @@ fn one_value(alloc: Global, asked: &Asked, complete: bool) -> Result<Value, Allo
     ensures value { IfOk result (λ v. view v ≡ asked_data complete asked.now) }
 {
     let answer = answer_text(asked.failed, complete);
-    json!(in alloc; [&asked.text, answer, runs_value(alloc, &asked.runs)?])
+    json!(in alloc; [&asked.text, answer, list_value(alloc, &asked.runs)?])
 }
 
 /// What was asked of an exploration that is complete or isn't, with the answers.

@@ -1,5 +1,5 @@
 //! The ends of an exploration, as a page holds them.
-ghost use Rattle.std.specs.Prelude.{◌≡◌, ◌≢◌, ◌<◌, ◌≤◌, ◌++◌, false, [], Err, OnOk, IfOk, IfErr, length, nat_lt};
+ghost use Rattle.std.specs.Prelude.{◌≡◌, ◌≢◌, ◌<◌, ◌≤◌, false, [], Err, OnOk, IfOk, IfErr, length};
 ghost use Rattle.std.specs.Option.{option_map};
 ghost use Rattle.serde_json.specs.View.{view};
 ghost use Rattle.serde_json.specs.Written.{compact_text, has_float};
@@ -16,8 +16,9 @@ use crate::fault::PageFault;
 use crate::json::{push_behind, push_parts};
 use crate::outcome::schedule_value;
 use crate::run::written_run;
-use crate::stores::{Stored, stores_value};
+use crate::stores::Stored;
 use crate::worlds::{Worlds, push_worlds};
+use lab_moments::list_value;
 use lab_sched::{Schedule, World};
 use lab_template::{MOST_END_BYTES, MOST_ENDS};
 use serde_json::{Value, json};
@@ -88,7 +89,7 @@ fn end_json(
     ensures json { IfOk result (λ v. v.items ≡ end_json number run.now stores.now) }
 {
     let mut json = format!(in alloc; "[{number},")?.into_bytes();
-    let stores = stores_value(alloc, stores)?.to_vec(alloc)?;
+    let stores = list_value(alloc, stores)?.to_vec(alloc)?;
     push_parts(&mut json, &[run, b",", &stores, b"]"])?;
     Ok(json)
 }
@@ -143,9 +144,9 @@ impl EndList {
     ///
     /// `NoProcess` tells after how many steps the schedule names a process that isn't there. After a fault nothing is said
     /// of the list.
+    #[tactic(auto, using(crate::proofs::JsonLemmas::end_json_of))]
     pub fn add(
         &mut self,
-        alloc: Global,
         world: &mut World,
         schedule: &Schedule,
         number: u32,
@@ -161,6 +162,7 @@ impl EndList {
             self.full = true;
             return Ok(());
         }
+        let alloc = *self.json.allocator();
         match written_run(alloc, world, schedule, &[]) {
             Ok(run) => {
                 let end = end_json(alloc, number, &run.json, stores)?;
@@ -197,33 +199,50 @@ fn extent_value(alloc: Global, extent: Extent) -> Result<Value, AllocError>
     json!(in alloc; [complete, worlds, ends, most_worlds, most_steps, most_memory, refused, first])
 }
 
+/// What an exploration found, as a page shows it.
+#[derive(Drop)]
+pub struct Found<'a> {
+    /// The runs to its ends.
+    pub ends: &'a EndList,
+    /// The other runs of the page.
+    pub others: &'a EndList,
+    /// What was asked of it.
+    pub asked: &'a [Asked],
+    pub endless: Option<Endless<'a>>,
+    pub extent: Extent,
+    /// Its worlds, where they are drawn.
+    pub worlds: &'a Option<Worlds>,
+}
+
 /// What a page holds of ends as JSON.
-pub fn ends_json(
-    alloc: Global,
-    processes: &Value,
-    list: &EndList,
-    others: &EndList,
-    asked: &[Asked],
-    endless: &Option<Endless<'_>>,
-    extent: Extent,
-    worlds: &Option<Worlds>,
-) -> Result<Vec<u8>, AllocError>
+#[tactic(auto, using(crate::proofs::RunLemmas::endless_plain))]
+pub fn ends_json(alloc: Global, processes: &Value, found: &Found<'_>) -> Result<Vec<u8>, AllocError>
     requires plain { has_float (view processes.now) ≡ false }
     ensures json { IfOk result (λ v. v.items
-        ≡ ends_json (view processes.now) list.now others.now asked.now
-        (option_map endless_shown endless.now) extent worlds.now) }
+        ≡ ends_json (view processes.now) found.now.ends.now found.now.others.now
+        found.now.asked.now (option_map endless_shown found.now.endless) found.now.extent
+        found.now.worlds.now) }
 {
     let mut json = Vec::new(alloc);
-    let complete = extent.complete;
+    let (list, others) = (found.ends, found.others);
+    let complete = found.extent.complete;
     push_behind(
         &mut json,
         "{\"asked\":",
-        &asked_value(alloc, asked, complete)?,
+        &asked_value(alloc, found.asked, complete)?,
     )?;
-    push_behind(&mut json, ",\"endless\":", &endless_value(alloc, endless)?)?;
+    push_behind(
+        &mut json,
+        ",\"endless\":",
+        &endless_value(alloc, &found.endless)?,
+    )?;
     json.extend_from_slice(b",\"ends\":[")?;
     json.extend_from_slice(&list.json)?;
-    push_behind(&mut json, "],\"extent\":", &extent_value(alloc, extent)?)?;
+    push_behind(
+        &mut json,
+        "],\"extent\":",
+        &extent_value(alloc, found.extent)?,
+    )?;
     push_behind(
         &mut json,
         ",\"format\":\"lc3lab-ends-3\",\"processes\":",
@@ -232,7 +251,7 @@ pub fn ends_json(
     json.extend_from_slice(b",\"runs\":[")?;
     json.extend_from_slice(&others.json)?;
     json.extend_from_slice(b"],\"worlds\":")?;
-    push_worlds(&mut json, worlds)?;
+    push_worlds(&mut json, found.worlds)?;
     json.extend_from_slice(b"}")?;
     Ok(json)
 }

@@ -7,23 +7,15 @@ ghost use Rattle.lab_page.specs.Worlds.{listed};
 use serde_json::Value;
 use std::alloc::AllocError;
 
-/// Adds the JSON of a value.
-pub fn push_value(json: &mut Vec<u8>, value: &Value) -> Result<(), AllocError>
-    requires plain { has_float (view value.now) ≡ false }
-    ensures added { OnOk result (json.new.items ≡ json.old.items ++ compact_text (view value.now)) }
-{
-    let text = value.to_vec(*json.allocator())?;
-    json.extend_from_slice(&text)
-}
-
 /// Adds a text and the JSON of a value.
 pub fn push_behind(json: &mut Vec<u8>, text: &str, value: &Value) -> Result<(), AllocError>
     requires plain { has_float (view value.now) ≡ false }
     ensures added { OnOk result (json.new.items
         ≡ json.old.items ++ (text.now ++ compact_text (view value.now))) }
 {
+    let value = value.to_vec(*json.allocator())?;
     json.extend_from_slice(text.as_bytes())?;
-    push_value(json, value)
+    json.extend_from_slice(&value)
 }
 
 /// Adds the JSON of a value to that of a list, with a comma between them.

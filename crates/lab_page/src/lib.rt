@@ -16,10 +16,10 @@ mod stores;
 mod worlds;
 
 pub use asked::{Asked, ShownRun};
-pub use ends::{EndList, Endless, Extent};
+pub use ends::{EndList, Endless, Extent, Found};
 pub use fault::PageFault;
 pub use lab_template::Template;
-pub use paging::{Shown, ends_page, run_page};
+pub use paging::{PagedRun, Roster, Shown, ends_page, run_page};
 pub use source::{Source, source_of};
 pub use stores::{Stored, stores_of};
 pub use worlds::{WorldEdge, Worlds};

@@ -7,7 +7,6 @@ ghost use Rattle.lab_told.specs.Scenes.{scene_at};
 ghost use Rattle.lab_trace.specs.Lines.{step_line};
 ghost use Rattle.lab_trace.specs.Traces.{ending};
 ghost use Rattle.lab_page.specs.Faults.{IsFault};
-ghost use Rattle.lab_template.specs.Limits.{most_bytes};
 ghost use Rattle.lab_moments.specs.Moments.{moment_by};
 ghost use Rattle.lab_moments.specs.Pasts.{first_past, past_after};
 ghost use Rattle.lab_moments.specs.States.{states};
@@ -17,7 +16,7 @@ ghost use Rattle.lab_page.specs.Runs.{outcome_at, schedule_data};
 
 use crate::fault::PageFault;
 use crate::json::push_behind;
-use crate::outcome::push_run_end;
+use crate::outcome::{outcome_value, push_run_end};
 use crate::run::Look;
 use lab_moments::{Past, moment_by, states};
 use lab_sched::{Schedule, World};
@@ -51,6 +50,7 @@ impl Model for Moments {
 
 impl Moments {
     /// The moment before the first step alone.
+    #[tactic(auto, using(lab_moments::proofs::StateLemmas::states_plain))]
     pub fn new(alloc: Global, world: &World) -> Result<Moments, AllocError>
         ensures first { IfOk result (λ m. m ≡ record {
           json = codes "{\"moments\":[" ++ compact_text (states world.now);
@@ -133,7 +133,8 @@ impl Moments {
             ++ ending look.now.trace world.now tally.now) }
     {
         let alloc = *self.json.allocator();
-        push_run_end(&mut self.json, world, tally, &self.past, look, schedule)?;
+        let outcome = outcome_value(alloc, world, tally, &self.past, &look.page)?;
+        push_run_end(&mut self.json, &outcome, schedule, look.whole)?;
         let ending = ending(alloc, world, tally, &look.trace)?;
         self.lines.extend_from_slice(ending.as_bytes())
     }

@@ -1,15 +1,13 @@
 //! What stands behind the moments of a run: its end and its schedule.
-ghost use Rattle.std.specs.Prelude.{◌≡◌, ◌++◌, ℕ, OnOk, IfOk, slice_get};
+ghost use Rattle.std.specs.Prelude.{◌≡◌, ◌++◌, ℕ, false, OnOk, IfOk, slice_get};
 ghost use Rattle.serde_json.specs.View.{view};
+ghost use Rattle.serde_json.specs.Written.{has_float};
 ghost use Rattle.lab_told.specs.Scenes.{scene_at};
 ghost use Rattle.lab_page.specs.Private.Json.{run_end};
 ghost use Rattle.lab_page.specs.Runs.{schedule_data, output_of, outputs, outcome_at};
 
 use crate::json::push_behind;
-use crate::run::Look;
-use lab_moments::{
-    Past, between_value, bytes_value, circles_value, holds_value, steps_value, waits_value,
-};
+use lab_moments::{Past, between_value, circles_value, list_value, waits_value};
 use lab_sched::{Schedule, World};
 use lab_texts::report_text;
 use lab_told::Tally;
@@ -32,12 +30,12 @@ fn output_value(alloc: Global, world: &World, pid: usize) -> Result<Value, Alloc
     ensures value { IfOk result (λ v. view v ≡ output_of (slice_get world.now.processes pid)) }
 {
     match world.process(pid) {
-        Some(process) => bytes_value(alloc, process.machine().output()),
+        Some(process) => list_value(alloc, process.machine().output()),
         None => Ok(Value::Null),
     }
 }
 
-#[tactic(auto, using(lab_moments::proofs::ValueLemmas::all_below_none))]
+#[tactic(auto, using(lab_moments::proofs::ValueLemmas::below))]
 pub(crate) fn outputs(alloc: Global, world: &World) -> Result<Value, AllocError>
     ensures value { IfOk result (λ v. view v ≡ outputs world.now) }
 {
@@ -50,7 +48,7 @@ pub(crate) fn outputs(alloc: Global, world: &World) -> Result<Value, AllocError>
 
 /// The end of a run, by what was kept of its steps.
 #[tactic(auto, unfolding(crate::specs::Runs::outcome_at))]
-fn outcome_value(
+pub(crate) fn outcome_value(
     alloc: Global,
     world: &World,
     tally: &Tally,
@@ -66,33 +64,28 @@ fn outcome_value(
         report_text(alloc, world)?,
         outputs(alloc, world)?,
         between_value(alloc, &past.between)?,
-        holds_value(alloc, &past.holds)?,
-        steps_value(alloc, &past.unreceived)?,
+        list_value(alloc, &past.holds)?,
+        list_value(alloc, &past.unreceived)?,
         waits_value(alloc, world, tally, &past.objects)?,
         circles_value(alloc, world, &past.holds)?
     ])
 }
 
-/// Adds what stands behind the moments of a run: its end, by what was kept of its steps, and its schedule.
+/// Adds what stands behind the moments of a run: its end and its schedule.
+#[tactic(auto, using(crate::proofs::RunLemmas::schedule_plain), unfolding(crate::specs::Private::Json::run_end))]
 pub(crate) fn push_run_end(
     json: &mut Vec<u8>,
-    world: &World,
-    tally: &Tally,
-    past: &Past,
-    look: &Look<'_>,
+    outcome: &Value,
     schedule: &Schedule,
+    whole: bool,
 ) -> Result<(), AllocError>
-    ensures added { (number : ℕ) → OnOk result (json.new.items ≡ json.old.items
-        ++ run_end (outcome_at look.now.page (scene_at number world.now tally.now) past.now)
-        (schedule_data schedule.now) look.now.whole) }
+    requires plain { has_float (view outcome.now) ≡ false }
+    ensures added { OnOk result (json.new.items ≡ json.old.items
+        ++ run_end (view outcome.now) (schedule_data schedule.now) whole) }
 {
     let alloc = *json.allocator();
-    push_behind(
-        json,
-        "],\"outcome\":",
-        &outcome_value(alloc, world, tally, past, &look.page)?,
-    )?;
+    push_behind(json, "],\"outcome\":", outcome)?;
     push_behind(json, ",\"schedule\":", &schedule_value(alloc, schedule)?)?;
-    push_behind(json, ",\"whole\":", &Value::Bool(look.whole))?;
+    push_behind(json, ",\"whole\":", &Value::Bool(whole))?;
     Ok(json.push(b'}')?)
 }

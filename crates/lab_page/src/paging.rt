@@ -1,27 +1,24 @@
 //! A whole page.
 ghost use Rattle.std.specs.Prelude.{◌≡◌, ◌≤◌, ℕ, Some, Err, IfOk, IfErr, OnOk, length, map, string_bytes};
-ghost use Rattle.std.specs.Option.{option_map};
 ghost use Rattle.lab_sched.specs.Schedules.{steps_of};
 ghost use Rattle.lab_sched.specs.Worlds.{run};
 ghost use Rattle.lab_trace.specs.Traces.{missing_after, trace_text};
 ghost use Rattle.lab_template.specs.Pages.{around, page_text, safe, HasNoTag};
-ghost use Rattle.lab_page.specs.Ends.{endless_shown, ends_json};
+ghost use Rattle.lab_page.specs.Paged.{found_json, paged_json};
 ghost use Rattle.lab_page.specs.Faults.{Explains};
 ghost use Rattle.lab_template.specs.Limits.{most_bytes};
 ghost use Rattle.lab_page.specs.Faults.{IsFault};
 ghost use Rattle.lab_page.specs.Private.Json.{page_json};
-ghost use Rattle.lab_page.specs.Runs.{run_json};
-ghost use Rattle.lab_page.specs.declared.fault.PageFault.TheVariants.{NoProcess};
 ghost use Rattle.lab_page.specs.Sources.{programs, sources_shown};
+ghost use Rattle.lab_page.specs.declared.fault.PageFault.TheVariants.{NoProcess};
 
-use crate::asked::Asked;
-use crate::ends::{EndList, Endless, Extent, ends_json};
+use crate::ends::{Found, ends_json};
 use crate::fault::PageFault;
-use crate::json::{push_behind, push_value};
+use crate::json::{push_behind, push_parts};
 use crate::run::{WrittenRun, written_run};
 use crate::source::{Source, programs};
-use crate::stores::{Stored, stores_value};
-use crate::worlds::Worlds;
+use crate::stores::Stored;
+use lab_moments::list_value;
 use lab_sched::{Schedule, World};
 use lab_sources::Source as Given;
 use lab_template::{MOST_BYTES, Template, page_with};
@@ -40,27 +37,45 @@ fn page_of(alloc: Global, template: &Template<'_>, json: &[u8]) -> Result<Vec<u8
     Ok(page_with(alloc, template, json)?)
 }
 
-#[tactic(auto, unfolding(crate::specs::Private::Json::page_json))]
+/// How the processes of a page are called, and their sources, each where there is one.
+#[derive(Clone, Copy)]
+pub struct Roster<'a> {
+    pub names: &'a [String],
+    pub sources: &'a [Option<Source>],
+}
+
+#[tactic(auto, using(crate::proofs::SourceLemmas::programs_plain, crate::proofs::StoreLemmas::stores_plain), unfolding(crate::specs::Private::Json::page_json))]
 fn page_json(
     alloc: Global,
     count: usize,
-    names: &[String],
-    sources: &[Option<Source>],
+    roster: &Roster<'_>,
     run: &[u8],
     stores: &[Stored],
 ) -> Result<Vec<u8>, AllocError>
     ensures json { IfOk result (λ v. v.items ≡ page_json
-        (programs count (map string_bytes names.now) (sources_shown sources.now)) run.now
-        stores.now) }
+        (programs count (map string_bytes roster.now.names.now)
+        (sources_shown roster.now.sources.now)) run.now stores.now) }
 {
     let mut json = Vec::new(alloc);
-    json.extend_from_slice(b"{\"format\":\"lc3lab-page-3\",\"processes\":")?;
-    push_value(&mut json, &programs(alloc, count, names, sources)?)?;
-    json.extend_from_slice(b",\"run\":")?;
-    json.extend_from_slice(run)?;
-    push_behind(&mut json, ",\"stores\":", &stores_value(alloc, stores)?)?;
+    push_behind(
+        &mut json,
+        "{\"format\":\"lc3lab-page-3\",\"processes\":",
+        &programs(alloc, count, roster.names, roster.sources)?,
+    )?;
+    push_parts(&mut json, &[b",\"run\":", run])?;
+    push_behind(&mut json, ",\"stores\":", &list_value(alloc, stores)?)?;
     json.extend_from_slice(b"}")?;
     Ok(json)
+}
+
+/// A run that a page shows.
+#[derive(Clone, Copy)]
+pub struct PagedRun<'a> {
+    pub schedule: &'a Schedule,
+    /// The processes that were given as sources, whose labels the lines of its trace have.
+    pub given: &'a [Option<Given>],
+    /// What its steps store.
+    pub stores: &'a [Stored],
 }
 
 /// The page of a run, and its trace.
@@ -71,47 +86,41 @@ pub struct Shown {
 }
 
 /// The page of the run of a world by a schedule, HTML around the run as JSON, in which no `<` stands; and the trace of that
-/// run, whose lines have the labels of the processes that were `given` as sources. On the page the processes are called by
-/// these names, and have these sources, each where there is one; beside the run stands what its steps store. The world takes
-/// the schedule's steps; where it names a process that isn't there, none.
+/// run. The world takes the schedule's steps; where it names a process that isn't there, none.
 ///
 /// # Errors
 ///
 /// `NoProcess` tells after how many steps the schedule names a process that isn't there, and then no step was taken;
 /// `TooLarge` that the data have more than [`MOST_BYTES`] bytes. After it, and after `NoMemory`, nothing is
 /// said of the world.
+#[tactic(auto, using(crate::proofs::JsonLemmas::page_json_of, crate::proofs::FaultLemmas::fault_explains))]
 pub fn run_page(
     alloc: Global,
     template: &Template<'_>,
     world: &mut World,
-    schedule: &Schedule,
-    names: &[String],
-    sources: &[Option<Source>],
-    given: &[Option<Given>],
-    stores: &[Stored],
+    roster: &Roster<'_>,
+    paged: &PagedRun<'_>,
 ) -> Result<Shown, PageFault>
     ensures trace { IfOk result (λ s. s.trace.items
-        ≡ trace_text world.old given.now (steps_of schedule.now)) }
-    ensures page { IfOk result (λ s. s.page.items ≡ page_text (around template.now)
-        (run_json world.old schedule.now (map string_bytes names.now)
-        (sources_shown sources.now) stores.now)) }
-    ensures closed { OnOk result (HasNoTag (safe (run_json world.old schedule.now
-        (map string_bytes names.now) (sources_shown sources.now) stores.now))) }
-    ensures fits { OnOk result (length (run_json world.old schedule.now
-        (map string_bytes names.now) (sources_shown sources.now) stores.now) ≤ most_bytes) }
-    ensures world { OnOk result (world.new ≡ run world.old (steps_of schedule.now)) }
-    ensures no_process { (done : ℕ) → missing_after world.old (steps_of schedule.now) ≡ Some done
+        ≡ trace_text world.old paged.now.given.now (steps_of paged.now.schedule.now)) }
+    ensures page { IfOk result (λ s. s.page.items
+        ≡ page_text (around template.now) (paged_json world.old paged.now roster.now)) }
+    ensures closed { OnOk result (HasNoTag (safe (paged_json world.old paged.now roster.now))) }
+    ensures fits { OnOk result (length (paged_json world.old paged.now roster.now) ≤ most_bytes) }
+    ensures world { OnOk result (world.new ≡ run world.old (steps_of paged.now.schedule.now)) }
+    ensures no_process { (done : ℕ)
+        → missing_after world.old (steps_of paged.now.schedule.now) ≡ Some done
         → result ≡ Err (NoProcess done) }
-    ensures fault { IfErr result (λ e. Explains e world.old schedule.now (run_json world.old
-        schedule.now (map string_bytes names.now) (sources_shown sources.now) stores.now)) }
+    ensures fault { IfErr result (λ e. Explains e world.old paged.now.schedule.now
+        (paged_json world.old paged.now roster.now)) }
     ensures untouched { (done : ℕ) → result ≡ Err (NoProcess done) → world.new ≡ world.old }
 {
     let count = world.count();
-    let WrittenRun { json, trace } = written_run(alloc, world, schedule, given)?;
+    let WrittenRun { json, trace } = written_run(alloc, world, paged.schedule, paged.given)?;
     let page = page_of(
         alloc,
         template,
-        &page_json(alloc, count, names, sources, &json, stores)?,
+        &page_json(alloc, count, roster, &json, paged.stores)?,
     )?;
     Ok(Shown { page, trace })
 }
@@ -121,35 +130,19 @@ pub fn run_page(
 /// # Errors
 ///
 /// `TooLarge` tells that the data have more than [`MOST_BYTES`] bytes.
+#[tactic(auto, using(crate::proofs::SourceLemmas::programs_plain))]
 pub fn ends_page(
     alloc: Global,
     template: &Template<'_>,
     count: usize,
-    names: &[String],
-    sources: &[Option<Source>],
-    list: &EndList,
-    others: &EndList,
-    asked: &[Asked],
-    endless: &Option<Endless<'_>>,
-    extent: Extent,
-    worlds: &Option<Worlds>,
+    roster: &Roster<'_>,
+    found: &Found<'_>,
 ) -> Result<Vec<u8>, PageFault>
-    ensures page { IfOk result (λ v. v.items ≡ page_text (around template.now) (ends_json
-        (programs count (map string_bytes names.now) (sources_shown sources.now)) list.now
-        others.now asked.now (option_map endless_shown endless.now) extent worlds.now)) }
-    ensures closed { OnOk result (HasNoTag (safe (ends_json
-        (programs count (map string_bytes names.now) (sources_shown sources.now)) list.now
-        others.now asked.now (option_map endless_shown endless.now) extent worlds.now))) }
-    ensures fault { IfErr result (λ e. IsFault e (ends_json
-        (programs count (map string_bytes names.now) (sources_shown sources.now)) list.now
-        others.now asked.now (option_map endless_shown endless.now) extent worlds.now)) }
+    ensures page { IfOk result (λ v. v.items
+        ≡ page_text (around template.now) (found_json count roster.now found.now)) }
+    ensures closed { OnOk result (HasNoTag (safe (found_json count roster.now found.now))) }
+    ensures fault { IfErr result (λ e. IsFault e (found_json count roster.now found.now)) }
 {
-    let processes = programs(alloc, count, names, sources)?;
-    page_of(
-        alloc,
-        template,
-        &ends_json(
-            alloc, &processes, list, others, asked, endless, extent, worlds,
-        )?,
-    )
+    let processes = programs(alloc, count, roster.names, roster.sources)?;
+    page_of(alloc, template, &ends_json(alloc, &processes, found)?)
 }

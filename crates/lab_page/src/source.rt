@@ -1,11 +1,12 @@
 //! The programs of a page.
-ghost use Rattle.std.specs.Prelude.{◌≡◌, IfOk, map, position, slice_get, string_bytes};
-ghost use Rattle.std.specs.Option.{option_map, option_and_then};
+ghost use Rattle.std.specs.Prelude.{◌≡◌, IfOk, map, position, string_bytes};
+ghost use Rattle.std.specs.Option.{option_map};
 ghost use Rattle.serde_json.specs.View.{view};
+ghost use Rattle.lab_page.specs.Stores.{source_in};
 ghost use Rattle.lab_page.specs.Sources.{source_of, row_words, first_call, row_data, source_data, name_at, has_text, source_told, source_behind, source_at, program_at, programs, source_shown, sources_shown};
 
 use ipc_traps::Service;
-use lab_moments::words_value;
+use lab_moments::list_value;
 use lab_told::service_of_word;
 use lc3_asm::{Assembled, Row};
 use serde_json::{Value, json};
@@ -66,9 +67,9 @@ fn row_value(alloc: Global, source: &Source, row: &Row) -> Result<Value, AllocEr
     match first_call(held) {
         Some(service) => {
             let name = service.name();
-            json!(in alloc; [line, address, words_value(alloc, held)?, name])
+            json!(in alloc; [line, address, list_value(alloc, held)?, name])
         }
-        None => json!(in alloc; [line, address, words_value(alloc, held)?]),
+        None => json!(in alloc; [line, address, list_value(alloc, held)?]),
     }
 }
 
@@ -83,7 +84,7 @@ fn source_value(alloc: Global, source: &Source) -> Result<Value, AllocError>
     json!(in alloc; [&source.text, rows, &source.labels])
 }
 
-#[tactic(auto, using(lab_moments::proofs::ValueLemmas::slice_get_seen))]
+#[tactic(auto, using(lab_moments::proofs::ValueLemmas::seen))]
 fn name_at(alloc: Global, names: &[String], process: usize) -> Result<Value, AllocError>
     ensures value { IfOk result (λ v. view v ≡ name_at (map string_bytes names.now) process) }
 {
@@ -121,13 +122,10 @@ fn source_told(
     ensures value { IfOk result (λ v. view v
         ≡ source_told process (source_shown source.now) first) }
 {
-    let Some(first) = first else {
-        return source_value(alloc, source);
-    };
-    if first < process {
-        return Ok(Value::from(first));
+    match first {
+        Some(first) if first < process => Ok(Value::from(first)),
+        _ => source_value(alloc, source),
     }
-    source_value(alloc, source)
 }
 
 /// The source of process `process`, or the number of the first one whose source has the same text, if it comes before.
@@ -144,13 +142,22 @@ fn source_behind(
     source_told(alloc, process, source, first)
 }
 
-#[tactic(auto, using(lab_moments::proofs::ValueLemmas::slice_get_seen))]
+/// The source of a process, where it has one.
+pub(crate) fn source_in(sources: &[Option<Source>], process: usize) -> Option<&Source>
+    ensures source { option_map (λ s. s.now) result ≡ source_in sources.now process }
+{
+    match sources.get(process) {
+        Some(Some(source)) => Some(source),
+        _ => None,
+    }
+}
+
+#[tactic(auto, using(crate::proofs::SourceLemmas::source_at_shown))]
 fn source_at(alloc: Global, sources: &[Option<Source>], process: usize) -> Result<Value, AllocError>
     ensures value { IfOk result (λ v. view v ≡ source_at (sources_shown sources.now) process) }
 {
-    match sources.get(process) {
-        Some(Some(source)) => source_behind(alloc, sources, process, source),
-        Some(None) => Ok(Value::Null),
+    match source_in(sources, process) {
+        Some(source) => source_behind(alloc, sources, process, source),
         None => Ok(Value::Null),
     }
 }
@@ -168,7 +175,7 @@ fn program_at(
 }
 
 /// So many processes with these names and sources.
-#[tactic(auto, using(lab_moments::proofs::ValueLemmas::all_below_none), unfolding(crate::specs::Sources::programs))]
+#[tactic(auto, using(lab_moments::proofs::ValueLemmas::below), unfolding(crate::specs::Sources::programs))]
 pub fn programs(
     alloc: Global,
     count: usize,

@@ -1,13 +1,12 @@
 //! The words that the steps of a run store.
-ghost use Rattle.std.specs.Prelude.{◌≡◌, ◌≤◌, ◌+◌, ◌++◌, IfOk, OnOk, map, replicate, slice_get};
-ghost use Rattle.std.specs.Option.{option_map};
-ghost use Rattle.serde_json.specs.View.{view};
+ghost use Rattle.std.specs.Prelude.{◌≡◌, ◌≤◌, ◌+◌, ◌++◌, IfOk, OnOk, replicate, slice_get};
 ghost use Rattle.lab_sched.specs.Held.{process_view};
 ghost use Rattle.lab_sched.specs.Schedules.{most_steps, steps_of, total_of};
 ghost use Rattle.lab_sched.specs.Worlds.{machine_of, run, step};
-ghost use Rattle.lab_page.specs.Stores.{changed, changed_words, held_words, memory_from, source_in, stored_by, stores_data, stores_from, stores_of, word_count};
+ghost use Rattle.lab_page.specs.Stores.{changed, changed_words, held_words, memory_from, stored_by, stores_from, stores_of, word_count};
 
-use crate::source::Source;
+use crate::source::{Source, source_in};
+use lab_moments::AsData;
 use lab_sched::{Block, Process, Schedule, StepFault, World};
 use lab_template::MOST_WHOLE;
 use serde_json::{Value, json};
@@ -28,14 +27,21 @@ pub struct Stored {
     pub word: u16,
 }
 
-/// The source of process `pid`, where it has one.
-fn source_in(sources: &[Option<Source>], pid: usize) -> Option<&Source>
-    ensures source { option_map (λ s. s.now) result ≡ source_in sources.now pid }
-{
-    match sources.get(pid) {
-        Some(Some(source)) => Some(source),
-        _ => None,
+impl AsData for Stored {
+    ghost use Rattle.lab_page.specs.Stores.{stored_data};
+
+    ghost form = { stored_data };
+
+    fn value(&self, alloc: Global) -> Result<Value, AllocError> {
+        json!(in alloc; [self.step, self.process, self.address, self.word])
     }
+}
+
+/// A step of a run.
+#[derive(Clone, Copy)]
+struct Step {
+    number: u32,
+    process: usize,
 }
 
 /// How many words of a source have addresses.
@@ -50,6 +56,7 @@ fn word_count(source: &Source) -> usize
 }
 
 /// So many words of the memory of a process, from an address on.
+#[tactic(auto, using(lab_moments::proofs::ValueLemmas::below), unfolding(crate::specs::Stores::memory_from))]
 fn words_from(
     alloc: Global,
     process: &Process,
@@ -101,23 +108,22 @@ fn push_changed(stores: &mut Vec<Stored>, stored: Stored, before: u16) -> Result
 }
 
 /// Adds the words behind a step, from an address on, that aren't those before it.
-#[tactic(auto, unfolding(crate::specs::Stores::changed_words))]
+#[tactic(auto, using(lab_moments::proofs::ValueLemmas::below), unfolding(crate::specs::Stores::changed_words))]
 fn push_words(
     stores: &mut Vec<Stored>,
-    step: u32,
-    process: usize,
+    step: Step,
     first: u16,
     before: &[u16],
     after: &[u16],
 ) -> Result<(), AllocError>
     ensures added { OnOk result (stores.new.items ≡ stores.old.items
-        ++ changed_words step process first before.now after.now) }
+        ++ changed_words step.number step.process first before.now after.now) }
 {
     for at in 0..after.len().min(before.len()) {
         let (address, word) = (usize::from(first) + at, after[at]);
         let stored = Stored {
-            step,
-            process,
+            step: step.number,
+            process: step.process,
             address,
             word,
         };
@@ -136,29 +142,30 @@ fn take_step(world: &mut World, pid: usize) -> Result<(), AllocError>
     }
 }
 
-/// Takes step number `number`, of process `pid`, and adds what it stores.
+/// Takes a step, and adds what it stores.
 fn add_step(
     stores: &mut Vec<Stored>,
     world: &mut World,
-    number: u32,
-    pid: usize,
+    taken: Step,
     sources: &[Option<Source>],
 ) -> Result<(), AllocError>
     ensures added { OnOk result (stores.new.items ≡ stores.old.items
-        ++ stored_by sources.now number world.old pid) }
-    ensures world { OnOk result (world.new ≡ step world.old pid) }
+        ++ stored_by sources.now taken.number world.old taken.process) }
+    ensures world { OnOk result (world.new ≡ step world.old taken.process) }
 {
     let alloc = *stores.allocator();
+    let pid = taken.process;
     let Some(source) = source_in(sources, pid) else {
         return take_step(world, pid);
     };
     let before = held_words(alloc, world, pid, source)?;
     take_step(world, pid)?;
     let after = held_words(alloc, world, pid, source)?;
-    push_words(stores, number, pid, source.origin, &before, &after)
+    push_words(stores, taken, source.origin, &before, &after)
 }
 
 /// Takes the steps of a block, of which the first has number `first`, and adds what they store.
+#[tactic(auto, using(crate::proofs::StoreLemmas::stores_and_world))]
 fn add_block(
     stores: &mut Vec<Stored>,
     world: &mut World,
@@ -173,7 +180,11 @@ fn add_block(
         ≡ run world.old (replicate block.count block.pid)) }
 {
     for done in 0..block.count {
-        add_step(stores, world, first + done, block.pid, sources)?;
+        let step = Step {
+            number: first + done,
+            process: block.pid,
+        };
+        add_step(stores, world, step, sources)?;
     }
     Ok(())
 }
@@ -214,16 +225,4 @@ pub fn stores_of(
     } else {
         Ok(Vec::new(alloc))
     }
-}
-
-/// What steps store, as a value.
-pub(crate) fn stores_value(alloc: Global, stores: &[Stored]) -> Result<Value, AllocError>
-    ensures value { IfOk result (λ v. view v ≡ stores_data stores.now) }
-{
-    let mut values = Vec::new(alloc);
-    for stored in stores {
-        let (step, process) = (stored.step, stored.process);
-        values.push(json!(in alloc; [step, process, stored.address, stored.word])?)?;
-    }
-    Ok(Value::Array(values))
 }

@@ -10,13 +10,13 @@ ghost use Rattle.lab_texts.specs.Texts.{place_text};
 ghost use Rattle.lab_sched.specs.Verdicts.{verdict_word};
 ghost use Rattle.lab_sched.specs.Schedules.{most_steps};
 ghost use Rattle.lab_moments.specs.Values.{list, or_null};
-ghost use Rattle.lab_page.specs.Worlds.{edge_data, node_data, object_in, objects, place_before, stand_text, standing_at, standing_data, standings, with_leg, with_node, worlds_json};
+ghost use Rattle.lab_page.specs.Worlds.{node_data, object_in, objects, place_before, stand_text, standing_at, standing_data, standings, with_leg, with_node, worlds_json};
 
 use crate::json::{push_listed, push_parts};
 use crate::legs::leg_value;
 use crate::outcome::outputs;
 use ipc_kernel::{Kernel, OBJECT_PLACES};
-use lab_moments::{object_value, push_some};
+use lab_moments::{AsData, list_value, object_value, push_some};
 use lab_sched::{Process, Verdict, World};
 use lab_texts::how_name;
 use lab_told::{Tally, arguments_of, held_place, service_at};
@@ -33,6 +33,16 @@ pub struct WorldEdge {
     pub from: u32,
     pub to: u32,
     pub process: u32,
+}
+
+impl AsData for WorldEdge {
+    ghost use Rattle.lab_page.specs.Worlds.{edge_data};
+
+    ghost form = { edge_data };
+
+    fn value(&self, alloc: Global) -> Result<Value, AllocError> {
+        json!(in alloc; [self.from, self.to, self.process])
+    }
 }
 
 /// Worlds in which each process stands before a call, or has ended, the edges between them, and what the steps of each edge tell.
@@ -138,7 +148,7 @@ fn standing_at(alloc: Global, world: &World, pid: usize) -> Result<Option<Value>
     }
 }
 
-#[tactic(auto, using(lab_moments::proofs::ValueLemmas::all_below_none))]
+#[tactic(auto, using(lab_moments::proofs::ValueLemmas::below))]
 fn standings(alloc: Global, world: &World) -> Result<Vec<Value>, AllocError>
     ensures standings { IfOk result (λ v. map view v.items ≡ standings world.now) }
 {
@@ -174,7 +184,7 @@ fn object_at(
 }
 
 /// The objects of a world in order of place, without what only the steps to it tell of them.
-#[tactic(auto, using(lab_moments::proofs::ValueLemmas::all_below_none))]
+#[tactic(auto, using(lab_moments::proofs::ValueLemmas::below))]
 fn objects_value(alloc: Global, world: &World) -> Result<Value, AllocError>
     ensures value { IfOk result (λ v. view v ≡ list (objects world.now)) }
 {
@@ -218,16 +228,6 @@ fn node_value(
     ])
 }
 
-fn edges_value(alloc: Global, edges: &[WorldEdge]) -> Result<Value, AllocError>
-    ensures value { IfOk result (λ v. view v ≡ list (map edge_data edges.now)) }
-{
-    let mut values = Vec::new(alloc);
-    for edge in edges {
-        values.push(json!(in alloc; [edge.from, edge.to, edge.process])?)?;
-    }
-    Ok(Value::Array(values))
-}
-
 impl Worlds {
     /// No world, where there will be these edges.
     pub fn new(alloc: Global, edges: Vec<WorldEdge>) -> Worlds
@@ -254,7 +254,6 @@ impl Worlds {
     #[tactic(auto, using(crate::proofs::WorldLemmas::node_plain))]
     pub fn add(
         &mut self,
-        alloc: Global,
         world: &World,
         calls: u32,
         verdict: Option<Verdict>,
@@ -262,25 +261,19 @@ impl Worlds {
     ) -> Result<(), AllocError>
         ensures added { OnOk result (self.new ≡ with_node self.old world.now calls verdict end) }
     {
-        let node = node_value(alloc, world, calls, verdict, end)?;
+        let node = node_value(*self.json.allocator(), world, calls, verdict, end)?;
         push_listed(&mut self.json, &node)
     }
 
     /// Takes so many steps of a process, and adds what they tell: of each process first those from the start to the first
     /// world, then, for each edge in order, those of its process.
     #[tactic(auto, using(crate::proofs::LegLemmas::leg_plain))]
-    pub fn add_leg(
-        &mut self,
-        alloc: Global,
-        world: &mut World,
-        pid: usize,
-        steps: u32,
-    ) -> Result<(), AllocError>
+    pub fn add_leg(&mut self, world: &mut World, pid: usize, steps: u32) -> Result<(), AllocError>
         requires process { pid < length world.old.processes }
         requires room { steps ≤ most_steps }
         ensures added { OnOk result (self.new ≡ with_leg self.old world.old pid steps) }
     {
-        let leg = leg_value(alloc, world, pid, steps)?;
+        let leg = leg_value(*self.legs.allocator(), world, pid, steps)?;
         push_listed(&mut self.legs, &leg)
     }
 }
@@ -293,7 +286,7 @@ pub fn push_worlds(json: &mut Vec<u8>, worlds: &Option<Worlds>) -> Result<(), Al
     let Some(worlds) = worlds else {
         return json.extend_from_slice(b"null");
     };
-    let edges = edges_value(*json.allocator(), &worlds.edges)?.to_vec(*json.allocator())?;
+    let edges = list_value(*json.allocator(), &worlds.edges)?.to_vec(*json.allocator())?;
     let (nodes, legs) = (worlds.json.as_slice(), worlds.legs.as_slice());
     push_parts(json, &[b"[[", nodes, b"],", &edges, b",[", legs, b"]]"])
 }

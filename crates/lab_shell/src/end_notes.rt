@@ -27,16 +27,9 @@ pub fn search_ends<'a, T: Files + Threads + Clock + Sync, P: Progress>(
 {
     let began = Instant::now(job.rt).ok();
     let mut search = find_ends(job, given, setup.profile, question)?;
-    search.cost = cost_since(job, began);
+    search.cost = began.and_then(|began| SearchCost::since(job, began));
     search.limit = limit_told(job, setup, given, &search);
     Ok(search)
-}
-
-fn cost_since<T: Files + Clock, P>(
-    job: &Job<'_, T, P>,
-    began: Option<Instant>,
-) -> Option<SearchCost> {
-    SearchCost::since(job, began?)
 }
 
 /// The limit that a search met, where it is told: as JSON, or where notes are. Where memory is refused, it isn't.

@@ -1,110 +1,110 @@
 //! The steps of each call in the picture of all worlds.
 ghost use Rattle.std.specs.Prelude.{◌≡◌, OnOk};
 
-use crate::page::Paged;
-use lab_commands::{At, Complaint};
+use crate::page::PagedSearch;
+use lab_commands::Complaint;
 use lab_page::Worlds;
 use lab_pictures::{Arrow, Node, Picture};
 use lab_sched::{MOST_STEPS, Process, Schedule, World};
 use lab_worlds::ExploreFault;
 use std::alloc::Global;
 
-/// Adds what the steps of each process tell from the start to the first world of a picture, and then those of each arrow. A call
-/// has at most so many local steps behind it.
-pub fn add_legs<'a>(
-    alloc: Global,
-    paged: &Paged<'_, 'a>,
-    picture: &Picture,
-    most: u32,
-    worlds: &mut Worlds,
-) -> Result<(), Complaint<'a>>
-    ensures arrows { OnOk result (worlds.new.edges ≡ worlds.old.edges) }
-{
-    add_first_legs(alloc, paged, picture, most, worlds)?;
-    for arrow in &picture.arrows {
-        add_arrow(alloc, paged, picture.nodes.as_slice(), arrow, most, worlds)?;
-    }
-    Ok(())
-}
-
-fn add_first_legs<'a>(
-    alloc: Global,
-    paged: &Paged<'_, 'a>,
-    picture: &Picture,
-    most: u32,
-    worlds: &mut Worlds,
-) -> Result<(), Complaint<'a>>
-    ensures arrows { OnOk result (worlds.new.edges ≡ worlds.old.edges) }
-{
-    let Some(first) = picture.nodes.first() else {
-        return Ok(());
-    };
-    let start = Schedule::new(alloc);
-    for pid in 0..first.world.count() {
-        let steps = steps_to(alloc, paged, &start, pid, 0, most, &first.world)?;
-        add_leg(alloc, paged, &start, pid, steps, worlds)?;
-    }
-    Ok(())
-}
-
-fn add_arrow<'a>(
-    alloc: Global,
-    paged: &Paged<'_, 'a>,
-    nodes: &[Node],
-    arrow: &Arrow,
-    most: u32,
-    worlds: &mut Worlds,
-) -> Result<(), Complaint<'a>>
-    ensures arrows { OnOk result (worlds.new.edges ≡ worlds.old.edges) }
-{
-    let (Some(from), Some(to)) = (nodes.get(arrow.from as usize), nodes.get(arrow.to as usize))
-    else {
-        return Ok(());
-    };
-    let pid = arrow.process as usize;
-    let steps = steps_to(alloc, paged, &from.schedule, pid, 1, most, &to.world)?;
-    add_leg(alloc, paged, &from.schedule, pid, steps, worlds)
-}
-
-fn add_leg<'a>(
-    alloc: Global,
-    paged: &Paged<'_, 'a>,
-    schedule: &Schedule,
-    pid: usize,
-    steps: u32,
-    worlds: &mut Worlds,
-) -> Result<(), Complaint<'a>>
-    ensures arrows { OnOk result (worlds.new.edges ≡ worlds.old.edges) }
-{
-    let mut world = world_after(alloc, paged, schedule)?;
-    if pid >= world.count() || steps > MOST_STEPS {
-        return Err(unvouched(alloc));
-    }
-    worlds.add_leg(alloc, &mut world, pid, steps)?;
-    Ok(())
-}
-
-/// How many steps a process takes from the world behind a schedule until it is as in another world: at least so many, and at most
-/// so many more.
-fn steps_to<'a>(
-    alloc: Global,
-    paged: &Paged<'_, 'a>,
-    schedule: &Schedule,
+/// Steps of a process from the world behind a schedule, at least so many, until it is as in another world.
+#[derive(Clone, Copy)]
+struct CallSteps<'p> {
+    schedule: &'p Schedule,
     pid: usize,
     least: u32,
-    most: u32,
-    after: &World,
-) -> Result<u32, Complaint<'a>> {
-    let mut world = world_after(alloc, paged, schedule)?;
-    for steps in 0..most.saturating_add(2) {
-        if steps >= least && is_alike(world.process(pid), after.process(pid)) {
-            return Ok(steps);
+    after: &'p World,
+}
+
+impl<'a> PagedSearch<'_, '_, 'a> {
+    /// Adds what the steps of each process tell from the start to the first world of a picture, and then those of each arrow. A
+    /// call has at most as many local steps behind it as the search was to take.
+    pub fn add_legs(&self, picture: &Picture, worlds: &mut Worlds) -> Result<(), Complaint<'a>>
+        ensures arrows { OnOk result (worlds.new.edges ≡ worlds.old.edges) }
+    {
+        self.add_first_legs(picture, worlds)?;
+        for arrow in &picture.arrows {
+            self.add_arrow(picture.nodes.as_slice(), arrow, worlds)?;
         }
-        if world.step(pid).is_err() {
-            return Err(unvouched(alloc));
+        Ok(())
+    }
+
+    fn add_first_legs(&self, picture: &Picture, worlds: &mut Worlds) -> Result<(), Complaint<'a>>
+        ensures arrows { OnOk result (worlds.new.edges ≡ worlds.old.edges) }
+    {
+        let Some(first) = picture.nodes.first() else {
+            return Ok(());
+        };
+        let start = Schedule::new(self.alloc);
+        for pid in 0..first.world.count() {
+            let leg = CallSteps {
+                schedule: &start,
+                pid,
+                least: 0,
+                after: &first.world,
+            };
+            self.add_leg(leg, worlds)?;
+        }
+        Ok(())
+    }
+
+    fn add_arrow(
+        &self,
+        nodes: &[Node],
+        arrow: &Arrow,
+        worlds: &mut Worlds,
+    ) -> Result<(), Complaint<'a>>
+        ensures arrows { OnOk result (worlds.new.edges ≡ worlds.old.edges) }
+    {
+        let (Some(from), Some(to)) = (nodes.get(arrow.from as usize), nodes.get(arrow.to as usize))
+        else {
+            return Ok(());
+        };
+        let leg = CallSteps {
+            schedule: &from.schedule,
+            pid: arrow.process as usize,
+            least: 1,
+            after: &to.world,
+        };
+        self.add_leg(leg, worlds)
+    }
+
+    fn add_leg(&self, leg: CallSteps<'_>, worlds: &mut Worlds) -> Result<(), Complaint<'a>>
+        ensures arrows { OnOk result (worlds.new.edges ≡ worlds.old.edges) }
+    {
+        let steps = self.steps_of(leg)?;
+        let mut world = self.world_after(leg.schedule)?;
+        if leg.pid >= world.count() || steps > MOST_STEPS {
+            return Err(unvouched(self.alloc));
+        }
+        worlds.add_leg(&mut world, leg.pid, steps)?;
+        Ok(())
+    }
+
+    /// How many steps a leg has.
+    fn steps_of(&self, leg: CallSteps<'_>) -> Result<u32, Complaint<'a>> {
+        let most = self.search.inquiry.reach.limits.steps;
+        let mut world = self.world_after(leg.schedule)?;
+        for steps in 0..most.saturating_add(2) {
+            if steps >= leg.least && is_alike(world.process(leg.pid), leg.after.process(leg.pid)) {
+                return Ok(steps);
+            }
+            if world.step(leg.pid).is_err() {
+                return Err(unvouched(self.alloc));
+            }
+        }
+        Err(unvouched(self.alloc))
+    }
+
+    fn world_after(&self, schedule: &Schedule) -> Result<World, Complaint<'a>> {
+        let mut world = World::from(self.paged.laboratory(self.alloc)?);
+        match world.run(schedule) {
+            Ok(()) => Ok(world),
+            Err(_) => Err(unvouched(self.alloc)),
         }
     }
-    Err(unvouched(alloc))
 }
 
 fn is_alike(process: Option<&Process>, other: Option<&Process>) -> bool {
@@ -113,18 +113,6 @@ fn is_alike(process: Option<&Process>, other: Option<&Process>) -> bool {
             process.machine().pc() == other.machine().pc() && process.is_same(other)
         }
         _ => false,
-    }
-}
-
-fn world_after<'a>(
-    alloc: Global,
-    paged: &Paged<'_, 'a>,
-    schedule: &Schedule,
-) -> Result<World, Complaint<'a>> {
-    let mut world = World::from(paged.laboratory(alloc)?);
-    match world.run(schedule) {
-        Ok(()) => Ok(world),
-        Err(_) => Err(unvouched(alloc)),
     }
 }
 

@@ -3,7 +3,7 @@ ghost use Rattle.std.specs.Prelude.{◌≡◌, false};
 
 use lab_arguments::{Setup, program_of};
 use lab_commands::{Complaint, Job, Programs, Progress, laboratory, messages_if, standing_at};
-use lab_notes::{Noted, Refusal, noted, push_more, push_note};
+use lab_notes::{Refusal, noted, push_more, push_note};
 use lab_sched::{Schedule, World};
 use lab_sources::Source;
 use lab_trace::missing_after;
@@ -32,13 +32,11 @@ pub fn tell_warnings<T, P: Progress>(job: &Job<'_, T, P>, setup: &Setup<'_>, giv
 
 /// Whether the program of a process is that of an earlier one.
 fn is_given_before(setup: &Setup<'_>, process: usize, file: &str) -> bool {
-    for word in setup.programs.iter().take(process) {
-        let (other, _) = program_of(word);
-        if other == file {
-            return true;
-        }
-    }
-    false
+    setup
+        .programs
+        .iter()
+        .take(process)
+        .any(|word| program_of(word).0 == file)
 }
 
 fn tell_warnings_of<T, P: Progress>(
@@ -59,11 +57,11 @@ pub fn sources_of<'a>(
     alloc: Global,
     given: &'a Programs,
 ) -> Result<Vec<Option<&'a Source>>, AllocError> {
-    let mut sources = Vec::new(alloc);
-    for source in &given.sources {
-        sources.push(source.as_ref())?;
-    }
-    Ok(sources)
+    given
+        .sources
+        .iter()
+        .map(|source| source.as_ref())
+        .collect(alloc)
 }
 
 /// Tells the notes of one run of programs, where notes are told. Where memory is refused, there are fewer.
@@ -124,22 +122,16 @@ impl<'a> Notes<'a> {
         };
         self.left = left;
         let mut world = world;
-        let rows = rows_of(job.alloc, &mut world, schedule)?;
-        self.tell_rows(job, rows.as_slice())?;
-        Ok(true)
-    }
-
-    fn tell_rows<T, P: Progress>(
-        &mut self,
-        job: &Job<'_, T, P>,
-        rows: &[Noted],
-    ) -> Result<(), AllocError> {
+        if let Some(_) = missing_after(&mut world, schedule) {
+            return Ok(true);
+        }
+        let rows = noted(job.alloc, &mut world, schedule)?;
         for (pid, row) in rows.iter().enumerate() {
             if let Some(first) = &row.first {
                 self.tell_first(job, pid, first, row.more)?;
             }
         }
-        Ok(())
+        Ok(true)
     }
 
     fn tell_first<T, P: Progress>(
@@ -161,7 +153,8 @@ impl<'a> Notes<'a> {
     /// The note of a refused call, without its end.
     fn note_of(&self, alloc: Global, pid: usize, first: &Refusal) -> Result<String, AllocError> {
         let source = self.sources.get(pid).copied().flatten();
-        let place = place_of(alloc, source, first.pc, first.word)?;
+        let standing = standing_at(alloc, source, first.pc, first.word)?;
+        let place = format!(in alloc; "{standing}")?;
         let mut note = String::new(alloc);
         push_note(&mut note, pid, first, &place)?;
         Ok(note)
@@ -174,27 +167,4 @@ fn ended(alloc: Global, note: &str, more: u32) -> Result<String, AllocError> {
     push_more(&mut line, more)?;
     line.push_str("\n")?;
     Ok(line)
-}
-
-/// What is noted of each process, or nothing where a step has no process.
-fn rows_of(
-    alloc: Global,
-    world: &mut World,
-    schedule: &Schedule,
-) -> Result<Vec<Noted>, AllocError> {
-    match missing_after(world, schedule) {
-        Some(_) => Ok(Vec::new(alloc)),
-        None => noted(alloc, world, schedule),
-    }
-}
-
-/// Where an address stands: its nearest label and its line, as far as there is a source with such, and else the address.
-fn place_of(
-    alloc: Global,
-    source: Option<&Source>,
-    address: u16,
-    word: u16,
-) -> Result<String, AllocError> {
-    let standing = standing_at(alloc, source, address, word)?;
-    format!(in alloc; "{standing}")
 }

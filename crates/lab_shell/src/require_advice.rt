@@ -46,25 +46,23 @@ fn is_refused(alloc: Global, value: &str, text: &str) -> Result<bool, AllocError
 }
 
 fn line_on(alloc: Global, value: &str) -> Result<String, AllocError> {
-    let meant = meant_by(alloc, value)?;
-    let mut line = match unknown_in(alloc, value)? {
+    let why = match unknown_in(alloc, value)? {
         Some(word) => {
             let word = Shown(word);
             format!(in alloc;
-                "lc3lab: {word}: isn't understood; here stand ended, stuck, halted, empty, same and out P = \"TEXT\", with commas between"
+                "{word}: isn't understood; here stand ended, stuck, halted, empty, same and out P = \"TEXT\", with commas between"
             )?
         }
         None => format!(in alloc;
-            "lc3lab: {value}: each word stands once, and ended, stuck and halted exclude each other"
+            "{value}: each word stands once, and ended, stuck and halted exclude each other"
         )?,
     };
-    if let Some(meant) = meant {
-        if meant.as_str() != value {
-            write!(line, "; did you mean {meant}?")?;
+    match meant_by(alloc, value)? {
+        Some(meant) if meant.as_str() != value => {
+            format!(in alloc; "lc3lab: {why}; did you mean {meant}?\n")
         }
+        _ => format!(in alloc; "lc3lab: {why}\n"),
     }
-    line.push_str("\n")?;
-    Ok(line)
 }
 
 /// The first word that `--require` doesn't have.

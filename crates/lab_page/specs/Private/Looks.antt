@@ -1,5 +1,5 @@
 -- How a run is written.
-use Rattle.std.specs.Prelude.{ℕ, Option, List, [], length}
+use Rattle.std.specs.Prelude.{Option, List, [], length}
 use Rattle.lab_sched.specs.Schedules.{steps_of}
 use Rattle.lab_sched.specs.Worlds.{WorldState}
 use Rattle.lab_sched.specs.declared.schedule.block.Block.{Block}

@@ -1,5 +1,5 @@
 -- The runs on a page of ends.
-use Rattle.std.specs.Prelude.{ℕ, zero, suc, ◌≡◌, false, Bool, Option, Some, None, IfSome, List, [], length}
+use Rattle.std.specs.Prelude.{ℕ, zero, suc, ◌≡◌, false, Option, Some, None, IfSome, List, [], length}
 use Rattle.serde_json.specs.Data.{Data}
 use Rattle.serde_json.specs.Written.{compact_text}
 use Rattle.lab_sched.specs.Starts.{fresh}

@@ -1,4 +1,4 @@
-use Rattle.std.proofs.Common.{ℕ, ◌+◌, List, length, take, get_or, sym, ap, ◌∙◌, arith, length-append}
+use Rattle.std.proofs.Common.{length, take, get_or, sym, ap, ◌∙◌, arith, length-append}
 use Rattle.std.proofs.lemmas.List.{length-replicate}
 use Rattle.lab_sched.specs.Schedules.{block, steps_of}
 use Rattle.lab_sched.specs.Worlds.{run}
@@ -14,7 +14,7 @@ loop-block-init c =
     record {
       number = omega (arith, ap length steps_of-none);
       stores = c.new-stores.ensures.items ∙ sym (ap (stores_from c.args.sources.now 1 w) steps_of-none ∙ stores-none c.args.sources.now 1 w);
-      world = run-none w ∙ sym (ap (run w) steps_of-none);
+      world = sym (ap (run w) steps_of-none ∙ run-none w);
     }
 
 pub add_block-requires : goal.add_block-requires

@@ -1,5 +1,5 @@
 use Rattle.std.proofs.Common.{◌≡◌}
-use Rattle.lab_shell.proofs.legs_page.add_first_legs.Given as goal
+use Rattle.lab_shell.proofs.page.PagedSearch.add_first_legs.Given as goal
 
 -- the arrows stay
 abbrev pub invariant-loop-pid : goal.invariant-loop-pid
