@@ -7,17 +7,18 @@ function shownIn(address) {                       // the kind and the number of 
 const [KIND, NUMBER] = shownIn(location.hash), SHOWN = KIND ? `${KIND}=${NUMBER}` : '';
 const isList = DATA.ends !== undefined && !KIND, N = DATA.processes.length;
 const NO_STEPS = [DATA.processes.map(() => [0, 'Z', [], 0, []])];
-const NO_RUN = { schedule: [], whole: true, moments: NO_STEPS, outcome: ['open', '', '', [], [], [], [], [], []] };
+const NO_RUN = { schedule: [], whole: true, moments: NO_STEPS, outcome: ['open', '', '', [], [], [], [], [], [], []] };
 const [LED, D, STORES] = DATA.run ? [0, DATA.run, DATA.stores] : KIND ? RUNS[KIND][NUMBER - 1] : [0, NO_RUN, []];
 const [starts, ...moments] = D.moments;
-const [VERDICT, STANDS, REPORT, , LAST, HELD, UNRECEIVED, WAITS, CIRCLES] = D.outcome;
+const [VERDICT, STANDS, REPORT, , LAST, HELD, UNRECEIVED, WAITS, CIRCLES, TEXTS] = D.outcome;
 const STEPS = D.schedule.reduce((sum, [, count]) => sum + count, 0);
 const ROUND = KIND === 'run' && LED < STEPS ? LED : null;    // how many steps lead to the round, where it has one
 const NAMES = DATA.processes.map(([name]) => visible(name).replace(/\t/g, '\\x09')), PROCESSES = [...NAMES.keys()];
 
 // ---- what stands in the arrays
 
-const stateOf = ([pc, cc, registers, first, code]) => ({ pc, cc, registers, first, code });
+const textOf = new Map(TEXTS.map(entry => [entry[0], entry]));  // of each word the word, its text, and its call
+const stateOf = ([pc, cc, registers, first, words]) => ({ pc, cc, registers, first, code: words.map(w => textOf.get(w)) });
 function objectOf([kind, place, name, waiters, ...rest]) {
   const [value, made, taken] = rest, [most, size, messages] = rest, known = { place, name, waiters };
   if (kind === 'gone') return null;

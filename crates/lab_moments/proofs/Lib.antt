@@ -1,6 +1,7 @@
 pub mod ValueLemmas
 pub mod PlainLemmas
 pub mod StateLemmas
+pub mod WordLemmas
 pub mod ObjectLemmas
 pub mod BetweenLemmas
 pub mod WaitLemmas

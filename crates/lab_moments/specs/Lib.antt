@@ -1,5 +1,6 @@
 pub mod Values
 pub mod States
+pub mod Words
 pub mod Objects
 pub mod Changes
 pub mod Holds

@@ -14,6 +14,7 @@ mod past;
 mod state;
 mod values;
 mod waits;
+mod words;
 
 pub use between::{StepCount, between_value};
 pub use circles::circles_value;
@@ -23,6 +24,7 @@ pub use known::Known;
 pub use moment::moment_by;
 pub use objects::object_value;
 pub use past::Past;
-pub use state::states;
+pub use state::{states, words_from};
 pub use values::{AsData, list_value, push_some};
 pub use waits::waits_value;
+pub use words::SeenWords;

@@ -7,6 +7,7 @@ ghost use Rattle.lab_moments.specs.Pasts.{first_past, past_after, past_with, rec
 use crate::between::{NO_STEPS, StepCount, keep_between};
 use crate::holds::{Hold, keep_holds};
 use crate::known::{Known, known_after};
+use crate::words::SeenWords;
 use ipc_kernel::OBJECT_PLACES;
 use ipc_traps::Service;
 use lab_sched::World;
@@ -25,6 +26,8 @@ pub struct Past {
     pub holds: Vec<Hold>,
     /// The steps that sent the messages which nobody has received.
     pub unreceived: Vec<u32>,
+    /// The words around the program counters at the start, and after each step with an effect.
+    pub words: SeenWords,
 }
 
 impl Model for Past {
@@ -37,6 +40,7 @@ impl Model for Past {
       objects = h.objects.items;
       holds = h.holds.items;
       unreceived = h.unreceived.items;
+      words = h.words;
     } };
 }
 
@@ -80,6 +84,7 @@ impl Past {
             objects: Vec::from_array(alloc, [None; OBJECT_PLACES])?,
             holds: Vec::new(alloc),
             unreceived: Vec::new(alloc),
+            words: SeenWords::new(alloc, world)?,
         })
     }
 
@@ -91,6 +96,7 @@ impl Past {
         let alloc = *self.objects.allocator();
         let objects = known_after(alloc, &self.objects, taken.world.kernel())?;
         self.objects = objects;
+        self.words.keep(taken.world, taken.pid)?;
         receive(&mut self.unreceived, act);
         send(&mut self.unreceived, taken.number, act)
     }
@@ -104,7 +110,8 @@ impl Past {
         keep_between(&mut self.between, taken)?;
         match taken.told {
             Told::Shown(event) => self.keep_act(taken, &event.act),
-            Told::Nothing | Told::Counted => Ok(()),
+            Told::Counted => self.words.keep(taken.world, taken.pid),
+            Told::Nothing => Ok(()),
         }
     }
 }

@@ -4,12 +4,11 @@ ghost use Rattle.serde_json.specs.View.{view};
 ghost use Rattle.lc3_machine.specs.Process.{reg};
 ghost use Rattle.lab_sched.specs.Held.{process_view};
 ghost use Rattle.lab_sched.specs.Worlds.{machine_of};
-ghost use Rattle.lab_moments.specs.States.{word_data, shown_count, words_from, registers, state_data, state_in, states};
+ghost use Rattle.lab_moments.specs.States.{memory_from, shown_count, words_around, shown_in, registers, state_data, state_in, states};
 
+use crate::values::list_value;
 use lab_sched::{Process, World};
 use lab_texts::code_name;
-use lab_trace::service_of_word;
-use lc3_table::text;
 use lc3_word::{FIRST_DEVICE, Reg};
 use serde_json::{Value, json};
 use std::alloc::{AllocError, Global};
@@ -17,38 +16,23 @@ use std::alloc::{AllocError, Global};
 /// How many words are shown before the next instruction.
 const BEFORE: u16 = 3;
 /// How many words are shown from the next instruction on.
-const FROM: u32 = 5;
-
-/// A word, the text of its instruction, and the name of the call that it makes, where it makes one.
-#[tactic(auto, unfolding(crate::specs::States::word_data))]
-fn word_value(alloc: Global, word: u16) -> Result<Value, AllocError>
-    ensures value { IfOk result (λ v. view v ≡ word_data word) }
-{
-    match service_of_word(word) {
-        Some(service) => {
-            let name = service.name();
-            json!(in alloc; [word, text(alloc, word)?, name])
-        }
-        None => json!(in alloc; [word, text(alloc, word)?]),
-    }
-}
+const FROM: usize = 5;
 
 /// So many words of the memory of a process, from an address on.
-#[tactic(auto, using(crate::proofs::ValueLemmas::below))]
-fn words_from(
+#[tactic(auto, using(crate::proofs::ValueLemmas::below), unfolding(crate::specs::States::memory_from))]
+pub fn words_from(
     alloc: Global,
     process: &Process,
-    first: u32,
-    count: u32,
-) -> Result<Vec<Value>, AllocError>
+    first: usize,
+    count: usize,
+) -> Result<Vec<u16>, AllocError>
     requires range { first + count ≤ 65536 }
-    ensures words { IfOk result (λ v. map view v.items
-        ≡ words_from (machine_of (process_view process.now)) first count) }
+    ensures words { IfOk result (λ v. v.items
+        ≡ memory_from (machine_of (process_view process.now)) first count) }
 {
     let mut words = Vec::new(alloc);
     for i in 0..count {
-        let word = process.machine().word((first + i) as u16);
-        words.push(word_value(alloc, word)?)?;
+        words.push(process.machine().word((first + i) as u16))?;
     }
     Ok(words)
 }
@@ -73,12 +57,32 @@ fn registers(alloc: Global, process: &Process) -> Result<Vec<Value>, AllocError>
 }
 
 /// How many words are shown around a program counter.
-fn shown_count(pc: u16) -> u32
+fn shown_count(pc: u16) -> usize
     ensures count { result ≡ shown_count pc }
     ensures range { (pc - 3) + result ≤ 65536 }
 {
-    let end = (u32::from(pc) + FROM).min(u32::from(FIRST_DEVICE));
-    end.saturating_sub(u32::from(pc.saturating_sub(BEFORE)))
+    let end = (usize::from(pc) + FROM).min(usize::from(FIRST_DEVICE));
+    end.saturating_sub(usize::from(pc.saturating_sub(BEFORE)))
+}
+
+/// The words around the program counter of a process.
+fn words_around(alloc: Global, process: &Process) -> Result<Vec<u16>, AllocError>
+    ensures words { IfOk result (λ v. v.items
+        ≡ words_around (machine_of (process_view process.now))) }
+{
+    let pc = process.machine().pc();
+    let first = pc.saturating_sub(BEFORE);
+    words_from(alloc, process, usize::from(first), shown_count(pc))
+}
+
+/// The words around the program counter of process `pid` of a world, where it is there.
+pub fn shown_in(alloc: Global, world: &World, pid: usize) -> Result<Vec<u16>, AllocError>
+    ensures words { IfOk result (λ v. v.items ≡ shown_in world.now pid) }
+{
+    match world.process(pid) {
+        Some(process) => words_around(alloc, process),
+        None => Ok(Vec::new(alloc)),
+    }
 }
 
 /// A process: program counter, condition code, registers, and the words around the program counter.
@@ -88,13 +92,12 @@ fn state_value(alloc: Global, process: &Process) -> Result<Value, AllocError>
 {
     let pc = process.machine().pc();
     let code = code_name(process.machine().cc());
-    let first = pc.saturating_sub(BEFORE);
     json!(in alloc; [
         pc,
         code,
         registers(alloc, process)?,
-        first,
-        words_from(alloc, process, u32::from(first), shown_count(pc))?
+        pc.saturating_sub(BEFORE),
+        list_value(alloc, &words_around(alloc, process)?)?
     ])
 }
 

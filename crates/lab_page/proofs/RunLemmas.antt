@@ -26,6 +26,7 @@ use Rattle.lab_moments.proofs.PlainLemmas.{IsPlain, number-plain, plain-one, pla
 use Rattle.lab_moments.proofs.BetweenLemmas.{between-plain}
 use Rattle.lab_moments.proofs.EventLemmas.{holds-plain}
 use Rattle.lab_moments.proofs.WaitLemmas.{waits-plain, circles-plain}
+use Rattle.lab_moments.proofs.WordLemmas.{texts-plain}
 use Rattle.lab_page.proofs.JsonLemmas.{run-json}
 use Rattle.lab_page.proofs.FaultLemmas.{fault-longer}
 
@@ -48,7 +49,7 @@ outputs-plain w =
 
 pub outcome-plain : (v : Form) (s : Scene) (h : Past) → IsPlain (outcome_at v s h)
 unfolding outcome_at
-outcome-plain v s h = simp (outputs-plain, between-plain, holds-plain, plain-naturals, waits-plain, circles-plain)
+outcome-plain v s h = simp (outputs-plain, between-plain, holds-plain, plain-naturals, waits-plain, circles-plain, texts-plain)
 
 -- the JSON up to the moment before the first step
 abbrev start : Scene → List ℕ

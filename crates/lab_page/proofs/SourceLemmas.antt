@@ -14,7 +14,7 @@ use Rattle.lab_page.specs.Sources.{Source, row_data, source_data, has_text, sour
 use Rattle.lab_page.specs.Stores.{source_in}
 use Rattle.lab_page.specs.declared.source.Source.{Source as HeldSource}
 use Rattle.lab_moments.proofs.PlainLemmas.{IsPlain, plain-one, plain-below, plain-map, plain-naturals}
-use Rattle.lab_moments.proofs.StateLemmas.{names-plain}
+use Rattle.lab_moments.proofs.WordLemmas.{names-plain}
 
 position-map : {X Y : Type 0} (test : Y → Bool) (f : X → Y) (n : ℕ) (xs : List X)
     → position_from test n (map f xs) ≡ position_from (λ x. test (f x)) n xs

@@ -1,5 +1,5 @@
 -- What a page holds of a run by a schedule.
-use Rattle.std.specs.Prelude.{ℕ, nat_le, Bool, Option, Some, None, List, [], ◌∷◌, map, length, codes, slice_get}
+use Rattle.std.specs.Prelude.{ℕ, nat_le, Bool, Option, Some, None, List, [], ◌∷◌, ◌++◌, map, length, codes, slice_get}
 use Rattle.serde_json.specs.Data.{Data, null, string, boolean, object, member, no_members}
 use Rattle.serde_json.specs.Written.{compact_text}
 use Rattle.lab_sched.specs.Schedules.{steps_of}
@@ -10,6 +10,7 @@ use Rattle.lab_texts.specs.Reports.{report_text}
 use Rattle.lab_trace.specs.Ends.{end_lines}
 use Rattle.lab_trace.specs.Forms.{Form, form_for}
 use Rattle.lab_told.specs.Scenes.{Scene, first_scene, scene_after}
+use Rattle.lab_told.specs.Tallies.{TallyState}
 use Rattle.lab_moments.specs.Between.{between_data}
 use Rattle.lab_moments.specs.Holds.{holds_data}
 use Rattle.lab_template.specs.Limits.{most_whole}
@@ -21,6 +22,7 @@ use Rattle.lab_page.specs.declared.stores.Stored.{Stored}
 use Rattle.lab_moments.specs.States.{states}
 use Rattle.lab_moments.specs.Values.{list, natural, naturals, all_below}
 use Rattle.lab_moments.specs.Waits.{waits_data, circles_data}
+use Rattle.lab_moments.specs.Words.{texts_data}
 
 -- so many steps of a process in a row
 abbrev pub block_data : Block → Data
@@ -39,14 +41,22 @@ output_of (Some s) = naturals (machine_of s).output
 abbrev pub outputs : WorldState → Data
 outputs w = list (all_below (length w.processes) (λ p. output_of (slice_get w.processes p) ∷ []))
 
--- the end of a run: the verdict, where the processes stand, the report, what each process has written, the steps since the last
--- line, the units that are taken, the steps that sent the messages which nobody has received, who could let each waiting process go
--- on, and the circles of processes that wait for one another
+-- how a run ended: the verdict, where the processes stand, the report, and what each process has written
+abbrev pub ended : Form → WorldState → TallyState → List Data
+ended v w t =
+    string (verdict_word (verdict_of w)) ∷ string (end_lines v w t) ∷ string (report_text w) ∷ outputs w ∷ []
+
+-- what a run left: the steps since the last line, the units that are taken, the steps that sent the messages which nobody has
+-- received, who could let each waiting process go on, the circles of processes that wait for one another, and what the words of the
+-- moments mean
+abbrev pub left : WorldState → TallyState → Past → List Data
+left w t h =
+    between_data h.between ∷ holds_data h.holds ∷ naturals h.unreceived ∷ waits_data w t h.objects ∷ circles_data w h.holds
+    ∷ texts_data h.words ∷ []
+
+-- the end of a run
 unfoldable pub outcome_at : Form → Scene → Past → Data
-outcome_at v s h =
-    list (string (verdict_word (verdict_of s.world)) ∷ string (end_lines v s.world s.tally) ∷ string (report_text s.world)
-    ∷ outputs s.world ∷ between_data h.between ∷ holds_data h.holds ∷ naturals h.unreceived ∷ waits_data s.world s.tally h.objects
-    ∷ circles_data s.world h.holds ∷ [])
+outcome_at v s h = list (ended v s.world s.tally ++ left s.world s.tally h)
 
 -- whether a page of a schedule has its counted steps too
 abbrev pub is_whole : List Block → Bool

@@ -8,7 +8,7 @@ use Rattle.lc3_asm.specs.Texts.{Program}
 use Rattle.lc3_asm.specs.declared.assembled.Row.{Row}
 use Rattle.lab_told.specs.Services.{service_of_word}
 use Rattle.ipc_traps.specs.declared.service.Service.{Service}
-use Rattle.lab_moments.specs.States.{call_names}
+use Rattle.lab_moments.specs.Words.{call_names}
 use Rattle.lab_moments.specs.Values.{list, natural, naturals, or_null, all_below}
 use Rattle.lab_page.specs.declared.source.Source.{Source as HeldSource}
 

@@ -2,11 +2,11 @@
 use Rattle.std.specs.Prelude.{ℕ, ◌+◌, ◌-◌, ◌==◌, nat_le, if◌then◌else◌, min, Option, Some, None, List, [], ◌∷◌, ◌++◌, length, map, slice_get, slice_index}
 use Rattle.std.specs.Option.{option_and_then}
 use Rattle.serde_json.specs.Data.{Data}
-use Rattle.lc3_machine.specs.Process.{Process as Machine}
 use Rattle.lab_sched.specs.Schedules.{steps_of}
 use Rattle.lab_sched.specs.Worlds.{Process, WorldState, machine_of, step}
 use Rattle.lab_sched.specs.declared.schedule.block.Block.{Block}
 use Rattle.lab_template.specs.Limits.{most_whole}
+use Rattle.lab_moments.specs.States.{memory_from}
 use Rattle.lab_moments.specs.Values.{list, natural, all_below}
 use Rattle.lab_page.specs.declared.source.Source.{Source}
 use Rattle.lab_page.specs.declared.stores.Stored.{Stored}
@@ -18,10 +18,6 @@ source_in sources p = option_and_then (λ s. s) (slice_get sources p)
 -- how many words of a source have addresses
 abbrev pub word_count : Source → ℕ
 word_count s = min (length s.words.items) (65536 - s.origin)
-
--- so many words of a memory from an address on
-unfoldable pub memory_from : Machine → ℕ → ℕ → List ℕ
-memory_from m first count = all_below count (λ i. slice_index m.memory (first + i) ∷ [])
 
 -- what the memory of a process holds where a source has words
 abbrev pub held_words : Option Process → Source → List ℕ

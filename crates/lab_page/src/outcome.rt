@@ -1,10 +1,10 @@
 //! What stands behind the moments of a run: its end and its schedule.
-ghost use Rattle.std.specs.Prelude.{◌≡◌, ◌++◌, ℕ, false, OnOk, IfOk, slice_get};
+ghost use Rattle.std.specs.Prelude.{◌≡◌, ◌++◌, ℕ, false, OnOk, IfOk, map, slice_get};
 ghost use Rattle.serde_json.specs.View.{view};
 ghost use Rattle.serde_json.specs.Written.{has_float};
 ghost use Rattle.lab_told.specs.Scenes.{scene_at};
 ghost use Rattle.lab_page.specs.Private.Json.{run_end};
-ghost use Rattle.lab_page.specs.Runs.{schedule_data, output_of, outputs, outcome_at};
+ghost use Rattle.lab_page.specs.Runs.{schedule_data, output_of, outputs, ended, left, outcome_at};
 
 use crate::json::push_behind;
 use lab_moments::{Past, between_value, circles_value, list_value, waits_value};
@@ -46,7 +46,38 @@ pub(crate) fn outputs(alloc: Global, world: &World) -> Result<Value, AllocError>
     Ok(Value::Array(outputs))
 }
 
-/// The end of a run, by what was kept of its steps.
+/// How a run ended: the verdict, where the processes stand, the report, and what each has written.
+fn ended(
+    alloc: Global,
+    world: &World,
+    tally: &Tally,
+    form: &Form<'_>,
+) -> Result<Vec<Value>, AllocError>
+    ensures values { IfOk result (λ v. map view v.items ≡ ended form.now world.now tally.now) }
+{
+    let mut values = Vec::new(alloc);
+    values.push(Value::try_from_str(alloc, world.verdict().word())?)?;
+    values.push(Value::String(stands(alloc, world, tally, form)?))?;
+    values.push(Value::String(report_text(alloc, world)?))?;
+    values.push(outputs(alloc, world)?)?;
+    Ok(values)
+}
+
+/// What a run left, by what was kept of its steps.
+fn left(alloc: Global, world: &World, tally: &Tally, past: &Past) -> Result<Vec<Value>, AllocError>
+    ensures values { IfOk result (λ v. map view v.items ≡ left world.now tally.now past.now) }
+{
+    let mut values = Vec::new(alloc);
+    values.push(between_value(alloc, &past.between)?)?;
+    values.push(list_value(alloc, &past.holds)?)?;
+    values.push(list_value(alloc, &past.unreceived)?)?;
+    values.push(waits_value(alloc, world, tally, &past.objects)?)?;
+    values.push(circles_value(alloc, world, &past.holds)?)?;
+    values.push(past.words.value(alloc)?)?;
+    Ok(values)
+}
+
+/// The end of a run.
 #[tactic(auto, unfolding(crate::specs::Runs::outcome_at))]
 pub(crate) fn outcome_value(
     alloc: Global,
@@ -58,17 +89,9 @@ pub(crate) fn outcome_value(
     ensures value { (number : ℕ) → IfOk result (λ v. view v
         ≡ outcome_at form.now (scene_at number world.now tally.now) past.now) }
 {
-    json!(in alloc; [
-        world.verdict().word(),
-        stands(alloc, world, tally, form)?,
-        report_text(alloc, world)?,
-        outputs(alloc, world)?,
-        between_value(alloc, &past.between)?,
-        list_value(alloc, &past.holds)?,
-        list_value(alloc, &past.unreceived)?,
-        waits_value(alloc, world, tally, &past.objects)?,
-        circles_value(alloc, world, &past.holds)?
-    ])
+    let mut values = ended(alloc, world, tally, form)?;
+    values.append(&mut left(alloc, world, tally, past)?)?;
+    Ok(Value::Array(values))
 }
 
 /// Adds what stands behind the moments of a run: its end and its schedule.

@@ -1,13 +1,12 @@
 //! The words that the steps of a run store.
 ghost use Rattle.std.specs.Prelude.{◌≡◌, ◌≤◌, ◌+◌, ◌++◌, IfOk, OnOk, replicate, slice_get};
-ghost use Rattle.lab_sched.specs.Held.{process_view};
 ghost use Rattle.lab_sched.specs.Schedules.{most_steps, steps_of, total_of};
-ghost use Rattle.lab_sched.specs.Worlds.{machine_of, run, step};
-ghost use Rattle.lab_page.specs.Stores.{changed, changed_words, held_words, memory_from, stored_by, stores_from, stores_of, word_count};
+ghost use Rattle.lab_sched.specs.Worlds.{run, step};
+ghost use Rattle.lab_page.specs.Stores.{changed, changed_words, held_words, stored_by, stores_from, stores_of, word_count};
 
 use crate::source::{Source, source_in};
-use lab_moments::AsData;
-use lab_sched::{Block, Process, Schedule, StepFault, World};
+use lab_moments::{AsData, words_from};
+use lab_sched::{Block, Schedule, StepFault, World};
 use lab_template::MOST_WHOLE;
 use serde_json::{Value, json};
 use std::alloc::{AllocError, Global};
@@ -53,25 +52,6 @@ fn word_count(source: &Source) -> usize
         .words
         .len()
         .min(ADDRESSES - usize::from(source.origin))
-}
-
-/// So many words of the memory of a process, from an address on.
-#[tactic(auto, using(lab_moments::proofs::ValueLemmas::below), unfolding(crate::specs::Stores::memory_from))]
-fn words_from(
-    alloc: Global,
-    process: &Process,
-    first: usize,
-    count: usize,
-) -> Result<Vec<u16>, AllocError>
-    requires range { first + count ≤ 65536 }
-    ensures words { IfOk result (λ v. v.items
-        ≡ memory_from (machine_of (process_view process.now)) first count) }
-{
-    let mut words = Vec::new(alloc);
-    for i in 0..count {
-        words.push(process.machine().word((first + i) as u16))?;
-    }
-    Ok(words)
 }
 
 /// What the memory of process `pid` holds where its source has words.
