@@ -1,8 +1,8 @@
 -- A process is fixed by how many effective steps it took and by the answers to its calls.
-use Rattle.std.proofs.Common.{ℕ, zero, suc, ◌+◌, ◌≡◌, ◌==◌, ◌≤◌, ◌++◌, List, [], ◌∷◌, Option, Some, None, true, false, cond, refl, sym, ap, subst, ◌∙◌, arith, length, slice_get, ◌≢◌, inl, inr}
+use Rattle.std.proofs.Common.{ℕ, zero, suc, ◌+◌, ◌≡◌, ◌==◌, ◌≤◌, ◌++◌, List, [], ◌∷◌, Some, true, false, cond, refl, sym, ap, subst, ◌∙◌, slice_get, ◌≢◌, inl, inr}
 use Rattle.std.proofs.Math.Numerals.{add-one}
 use Rattle.std.proofs.lemmas.Bool.Decides.{eqb_tells}
-use Rattle.std.proofs.lemmas.Option.{slice_get_past}
+use Rattle.std.proofs.lemmas.Option.{slice_get_past, slice_get_cases}
 use Rattle.lc3_machine.specs.Process.{Process as Machine}
 use Rattle.ipc_kernel.specs.declared.call.Call.{Call}
 use Rattle.ipc_kernel.specs.declared.call.Answer.{Answer}
@@ -115,24 +115,20 @@ walks w (q ∷ xs) p s h at = elim (eqb_tells q p) [
       rest ∙ ap (λ x. Some x) (sym (ap (λ n. walk s n (answers p (entries w (q ∷ xs)))) counted ∙ ap (λ zs. walk s (count p xs) zs) answered))
 ]
 
-none_past : {A : Type 0} (xs : List A) (p : ℕ) → slice_get xs p ≡ None → length xs ≤ p
-none_past [] p e = omega arith
-none_past (x ∷ xs) zero e = absurd (cc)
-none_past (x ∷ xs) (suc p) e = let h = none_past xs p e in omega arith
-
 -- two lists of effective steps with equal counts and equal entries end in equal worlds
 pub commute : Commute
 commute w xs ys hx hy counts same =
     let processes : (run w xs).processes ≡ (run w ys).processes =
-    same_gets (run w xs).processes (run w ys).processes (length-run w xs ∙ sym (length-run w ys)) (λ p. at p (slice_get w.processes p) refl) in
+    same_gets (run w xs).processes (run w ys).processes (length-run w xs ∙ sym (length-run w ys)) at in
     let kernels : (run w xs).kernel ≡ (run w ys).kernel = kernel_run w xs ∙ ap (λ es. replay w.kernel es) same ∙ sym (kernel_run w ys) in
     ap (λ ps. record { processes = ps; kernel = (run w xs).kernel }) processes ∙ ap (λ k. record { processes = (run w ys).processes; kernel = k }) kernels
   where
-    past : (p : ℕ) → slice_get w.processes p ≡ None → length w.processes ≤ p
-    past p e = none_past w.processes p e
-
-    at : (p : ℕ) (o : Option Process) → slice_get w.processes p ≡ o → slice_get (run w xs).processes p ≡ slice_get (run w ys).processes p
-    at p (Some s) e =
-        walks w xs p s hx e ∙ ap (λ n. Some (walk s n (answers p (entries w xs)))) (counts p) ∙ ap (λ es. Some (walk s (count p ys) (answers p es))) same ∙ sym (walks w ys p s hy e)
-    at p None e =
-        slice_get_past (run w xs).processes p (subst (λ n. n ≤ p) (sym (length-run w xs)) (past p e)) ∙ sym (slice_get_past (run w ys).processes p (subst (λ n. n ≤ p) (sym (length-run w ys)) (past p e)))
+    at : (p : ℕ) → slice_get (run w xs).processes p ≡ slice_get (run w ys).processes p
+    at p = elim (slice_get_cases w.processes p).1 [
+      | inl t ↦
+          walks w xs p t.0 hx t.2 ∙ ap (λ n. Some (walk t.0 n (answers p (entries w xs)))) (counts p)
+          ∙ ap (λ es. Some (walk t.0 (count p ys) (answers p es))) same ∙ sym (walks w ys p t.0 hy t.2)
+      | inr t ↦
+          slice_get_past (run w xs).processes p (subst (λ n. n ≤ p) (sym (length-run w xs)) t.0)
+          ∙ sym (slice_get_past (run w ys).processes p (subst (λ n. n ≤ p) (sym (length-run w ys)) t.0))
+    ]

@@ -1,10 +1,10 @@
 -- Histories one after another.
-use Rattle.std.proofs.Common.{ℕ, ◌≡◌, ◌==◌, ◌++◌, List, [], ◌∷◌, Option, true, false, cond, refl, ap}
+use Rattle.std.proofs.Common.{ℕ, ◌≡◌, ◌==◌, ◌++◌, List, [], ◌∷◌, Option, cond, refl}
 use Rattle.ipc_kernel.specs.declared.call.Call.{Call}
 use Rattle.ipc_kernel.specs.Kernel.{KernelState}
 use Rattle.ipc_kernel.specs.Answer.{answer}
 use Rattle.lab_sched.specs.declared.entry.Entry.{Entry}
-use Rattle.lab_sched.specs.History.{replay, IsLegal, still, waits_after, part}
+use Rattle.lab_sched.specs.History.{replay, IsLegal, still, waits_after}
 
 pub replay-append : (k : KernelState) (xs ys : List Entry) → replay k (xs ++ ys) ≡ replay (replay k xs) ys
 replay-append k [] ys = refl
@@ -17,9 +17,3 @@ legal-append k (x ∷ xs) ys l m = (l.0, legal-append (answer k x.pid x.call).1 
 pub waits-append : (o : Option Call) (xs ys : List Entry) (p : ℕ) → waits_after o (xs ++ ys) p ≡ waits_after (waits_after o xs p) ys p
 waits-append o [] ys p = refl
 waits-append o (x ∷ xs) ys p = waits-append (cond (x.pid == p) (still x.call x.answer) o) xs ys p
-
-pub part-append : (xs ys : List Entry) (p : ℕ) → part (xs ++ ys) p ≡ part xs p ++ part ys p
-part-append [] ys p = refl
-part-append (x ∷ xs) ys p =
-    elim (x.pid == p) as (λ b. cond b (x ∷ part (xs ++ ys) p) (part (xs ++ ys) p) ≡ cond b (x ∷ part xs p) (part xs p) ++ part ys p)
-    [ true ↦ ap (λ zs. x ∷ zs) (part-append xs ys p) | false ↦ part-append xs ys p ]

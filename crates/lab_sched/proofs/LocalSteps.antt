@@ -16,8 +16,9 @@ use Rattle.ipc_kernel.specs.declared.call.Reply.TheVariants.{Plain}
 use Rattle.ipc_kernel.specs.declared.call.Answer.{Answer}
 use Rattle.ipc_kernel.specs.declared.call.Answer.TheVariants.{Done, Wait}
 use Rattle.ipc_kernel.specs.Answer.{answer}
+use Rattle.ipc_kernel.specs.Replies.{IsReplyTo}
 use Rattle.ipc_traps.specs.Asked.{Request, Local, Refuses, Calls, next_request}
-use Rattle.ipc_traps.specs.Reply.{HasRoom, process_after_reply}
+use Rattle.ipc_traps.specs.Reply.{HasRoom, IsPrepared, process_after_reply}
 use Rattle.ipc_traps.proofs.Laws.{room_prepared, asked_end, asked_local}
 use Rattle.lab_sched.specs.declared.process.Process.{Process as Kept}
 use Rattle.lab_sched.specs.declared.process.Process.TheVariants as kept
@@ -78,22 +79,25 @@ tried k j p m c a is answered =
     ∙ sym (ap {B = StepResult} (λ b. step_result k p (Running m) (first_try k p m b)) (asks m c is))
 
 -- a call that is answered at its first try
-pub tried_reply : (k j : KernelState) (p : ℕ) (m n : Machine) (c : Call) (r : Reply) → next_request m ≡ Calls c → (Done r, j) ≡ answer k p c → n ≡ process_after_reply m r
+pub tried_reply : (k j : KernelState) (p : ℕ) {m h n : Machine} {c : Call} {r : Reply} → (next_request m ≡ Calls c) × (h ≡ m) → (Done r, j) ≡ answer k p c → n ≡ process_after_reply h r
     → HasStepped k p (Running m) j (Running n) (stepped.Called r)
-tried_reply k j p m n c r is answered n-is =
-    ap {B = StepResult} (λ u. record { process = u; kernel = j; told = stepped.Called r }) (ap Running n-is ∙ sym (told_reply m c r is))
-    ∙ tried k j p m c (Done r) is answered
+tried_reply k j p {m} {h} {n} {c} {r} asked answered n-is =
+    ap {B = StepResult} (λ u. record { process = u; kernel = j; told = stepped.Called r }) (ap Running (n-is ∙ ap (λ x. process_after_reply x r) asked.1) ∙ sym (told_reply m c r asked.0))
+    ∙ tried k j p m c (Done r) asked.0 answered
 
 -- a call that must wait at its first try
-pub tried_wait : (k j : KernelState) (p : ℕ) (m : Machine) (c : Call) → next_request m ≡ Calls c → (Wait, j) ≡ answer k p c
-    → HasStepped k p (Running m) j (Waiting m c) stepped.Waits
-tried_wait k j p m c is answered =
+pub tried_wait : (k j : KernelState) (p : ℕ) {m : Machine} {c : Call} → next_request m ≡ Calls c → (Wait, j) ≡ answer k p c → HasStepped k p (Running m) j (Waiting m c) stepped.Waits
+tried_wait k j p {m} {c} is answered =
     ap {B = StepResult} (λ u. record { process = u; kernel = j; told = stepped.Waits }) (sym (told_waits m c is)) ∙ tried k j p m c Wait is answered
 
 -- a call that is refused without the kernel
-pub tried_refused : (k : KernelState) (p : ℕ) (m n : Machine) (e : Errno) → next_request m ≡ Refuses e → IsLocalStep (Running m) (Running n)
+pub tried_refused : (k : KernelState) (p : ℕ) (m n : Machine) {e : Errno} → (next_request m ≡ Refuses e) × IsLocalStep (Running m) (Running n)
     → HasStepped k p (Running m) k (Running n) (stepped.Refused e)
-tried_refused k p m n e asked local = local_first k p m (Refuses e) (Running n) (Running n, local, refl) asked
+tried_refused k p m n {e} asked = local_first k p m (Refuses e) (Running n) (Running n, asked.1, refl) asked.0
+
+-- there is room for each reply to what was asked
+pub asked_room : (h : Held) {m : Machine} {c : Call} (r : Reply) → (next_request m ≡ Calls c) × (h.process ≡ m) → IsPrepared h → IsReplyTo c r → HasRoom h r
+asked_room h {m} {c} r asked room form = room_prepared h c r room (ap next_request asked.1 ∙ asked.0) form
 
 -- there is room for the reply to a running process
 pub running_room : (x : Kept) (h : Held) (reply : Reply) → x ≡ kept.Running h → CanTakeReply x reply → HasRoom h reply

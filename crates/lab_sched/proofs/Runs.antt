@@ -1,5 +1,5 @@
 -- Runs of worlds: what lists of steps do one after another.
-use Rattle.std.proofs.Common.{ℕ, zero, suc, Bool, true, Option, None, Some, slice_get, ◌+◌, ◌≡◌, ◌++◌, List, [], ◌∷◌, refl, sym, ap, ◌∙◌, length, replicate, subst}
+use Rattle.std.proofs.Common.{ℕ, zero, suc, false, Option, None, Some, slice_get, ◌+◌, ◌≡◌, ◌++◌, List, [], ◌∷◌, refl, sym, ap, ◌∙◌, length, replicate}
 use Rattle.std.proofs.lemmas.List.{length-set, replicate-append-replicate}
 use Rattle.lab_sched.specs.Worlds.{Running, WorldState, StepEffect, nothing, local_step, kernel_step, step_effect_in, process_after_answer, after, step, run}
 use Rattle.ipc_kernel.specs.declared.call.Answer.TheVariants.{Done, Wait}
@@ -65,23 +65,15 @@ told_nothing request (kernel_step m c Wait) e = absurd cc
 pub nothing_told : (w : WorldState) (p : ℕ) → step_effect_in w p ≡ nothing → told_in w p ≡ stepped.Same
 nothing_told w p is = ap (λ t. stepped_of (asked_by (slice_get w.processes p)) t) is
 
-moved_unless_same : (told : Stepped) → (told ≡ stepped.Same → ⊥) → has_moved told ≡ true
-moved_unless_same stepped.Same ne = absurd (ne refl)
-moved_unless_same stepped.Moved ne = refl
-moved_unless_same (stepped.Refused e) ne = refl
-moved_unless_same (stepped.Called r) ne = refl
-moved_unless_same stepped.Waits ne = refl
+unmoved : (told : Stepped) → false ≡ has_moved told → told ≡ stepped.Same
+unmoved stepped.Same e = refl
+unmoved stepped.Moved e = cc
+unmoved (stepped.Refused f) e = cc
+unmoved (stepped.Called r) e = cc
+unmoved stepped.Waits e = cc
 
--- a step, and the steps that it stands for
-pub run_moved : (w : WorldState) (p k : ℕ) (moved : Bool) → moved ≡ has_moved (told_in w p) → (moved ≡ true → k ≡ 1) → step w p ≡ run w (replicate k p)
-run_moved w p k moved is one = by (step_effect_in w p) refl
-  where
-    other : (t : StepEffect) → step_effect_in w p ≡ t → (t ≡ nothing → ⊥) → step w p ≡ run w (replicate k p)
-    other t at ne =
-        let single : k ≡ 1 = one (is ∙ moved_unless_same (told_in w p) (λ e. ne (sym at ∙ told_nothing (asked_by (slice_get w.processes p)) (step_effect_in w p) e))) in
-        subst (λ m. step w p ≡ run w (replicate m p)) (sym single) (sym (run-one w p))
-
-    by : (t : StepEffect) → step_effect_in w p ≡ t → step w p ≡ run w (replicate k p)
-    by nothing at = ap (λ t. after w p t) at ∙ sym (run_rests k w p at)
-    by (local_step m) at = other (local_step m) at (λ e. cc)
-    by (kernel_step m c a) at = other (kernel_step m c a) at (λ e. cc)
+-- a step without effect stands for k of them
+pub run_unmoved : (w : WorldState) (p k : ℕ) → false ≡ has_moved (told_in w p) → step w p ≡ run w (replicate k p)
+run_unmoved w p k is =
+    let rests = told_nothing (asked_by (slice_get w.processes p)) (step_effect_in w p) (unmoved (told_in w p) is) in
+    ap (λ t. after w p t) rests ∙ sym (run_rests k w p rests)

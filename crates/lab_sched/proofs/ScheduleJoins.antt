@@ -1,19 +1,14 @@
 -- Joined blocks.
-use Rattle.std.proofs.Common.{◌≡◌, ◌≢◌, ℕ, suc, zero, subst, ◌+◌, ◌-◌, ◌<◌, ◌≤◌, Bool, true, false, cond, List, [], ◌∷◌, ◌++◌, length, take, get_or, set, replicate, refl, ap, sym, ◌∙◌, append_assoc, append-nil, arith}
+use Rattle.std.proofs.Common.{◌≡◌, ◌≢◌, ℕ, suc, zero, subst, ◌+◌, ◌-◌, ◌<◌, ◌≤◌, true, false, List, [], ◌∷◌, ◌++◌, length, take, get_or, set, replicate, refl, ap, sym, ◌∙◌, append_assoc, append-nil, arith, inl, inr}
 use Rattle.std.specs.Prelude.{◌==◌}
 use Rattle.std.specs.List.{AllByRecursion}
-use Rattle.std.proofs.lemmas.List.{replicate-append-replicate, take_all, take_more, set_at, nil_from_length, length-take-le, get_or_default, length-append, length-replicate}
+use Rattle.std.proofs.lemmas.List.{replicate-append-replicate, take_all, take_more, set_at, nil_from_length, length-take-le, get_or_default, length-replicate}
+use Rattle.std.proofs.lemmas.List.Concat.{flat_map-append, length-flat_map}
 use Rattle.std.proofs.lemmas.List.Sums.{sum_by-cons, sum_by_push}
-use Rattle.std.proofs.lemmas.Bool.Decides.{nat_tests}
+use Rattle.std.proofs.lemmas.Bool.Decides.{nat_tests, eqb_tells}
 use Rattle.lab_sched.specs.declared.schedule.block.Block.{Block}
 use Rattle.lab_sched.specs.ScheduleLaws.{StepsTell}
 use Rattle.lab_sched.specs.Schedules.{block, steps_of, total_of, before, joined_blocks, IsBlock, AreApart, IsSchedule, most_steps}
-
-same_pid : (m n : ℕ) → (m == n) ≡ true → m ≡ n
-same_pid m n h = grind (arith, nat_tests)
-
-other_pid : (m n : ℕ) → (m == n) ≡ false → m ≢ n
-other_pid m n h = grind (arith, nat_tests)
 
 pub is_same : (m n : ℕ) → m ≡ n → (m == n) ≡ true
 is_same m n h = grind (arith, nat_tests)
@@ -21,17 +16,18 @@ is_same m n h = grind (arith, nat_tests)
 pub is_other : (m n : ℕ) → m ≢ n → (m == n) ≡ false
 is_other m n h = grind (arith, nat_tests)
 
+-- what holds of a block before a schedule, by whether the two processes are the same
+before-cases : (P : List Block → Type 0) (b c : Block) (rest : List Block) → (b.pid ≡ c.pid → P (block b.pid (b.count + c.count) ∷ rest)) → (b.pid ≢ c.pid → P (b ∷ c ∷ rest))
+    → P (before b (c ∷ rest))
+before-cases P b c rest same other = elim (eqb_tells b.pid c.pid) [ inl t ↦ rw t.0 (same t.1) | inr t ↦ rw t.0 (other t.1) ]
+
 -- steps
 
 steps-before : (b : Block) (bs : List Block) → steps_of (before b bs) ≡ replicate b.count b.pid ++ steps_of bs
 unfolding steps_of
 steps-before b [] = refl
-steps-before b (c ∷ rest) = go (b.pid == c.pid) refl
-  where
-    go : (t : Bool) → (b.pid == c.pid) ≡ t → steps_of (cond t (block b.pid (b.count + c.count) ∷ rest) (b ∷ c ∷ rest)) ≡ replicate b.count b.pid ++ steps_of (c ∷ rest)
-    go true h =
-        rw (← same_pid b.pid c.pid h) (rw (← replicate-append-replicate b.count c.count b.pid) (append_assoc (replicate b.count b.pid) (replicate c.count b.pid) (steps_of rest)))
-    go false h = refl
+steps-before b (c ∷ rest) = before-cases (λ bs. steps_of bs ≡ replicate b.count b.pid ++ steps_of (c ∷ rest)) b c rest
+    (λ e. rw (← e, ← replicate-append-replicate b.count c.count b.pid) (append_assoc (replicate b.count b.pid) (replicate c.count b.pid) (steps_of rest))) (λ e. refl)
 
 pub steps-joined : (bs : List Block) → steps_of (joined_blocks bs) ≡ steps_of bs
 unfolding steps_of joined_blocks
@@ -42,11 +38,9 @@ steps-joined (b ∷ rest) = steps-before b (joined_blocks rest) ∙ ap (λ s. re
 
 total-before : (b : Block) (bs : List Block) → total_of (before b bs) ≡ b.count + total_of bs
 total-before b [] = omega arith
-total-before b (c ∷ rest) = go (b.pid == c.pid)
-  where
-    go : (t : Bool) → total_of (cond t (block b.pid (b.count + c.count) ∷ rest) (b ∷ c ∷ rest)) ≡ b.count + total_of (c ∷ rest)
-    go true = omega (arith, sum_by-cons (λ (d : Block). d.count) (block b.pid (b.count + c.count)) rest, sum_by-cons (λ (d : Block). d.count) c rest)
-    go false = sum_by-cons (λ (d : Block). d.count) b (c ∷ rest)
+total-before b (c ∷ rest) = before-cases (λ bs. total_of bs ≡ b.count + total_of (c ∷ rest)) b c rest
+    (λ e. omega (arith, sum_by-cons (λ (d : Block). d.count) (block b.pid (b.count + c.count)) rest, sum_by-cons (λ (d : Block). d.count) c rest))
+    (λ e. sum_by-cons (λ (d : Block). d.count) b (c ∷ rest))
 
 pub total-joined : (bs : List Block) → total_of (joined_blocks bs) ≡ total_of bs
 unfolding joined_blocks
@@ -56,10 +50,7 @@ total-joined (b ∷ rest) =
 
 pub length-steps : (bs : List Block) → length (steps_of bs) ≡ total_of bs
 unfolding steps_of
-length-steps [] = refl
-length-steps (b ∷ rest) =
-    length-append (replicate b.count b.pid) (steps_of rest)
-    ∙ omega (arith, length-replicate b.count b.pid, length-steps rest, sum_by-cons (λ (d : Block). d.count) b rest)
+length-steps bs = length-flat_map (λ (b : Block). replicate b.count b.pid) bs ∙ simp length-replicate
 
 -- the normal form
 
@@ -73,11 +64,7 @@ apart-like b c (d ∷ rest) e h = (λ f. h.0 (sym e ∙ f), h.1)
 
 apart-before : (b : Block) (bs : List Block) → AreApart bs → AreApart (before b bs)
 apart-before b [] h = tt
-apart-before b (c ∷ rest) h = go (b.pid == c.pid) refl
-  where
-    go : (t : Bool) → (b.pid == c.pid) ≡ t → AreApart (cond t (block b.pid (b.count + c.count) ∷ rest) (b ∷ c ∷ rest))
-    go true e = apart-like (block b.pid (b.count + c.count)) c rest (same_pid b.pid c.pid e) h
-    go false e = (other_pid b.pid c.pid e, h)
+apart-before b (c ∷ rest) h = before-cases AreApart b c rest (λ e. apart-like (block b.pid (b.count + c.count)) c rest e h) (λ e. (e, h))
 
 pub apart-joined : (bs : List Block) → AreApart (joined_blocks bs)
 unfolding joined_blocks
@@ -111,29 +98,17 @@ apart-push (x ∷ y ∷ rest) c b h e = (h.0, apart-push (y ∷ rest) c b h.1 e)
 
 -- joining what is joined already changes nothing
 
-same_block : (p m n : ℕ) (rest : List Block) → m ≡ n → block p m ∷ rest ≡ block p n ∷ rest
-same_block p m n rest e = ap (λ k. block p k ∷ rest) e
-
 pub before-before : (b c : Block) (bs : List Block) → b.pid ≡ c.pid → before b (before c bs) ≡ before (block b.pid (b.count + c.count)) bs
 before-before b c [] e = rw (is_same b.pid c.pid e) refl
-before-before b c (d ∷ rest) e = go (c.pid == d.pid) refl
-  where
-    go : (t : Bool) → (c.pid == d.pid) ≡ t
-        → before b (cond t (block c.pid (c.count + d.count) ∷ rest) (c ∷ d ∷ rest)) ≡ before (block b.pid (b.count + c.count)) (d ∷ rest)
-    go true h =
-        rw (is_same b.pid c.pid e, is_same b.pid d.pid (e ∙ same_pid c.pid d.pid h))
-        (same_block b.pid (b.count + (c.count + d.count)) (b.count + c.count + d.count) rest (omega arith))
-    go false h = rw (is_same b.pid c.pid e, is_other b.pid d.pid (λ f. other_pid c.pid d.pid h (sym e ∙ f))) refl
+before-before b c (d ∷ rest) e = before-cases (λ bs. before b bs ≡ before (block b.pid (b.count + c.count)) (d ∷ rest)) c d rest
+    (λ f. rw (is_same b.pid c.pid e, is_same b.pid d.pid (e ∙ f)) (ap (λ k. block b.pid k ∷ rest) (omega arith)))
+    (λ f. rw (is_same b.pid c.pid e, is_other b.pid d.pid (λ g. f (sym e ∙ g))) refl)
 
 joined-before : (b : Block) (zs ys : List Block) → joined_blocks (before b zs ++ ys) ≡ before b (joined_blocks (zs ++ ys))
 unfolding joined_blocks
 joined-before b [] ys = refl
-joined-before b (c ∷ zs) ys = go (b.pid == c.pid) refl
-  where
-    go : (t : Bool) → (b.pid == c.pid) ≡ t
-        → joined_blocks (cond t (block b.pid (b.count + c.count) ∷ zs) (b ∷ c ∷ zs) ++ ys) ≡ before b (before c (joined_blocks (zs ++ ys)))
-    go true h = sym (before-before b c (joined_blocks (zs ++ ys)) (same_pid b.pid c.pid h))
-    go false h = refl
+joined-before b (c ∷ zs) ys = before-cases (λ bs. joined_blocks (bs ++ ys) ≡ before b (before c (joined_blocks (zs ++ ys)))) b c zs
+    (λ e. sym (before-before b c (joined_blocks (zs ++ ys)) e)) (λ e. refl)
 
 pub joined-joined : (xs ys : List Block) → joined_blocks (joined_blocks xs ++ ys) ≡ joined_blocks (xs ++ ys)
 unfolding joined_blocks
@@ -144,18 +119,15 @@ joined-joined (b ∷ rest) ys = joined-before b (joined_blocks rest) ys ∙ ap (
 
 valid-before : (b : Block) (bs : List Block) → IsBlock b → AllByRecursion IsBlock bs → AllByRecursion IsBlock (before b bs)
 valid-before b [] h hs = (h, tt)
-valid-before b (c ∷ rest) h hs = go (b.pid == c.pid)
-  where
-    go : (t : Bool) → AllByRecursion IsBlock (cond t (block b.pid (b.count + c.count) ∷ rest) (b ∷ c ∷ rest))
-    go true = (record { process = h.process; some = omega arith }, hs.1)
-    go false = (h, hs)
+valid-before b (c ∷ rest) h hs =
+    before-cases (AllByRecursion IsBlock) b c rest (λ e. (record { process = h.process; some = omega (arith, h.some) }, hs.1)) (λ e. (h, hs))
 
 pub valid-joined : (bs : List Block) → AllByRecursion IsBlock bs → AllByRecursion IsBlock (joined_blocks bs)
 unfolding joined_blocks
 valid-joined [] h = tt
 valid-joined (b ∷ rest) h = valid-before b (joined_blocks rest) h.0 (valid-joined rest h.1)
 
-valid-push : (bs : List Block) (b : Block) → AllByRecursion IsBlock bs → IsBlock b → AllByRecursion IsBlock (bs ++ b ∷ [])
+pub valid-push : (bs : List Block) (b : Block) → AllByRecursion IsBlock bs → IsBlock b → AllByRecursion IsBlock (bs ++ b ∷ [])
 valid-push [] b h k = (k, tt)
 valid-push (c ∷ bs) b h k = (h.0, valid-push bs b h.1 k)
 
@@ -164,9 +136,7 @@ total-push bs b = total-joined (bs ++ b ∷ []) ∙ sum_by_push (λ (d : Block).
 
 pub steps-append : (xs ys : List Block) → steps_of (xs ++ ys) ≡ steps_of xs ++ steps_of ys
 unfolding steps_of
-steps-append [] ys = refl
-steps-append (b ∷ xs) ys =
-    ap (λ s. replicate b.count b.pid ++ s) (steps-append xs ys) ∙ sym (append_assoc (replicate b.count b.pid) (steps_of xs) (steps_of ys))
+steps-append xs ys = flat_map-append (λ (b : Block). replicate b.count b.pid) xs ys
 
 pub steps-one : (b : Block) → steps_of (b ∷ []) ≡ replicate b.count b.pid
 unfolding steps_of
@@ -183,13 +153,9 @@ schedule-push bs b h k room = record {
 }
 
 -- the last block of a Vec
-pub last-split : (xs : List Block) (n : ℕ) (d : Block) → length xs ≡ n → 0 < n → d ≡ get_or xs (n - 1) d → xs ≡ take (n - 1) xs ++ d ∷ []
+last-split : (xs : List Block) (n : ℕ) (d : Block) → length xs ≡ n → 0 < n → d ≡ get_or xs (n - 1) d → xs ≡ take (n - 1) xs ++ d ∷ []
 last-split xs n d l h e =
-    let within : n - 1 < length xs = omega arith in
-    sym (take_all (n - 1 + 1) xs (omega arith)) ∙ take_more xs (n - 1) d within ∙ ap (λ x. take (n - 1) xs ++ x ∷ []) (sym e)
-
-pub length-front : (xs : List Block) (n : ℕ) → length xs ≡ n → 0 < n → length (take (n - 1) xs) ≡ n - 1
-length-front xs n l h = length-take-le (n - 1) xs (omega arith)
+    sym (take_all (n - 1 + 1) xs (omega arith)) ∙ take_more xs (n - 1) d (omega arith) ∙ ap (λ x. take (n - 1) xs ++ x ∷ []) (sym e)
 
 -- two reads of one element
 pub same_read : (xs : List Block) (i : ℕ) (d e : Block) → i < length xs → d ≡ get_or xs i d → e ≡ get_or xs i e → d ≡ e
@@ -197,22 +163,20 @@ same_read xs i d e h p q = p ∙ get_or_default xs i d e h ∙ sym q
 
 pub joined-set : (xs : List Block) (n : ℕ) (d b : Block) → length xs ≡ n → 0 < n → AreApart xs → d ≡ get_or xs (n - 1) d → d.pid ≡ b.pid
     → set xs (n - 1) (block d.pid (d.count + b.count)) ≡ joined_blocks (xs ++ b ∷ [])
-joined-set xs n d b l h apart e same = go (take (n - 1) xs) (last-split xs n d l h e) (length-front xs n l h)
-  where
-    go : (f : List Block) → xs ≡ f ++ d ∷ [] → length f ≡ n - 1 → set xs (n - 1) (block d.pid (d.count + b.count)) ≡ joined_blocks (xs ++ b ∷ [])
-    go f s k =
-        ap (λ ys. set ys (n - 1) (block d.pid (d.count + b.count))) s
-        ∙ set_at f d [] (block d.pid (d.count + b.count)) (n - 1) k
-        ∙ ap (λ p. f ++ block p (d.count + b.count) ∷ []) same
-        ∙ sym (joined-push_same f d b (subst AreApart s apart) same)
-        ∙ ap (λ ys. joined_blocks (ys ++ b ∷ [])) (sym s)
+joined-set xs n d b l h apart e same =
+    let f : List Block = take (n - 1) xs in
+    let s : xs ≡ f ++ d ∷ [] = last-split xs n d l h e in
+    ap (λ ys. set ys (n - 1) (block d.pid (d.count + b.count))) s
+    ∙ set_at f d [] (block d.pid (d.count + b.count)) (n - 1) (length-take-le (n - 1) xs (omega arith))
+    ∙ ap (λ p. f ++ block p (d.count + b.count) ∷ []) same
+    ∙ sym (joined-push_same f d b (subst AreApart s apart) same)
+    ∙ ap (λ ys. joined_blocks (ys ++ b ∷ [])) (sym s)
 
 pub joined-apart_push : (xs : List Block) (n : ℕ) (d b : Block) → length xs ≡ n → 0 < n → AreApart xs → d ≡ get_or xs (n - 1) d → d.pid ≢ b.pid
     → xs ++ b ∷ [] ≡ joined_blocks (xs ++ b ∷ [])
-joined-apart_push xs n d b l h apart e other = go (take (n - 1) xs) (last-split xs n d l h e)
-  where
-    go : (f : List Block) → xs ≡ f ++ d ∷ [] → xs ++ b ∷ [] ≡ joined_blocks (xs ++ b ∷ [])
-    go f s = sym (joined-apart (xs ++ b ∷ []) (subst (λ ys. AreApart (ys ++ b ∷ [])) (sym s) (apart-push f d b (subst AreApart s apart) other)))
+joined-apart_push xs n d b l h apart e other =
+    let s = last-split xs n d l h e in
+    sym (joined-apart (xs ++ b ∷ []) (subst (λ ys. AreApart (ys ++ b ∷ [])) (sym s) (apart-push (take (n - 1) xs) d b (subst AreApart s apart) other)))
 
 pub joined-first : (xs : List Block) (b : Block) → length xs ≡ 0 → xs ++ b ∷ [] ≡ joined_blocks (xs ++ b ∷ [])
 joined-first xs b l = rw (nil_from_length xs l) (sym (joined-apart (b ∷ []) tt))

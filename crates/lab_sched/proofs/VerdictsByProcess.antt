@@ -1,6 +1,6 @@
 -- How a world stands, by how each of its processes stands.
-use Rattle.std.proofs.Common.{ℕ, zero, suc, ◌≡◌, ◌<◌, List, [], ◌∷◌, Option, Some, None, length, slice_get, refl, sym, ap, subst, ◌∙◌, arith, true, false}
-use Rattle.std.proofs.lemmas.Option.{slice_get_within}
+use Rattle.std.proofs.Common.{ℕ, ◌≡◌, ◌<◌, List, Option, Some, None, length, slice_get, refl, sym, ap, subst, ◌∙◌, arith, true, false, inl, inr}
+use Rattle.std.proofs.lemmas.Option.{slice_get_within, slice_get_cases}
 use Rattle.lab_sched.specs.Worlds.{Process, Running, Waiting, Ended, WorldState, NextAction, moves, calls, next_action, nothing, step_effect, step_effect_in, first_try, retry, IsEffective}
 use Rattle.lc3_machine.specs.Process.{Process as Machine}
 use Rattle.ipc_kernel.specs.Kernel.{KernelState}
@@ -19,21 +19,6 @@ open_ended w p (Some (Ended e)) at h all = h
 -- where a step is effective, the world is open
 pub is_open : (w : WorldState) (p : ℕ) → IsEffective (step_effect_in w p) → (HaveEnded w → ⊥) × (AreStuck w → ⊥)
 is_open w p h = (open_ended w p (slice_get w.processes p) refl h, λ stuck. stuck.none_moves p h)
-
-still_at : (w : WorldState) (p : ℕ) (o : Option Process) → slice_get w.processes p ≡ o → (p < length w.processes → step_effect_in w p ≡ nothing) → IsEffective (step_effect w.kernel p o) → ⊥
-still_at w p None at rest h = h
-still_at w p (Some s) at rest h =
-    subst IsEffective (ap (λ o. step_effect w.kernel p o) (sym at) ∙ rest (slice_get_within w.processes p s at)) h
-
--- each process rests, and one of them waits
-pub are_stuck : (w : WorldState) → ((p : ℕ) → p < length w.processes → step_effect_in w p ≡ nothing)
-    → ((p : ℕ) (s : Process) → p < length w.processes → slice_get w.processes p ≡ Some s → IsRunning s → ⊥)
-    → ((p : ℕ) × (s : Process) × (slice_get w.processes p ≡ Some s) × IsWaiting s) → AreStuck w
-are_stuck w rests none waits = record {
-  waits = waits;
-  none_runs = λ p s at is. none p s (slice_get_within w.processes p s at) at is;
-  none_moves = λ p h. still_at w p (slice_get w.processes p) refl (rests p) h;
-}
 
 -- a running process can always go on
 first_moves : (k : KernelState) (p : ℕ) (m : Machine) (a : NextAction) → IsEffective (first_try k p m a)
@@ -63,15 +48,18 @@ waits_at k p (Waiting m c) e lives = tt
 waits_at k p (Ended e') e lives = absurd (lives tt)
 
 some_at : {A : Type 0} (xs : List A) (p : ℕ) → p < length xs → (x : A) × (slice_get xs p ≡ Some x)
-some_at [] p h = absurd (omega arith)
-some_at (x ∷ xs) zero h = (x, refl)
-some_at (x ∷ xs) (suc p) h = some_at xs p (omega arith)
+some_at xs p h = elim (slice_get_cases xs p).1 [ inl t ↦ (t.0, t.2) | inr t ↦ absurd (omega (arith, t.0)) ]
 
 -- no step is effective, and some process hasn't ended
 pub stuck_from : (w : WorldState) → ((p : ℕ) → p < length w.processes → step_effect_in w p ≡ nothing)
     → (p : ℕ) → p < length w.processes → HasNotEndedIn w p → AreStuck w
 stuck_from w rests p below lives =
     let found = some_at w.processes p below in
-    are_stuck w rests
-    (λ q t inside at is. moves_on w.kernel q t is (ap (λ o. step_effect w.kernel q o) (sym at) ∙ rests q inside))
-    (p, found.0, found.1, waits_at w.kernel p found.0 (ap (λ o. step_effect w.kernel p o) (sym found.1) ∙ rests p below) (lives found.0 found.1))
+    record {
+      waits = (p, found.0, found.1, waits_at w.kernel p found.0 (ap (λ o. step_effect w.kernel p o) (sym found.1) ∙ rests p below) (lives found.0 found.1));
+      none_runs = λ q t at is. moves_on w.kernel q t is (ap (λ o. step_effect w.kernel q o) (sym at) ∙ rests q (slice_get_within w.processes q t at));
+      none_moves = λ q h. elim (slice_get_cases w.processes q).1 [
+        | inl t ↦ subst IsEffective (rests q t.1) h
+        | inr t ↦ subst IsEffective (ap (λ o. step_effect w.kernel q o) t.1) h
+      ];
+    }

@@ -1,16 +1,14 @@
-//! Calls of running processes: how they are read, and how they are tried for the first time.
+//! Calls of running processes: how they are read, and how a process goes on with the answer.
 ghost use Rattle.std.specs.Prelude.{◌≡◌, ◌<◌, IfOk, OnErr, length};
 ghost use Rattle.lc3_machine.specs.declared.want.Want.TheVariants.{Trap};
 ghost use Rattle.lc3_machine.specs.Process.{Stops};
 ghost use Rattle.lc3_machine.specs.Effects.{next_step};
 ghost use Rattle.lc3_machine.specs.Steps.{AsksTrap};
 ghost use Rattle.ipc_kernel.specs.declared.call.Reply.TheVariants.{Plain};
-ghost use Rattle.ipc_traps.specs.Asked.{Calls, next_request};
-ghost use Rattle.ipc_traps.specs.Reply.{HasRoom, IsPrepared, process_after_reply};
-ghost use Rattle.lab_sched.specs.Private.Calling.{HasAsked, HasGoneOn, HasRoomFor, HasTried};
+ghost use Rattle.ipc_traps.specs.Reply.{HasRoom, process_after_reply};
+ghost use Rattle.lab_sched.specs.Private.Calling.{HasAsked, HasGoneOn, HasRoomFor};
 
 use ipc_kernel::{Answer, Call, Kernel, Reply};
-use ipc_names::Errno;
 use ipc_traps::{
     Asked, MQ_RECEIVE, MQ_SEND, SEM_POST, SEM_WAIT, effect_by_vector, prepare_by_vector,
     read_by_vector,
@@ -18,21 +16,10 @@ use ipc_traps::{
 use lc3_machine::{Effect, Running};
 use std::alloc::{AllocError, Global};
 
-/// What came of the first try of a call.
-#[derive(Drop)]
-pub(crate) enum FirstTry {
-    /// The call was refused without the kernel.
-    Refused(Errno),
-    /// It had this reply.
-    Answered(Reply),
-    /// The process must wait for the answer to this call.
-    Waits(Call),
-}
-
 /// Lets a plain word be the reply to the call of a running process, which goes on behind its trap.
 #[tactic(auto, unfolding(ipc_traps::specs::Reply::process_after_reply))]
 #[inline(always)]
-fn give_word(running: &mut Running, word: u16)
+pub(crate) fn give_word(running: &mut Running, word: u16)
     requires trap { AsksTrap running.old.process }
     ensures replied { running.new.process
         ≡ process_after_reply running.old.process (Plain word) }
@@ -91,100 +78,6 @@ pub(crate) fn ask_with_room(
     }
 }
 
-/// Tries the call of a running process, which goes on with the reply. Where the call must wait
-/// nothing has changed.
-#[inline(always)]
-fn try_call(
-    running: &mut Running,
-    vector: u8,
-    call: Call,
-    kernel: &mut Kernel,
-    pid: usize,
-) -> Result<FirstTry, AllocError>
-    requires process { pid < length kernel.old.processes }
-    requires trap { next_step running.old.process ≡ Stops (Trap vector) }
-    requires asks { next_request running.old.process ≡ Calls call }
-    requires room { IsPrepared running.old }
-    ensures tried { IfOk result
-        (HasTried kernel.old pid running.old.process kernel.new running.new) }
-    ensures err { OnErr result (running.new ≡ running.old) }
-    ensures kernel { OnErr result (kernel.new ≡ kernel.old) }
-    ensures count { length kernel.new.processes ≡ length kernel.old.processes }
-{
-    match kernel.call(pid, &call) {
-        // A plain word is the reply of most calls.
-        Ok(Answer::Done(Reply::Plain(word))) => {
-            give_word(running, word);
-            Ok(FirstTry::Answered(Reply::Plain(word)))
-        }
-        Ok(Answer::Done(reply)) => {
-            give_reply(running, vector, &reply);
-            Ok(FirstTry::Answered(reply))
-        }
-        Ok(Answer::Wait) => Ok(FirstTry::Waits(call)),
-        Err(e) => Err(e),
-    }
-}
-
-/// Reads the call of a running process, and tries it for the first time. Where it must wait nothing
-/// has changed.
-#[inline(always)]
-pub(crate) fn first_try(
-    alloc: Global,
-    running: &mut Running,
-    vector: u8,
-    kernel: &mut Kernel,
-    pid: usize,
-) -> Result<FirstTry, AllocError>
-    requires process { pid < length kernel.old.processes }
-    requires trap { next_step running.old.process ≡ Stops (Trap vector) }
-    ensures tried { IfOk result
-        (HasTried kernel.old pid running.old.process kernel.new running.new) }
-    ensures err { OnErr result (running.new.process ≡ running.old.process) }
-    ensures kernel { OnErr result (kernel.new ≡ kernel.old) }
-    ensures count { length kernel.new.processes ≡ length kernel.old.processes }
-{
-    match ask_with_room(alloc, running, vector)? {
-        Asked::Kernel(call) => try_call(running, vector, call, kernel, pid),
-        Asked::Refused(e) => Ok(FirstTry::Refused(e)),
-    }
-}
-
-/// Lets a running process go on with the answer to its call, whose reply is told to nobody; with
-/// the call, where that must wait. Nothing has changed then.
-#[inline(always)]
-fn go_on_with_call(
-    running: &mut Running,
-    vector: u8,
-    call: Call,
-    kernel: &mut Kernel,
-    pid: usize,
-) -> Result<Option<Call>, AllocError>
-    requires process { pid < length kernel.old.processes }
-    requires trap { next_step running.old.process ≡ Stops (Trap vector) }
-    requires asks { next_request running.old.process ≡ Calls call }
-    requires room { IsPrepared running.old }
-    ensures ok { IfOk result
-        (HasGoneOn kernel.old pid running.old.process kernel.new running.new) }
-    ensures err { OnErr result (running.new ≡ running.old) }
-    ensures kernel { OnErr result (kernel.new ≡ kernel.old) }
-    ensures count { length kernel.new.processes ≡ length kernel.old.processes }
-{
-    match kernel.call(pid, &call) {
-        // A plain word is the reply of most calls.
-        Ok(Answer::Done(Reply::Plain(word))) => {
-            give_word(running, word);
-            Ok(None)
-        }
-        Ok(Answer::Done(reply)) => {
-            give_reply(running, vector, &reply);
-            Ok(None)
-        }
-        Ok(Answer::Wait) => Ok(Some(call)),
-        Err(e) => Err(e),
-    }
-}
-
 /// Reads the call of a running process, which goes on with the answer or the refusal. Nobody is
 /// told the reply; with the call, where that must wait. Nothing has changed then.
 #[inline(always)]
@@ -204,7 +97,19 @@ fn go_on_at(
     ensures count { length kernel.new.processes ≡ length kernel.old.processes }
 {
     match ask_with_room(alloc, running, vector)? {
-        Asked::Kernel(call) => go_on_with_call(running, vector, call, kernel, pid),
+        Asked::Kernel(call) => match kernel.call(pid, &call) {
+            // A plain word is the reply of most calls.
+            Ok(Answer::Done(Reply::Plain(word))) => {
+                give_word(running, word);
+                Ok(None)
+            }
+            Ok(Answer::Done(reply)) => {
+                give_reply(running, vector, &reply);
+                Ok(None)
+            }
+            Ok(Answer::Wait) => Ok(Some(call)),
+            Err(e) => Err(e),
+        },
         Asked::Refused(_) => Ok(None),
     }
 }

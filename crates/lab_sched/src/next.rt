@@ -1,19 +1,15 @@
 //! What a process does next.
-ghost use Rattle.std.specs.Prelude.{◌≡◌, ◌≤◌, ℕ};
-ghost use Rattle.lc3_machine.specs.declared.want.Want.TheVariants.{Trap};
-ghost use Rattle.lc3_machine.specs.Process.{Stops};
-ghost use Rattle.lc3_machine.specs.Effects.{next_step};
+ghost use Rattle.std.specs.Prelude.{◌≤◌, ℕ};
 ghost use Rattle.lab_sched.specs.Held.{process_view, IsHeld};
 ghost use Rattle.lab_sched.specs.Settling.{IsNext};
 ghost use Rattle.lab_sched.specs.Stepping.{StopsBy};
-ghost use Rattle.lab_sched.specs.Worlds.{Running as RunningSeen};
 
 use crate::Process;
 use crate::calling::ask;
 use crate::stepping::local_steps;
 use ipc_kernel::Call;
 use ipc_traps::Asked;
-use lc3_machine::{Progress, Running, Want};
+use lc3_machine::{Progress, Want};
 use std::alloc::Global;
 
 /// What a process does next.
@@ -30,18 +26,6 @@ pub enum Next {
 }
 
 #[tactic(auto, using(crate::proofs::LocalSteps::asks))]
-fn next_trap(alloc: Global, running: &mut Running, vector: u8) -> Next
-    requires trap { next_step running.old.process ≡ Stops (Trap vector) }
-    ensures next { (most : ℕ) → 1 ≤ most
-        → IsNext (RunningSeen running.old.process) most result (RunningSeen running.new.process) }
-{
-    match ask(alloc, running, vector) {
-        Ok(Asked::Kernel(call)) => Next::Asks(call),
-        Ok(Asked::Refused(_)) => Next::Moved(1),
-        Err(_) => Next::Short,
-    }
-}
-
 fn next_call(alloc: Global, process: &mut Process, progress: Progress) -> Next
     requires held { IsHeld process.old }
     requires stops { StopsBy (process_view process.old) progress }
@@ -51,7 +35,11 @@ fn next_call(alloc: Global, process: &mut Process, progress: Progress) -> Next
 {
     match process {
         Process::Running(running) => match progress {
-            Progress::Stopped(Want::Trap(vector)) => next_trap(alloc, running, vector),
+            Progress::Stopped(Want::Trap(vector)) => match ask(alloc, running, vector) {
+                Ok(Asked::Kernel(call)) => Next::Asks(call),
+                Ok(Asked::Refused(_)) => Next::Moved(1),
+                Err(_) => Next::Short,
+            },
             Progress::Stopped(Want::End(_)) => Next::Asks(Call::Exit),
             Progress::Short | Progress::Moved => Next::Short,
         },

@@ -10,7 +10,7 @@ ghost use Rattle.lab_sched.specs.Stepping.{CanTakeReply, IsAsked, MayWait, MayWa
 
 mod untold;
 
-use crate::calling::{FirstTry, ask_with_room, first_try, give_reply};
+use crate::calling::{ask_with_room, give_reply, give_word};
 use crate::{Process, Stepped};
 use core::mem::replace_with;
 use ipc_kernel::{Answer, Call, Kernel, Reply};
@@ -182,13 +182,24 @@ fn step_trap(
     ensures count { length kernel.new.processes ≡ length kernel.old.processes }
 {
     match process {
-        Process::Running(running) => match first_try(alloc, running, vector, kernel, pid)? {
-            FirstTry::Refused(e) => Ok(Stepped::Refused(e)),
-            FirstTry::Answered(reply) => Ok(Stepped::Called(reply)),
-            FirstTry::Waits(call) => {
-                begin_wait(process, vector, call);
-                Ok(Stepped::Waits)
-            }
+        Process::Running(running) => match ask_with_room(alloc, running, vector)? {
+            Asked::Kernel(call) => match kernel.call(pid, &call) {
+                // A plain word is the reply of most calls.
+                Ok(Answer::Done(Reply::Plain(word))) => {
+                    give_word(running, word);
+                    Ok(Stepped::Called(Reply::Plain(word)))
+                }
+                Ok(Answer::Done(reply)) => {
+                    give_reply(running, vector, &reply);
+                    Ok(Stepped::Called(reply))
+                }
+                Ok(Answer::Wait) => {
+                    begin_wait(process, vector, call);
+                    Ok(Stepped::Waits)
+                }
+                Err(e) => Err(e),
+            },
+            Asked::Refused(e) => Ok(Stepped::Refused(e)),
         },
         Process::Waiting(_, _) | Process::Ended(_) => unreachable!(),
     }

@@ -1,4 +1,4 @@
--- What a running process asks by a trap, and what comes of the first try of its call.
+-- What a running process asks by a trap, and what comes of its call.
 use Rattle.std.specs.Prelude.{ℕ, ◌≡◌, Option, Some, None, true}
 use Rattle.lc3_machine.specs.Process.{Process as Machine, Held}
 use Rattle.ipc_kernel.specs.Kernel.{KernelState}
@@ -8,12 +8,9 @@ use Rattle.ipc_traps.specs.declared.Asked.{Asked}
 use Rattle.ipc_traps.specs.declared.Asked.TheVariants as asked_for
 use Rattle.ipc_traps.specs.Reply.{IsPrepared}
 use Rattle.lab_sched.specs.declared.process.Process.TheVariants as kept
-use Rattle.lab_sched.specs.declared.stepped.Stepped.TheVariants as stepped
-use Rattle.lab_sched.specs.declared.calling.FirstTry.{FirstTry}
-use Rattle.lab_sched.specs.declared.calling.FirstTry.TheVariants.{Refused, Answered, Waits}
 use Rattle.lab_sched.specs.Worlds.{Running, Waiting}
 use Rattle.lab_sched.specs.LocalRun.{IsLocalStep}
-use Rattle.lab_sched.specs.Held.{HasStepped, IsHeld}
+use Rattle.lab_sched.specs.Held.{IsHeld}
 use Rattle.lab_sched.specs.Private.Moved.{HasMoved}
 
 -- a running process m has asked, and is n: a call of the kernel, which changes nothing, or one that was refused, a local step
@@ -26,13 +23,7 @@ abbrev pub HasRoomFor : Asked → Held → Type 0
 HasRoomFor (asked_for.Kernel c) h = IsPrepared h
 HasRoomFor (asked_for.Refused e) h = Unit {0}
 
--- process p, which ran as m over kernel k, has tried its call for the first time: it runs as h over kernel j
-abbrev pub HasTried : KernelState → ℕ → Machine → KernelState → Held → FirstTry → Type 0
-HasTried k p m j h (Refused e) = HasStepped k p (Running m) j (Running h.process) (stepped.Refused e)
-HasTried k p m j h (Answered r) = HasStepped k p (Running m) j (Running h.process) (stepped.Called r)
-HasTried k p m j h (Waits c) = HasStepped k p (Running m) j (Waiting m c) stepped.Waits × (h.process ≡ m) × IsHeld (kept.Waiting h c)
-
--- the same, where is told only the call that must wait, if it must
+-- process p, which ran as m over kernel k, has gone on: it runs as h over kernel j, and the call is told that must wait, if one must
 abbrev pub HasGoneOn : KernelState → ℕ → Machine → KernelState → Held → Option Call → Type 0
 HasGoneOn k p m j h None = HasMoved k p (Running m) j (Running h.process) true
 HasGoneOn k p m j h (Some c) = HasMoved k p (Running m) j (Waiting m c) true × (h.process ≡ m) × IsHeld (kept.Waiting h c)

@@ -1,25 +1,25 @@
 //! The last step of a schedule.
-ghost use Rattle.std.specs.Prelude.{◌≡◌, ◌+◌, ◌<◌, ◌≤◌, ◌++◌, ◌∷◌, ◌^◌, [], ℕ, List, length, replicate};
-ghost use Rattle.std.specs.List.{AllByRecursion};
-ghost use Rattle.lab_sched.specs.Schedules.{IsBlock, steps_of, total_of, most_steps};
-ghost use Rattle.lab_sched.specs.Private.Blocks.{with_count};
-ghost use Rattle.lab_sched.specs.declared.schedule.block.Block.{Block as BlockSeen};
+ghost use Rattle.std.specs.Prelude.{◌≡◌, ◌+◌, ◌≤◌, ◌++◌, ◌∷◌, [], ℕ, List, replicate};
+ghost use Rattle.lab_sched.specs.Schedules.{IsSchedule, steps_of, total_of, most_steps};
+ghost use Rattle.lab_sched.specs.Private.Blocks.{IsResized};
 
 use super::{Block, Schedule};
 
 fn resize_last(blocks: &mut Vec<Block>, n: u32)
-    requires valid { AllByRecursion IsBlock blocks.old.items }
-    requires some { 0 < length blocks.old.items }
-    requires room { total_of blocks.old.items + n < 2 ^ 32 }
-    ensures blocks { (front : List BlockSeen) (last : BlockSeen)
-        → blocks.old.items ≡ front ++ last ∷ [] → blocks.new.items ≡ front ++ with_count last n }
+    requires schedule { IsSchedule blocks.old.items }
+    requires some { 1 ≤ total_of blocks.old.items }
+    requires room { total_of blocks.old.items + n ≤ most_steps + 1 }
+    ensures resized { IsResized blocks.old.items blocks.new.items n }
 {
-    let last = blocks.len() - 1;
-    let count = blocks[last].count - 1 + n;
-    if count == 0 {
-        blocks.pop();
-    } else {
-        blocks[last].count = count;
+    let Some(last) = blocks.pop() else {
+        unreachable!();
+    };
+    let count = last.count - 1 + n;
+    if count > 0 {
+        blocks.push_reserved(Block {
+            pid: last.pid,
+            count,
+        });
     }
 }
 

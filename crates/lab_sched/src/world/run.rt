@@ -49,17 +49,6 @@ impl fmt::Display for RunStop {
     }
 }
 
-/// How many steps were done by one: a step without effect stands for all of `most`.
-fn steps_done(moved: bool, most: u32) -> u32
-    requires some { 1 ≤ most }
-    ensures same { moved ≡ false → result ≡ most }
-    ensures other { moved ≡ true → result ≡ 1 }
-    ensures some { 1 ≤ result }
-    ensures within { result ≤ most }
-{
-    if moved { 1 } else { most }
-}
-
 impl World {
     /// Takes local steps of a process up to its next call, and then the step of that call, or steps
     /// without effect, at most `most` in all; with how many were taken.
@@ -80,7 +69,9 @@ impl World {
             return Ok(taken);
         }
         match self.move_on(pid, progress) {
-            Ok(moved) => Ok(taken + steps_done(moved, most - taken)),
+            Ok(true) => Ok(taken + 1),
+            // a step without effect stands for all that are left
+            Ok(false) => Ok(most),
             Err(fault) => { if taken > 0 { Ok(taken) } else { Err(fault) } }
         }
     }

@@ -1,16 +1,39 @@
-use Rattle.std.proofs.Common.{IfOk, refl, subst}
-use Rattle.lc3_machine.specs.Process.{Process as Machine}
-use Rattle.lab_sched.specs.declared.stepped.Stepped.TheVariants.{Refused}
-use Rattle.lab_sched.specs.Private.Calling.{HasGoneOn}
-use Rattle.lab_sched.proofs.LocalSteps.{tried_refused}
+use Rattle.std.proofs.Common.{◌∙◌, ap, refl}
+use Rattle.ipc_kernel.specs.declared.call.Answer.TheVariants.{Done}
+use Rattle.lab_sched.specs.declared.stepped.Stepped.TheVariants.{Refused, Called, Waits}
+use Rattle.lab_sched.proofs.LocalSteps.{asked_room, tried_refused, tried_reply, tried_wait}
 use Rattle.lab_sched.proofs.calling.go_on_at.Goals as goal
 
-pub returns-in-Kernel-clause-ok : goal.returns-in-Kernel-clause-ok
-returns-in-Kernel-clause-ok c =
+pub give_word-requires : goal.give_word-requires
+give_word-requires c =
     let asked = rw c.in-Kernel.is at c.in_ok-call.ensures.asked in
-    subst (λ (m : Machine). IfOk c.go_on_with_call.result (HasGoneOn c.args.kernel.now c.args.pid m c.go_on_with_call.new.kernel c.go_on_with_call.new.running)) asked.1 c.go_on_with_call.ensures.ok
+    record { trap = (c.args.vector, rw asked.1 c.requires.trap) }
 
-pub returns-in-Refused-clause-ok : goal.returns-in-Refused-clause-ok
-returns-in-Refused-clause-ok c =
-    let asked = rw c.in-Refused.is at c.in_ok-call.ensures.asked in
-    (Refused c.in-Refused.field-0, tried_refused c.args.kernel.now c.args.pid c.args.running.now.process c.ask_with_room.new.running.process c.in-Refused.field-0 asked.0 asked.1, refl)
+pub returns-in-Ok-Done-Plain-clause-ok : goal.returns-in-Ok-Done-Plain-clause-ok
+returns-in-Ok-Done-Plain-clause-ok c =
+    let asked = rw c.in-Kernel.is at c.in_ok-call.ensures.asked in
+    let is = c.in-Ok-Done-Plain.field-0-is ∙ ap Done c.in-Ok-Done-Plain.field-0-0-is in
+    (Called _, tried_reply c.args.kernel.now c.call.new.self c.args.pid asked (rw is at c.in-Ok-Done-Plain.ensures.answered) c.give_word.ensures.replied, refl)
+
+pub give_reply-requires : goal.give_reply-requires
+give_reply-requires c =
+    let asked = rw c.in-Kernel.is at c.in_ok-call.ensures.asked in
+    let room = rw c.in-Kernel.is at c.in_ok-call.ensures.room in
+    record { trap = rw asked.1 c.requires.trap; room = asked_room c.ask_with_room.new.running _ asked room (rw c.in-Ok-Done.field-0-is at c.in-Ok-Done.ensures.form) }
+
+pub returns-in-Ok-Done-clause-ok : goal.returns-in-Ok-Done-clause-ok
+returns-in-Ok-Done-clause-ok c =
+    let asked = rw c.in-Kernel.is at c.in_ok-call.ensures.asked in
+    (Called _, tried_reply c.args.kernel.now c.call.new.self c.args.pid asked (rw c.in-Ok-Done.field-0-is at c.in-Ok-Done.ensures.answered) c.give_reply.ensures.replied, refl)
+
+pub returns-in-Ok-Wait-clause-ok : goal.returns-in-Ok-Wait-clause-ok
+returns-in-Ok-Wait-clause-ok c =
+    let asked = rw c.in-Kernel.is at c.in_ok-call.ensures.asked in
+    let room = rw c.in-Kernel.is at c.in_ok-call.ensures.room in (
+      (Waits, tried_wait c.args.kernel.now c.call.new.self c.args.pid asked.0 (rw c.in-Ok-Wait.field-0-is at c.in-Ok-Wait.ensures.answered), refl),
+      asked.1,
+      (rw asked.1 asked.0, room),
+    )
+
+pub returns-clause-ok : goal.returns-clause-ok
+returns-clause-ok c = (Refused _, tried_refused c.args.kernel.now c.args.pid _ _ (rw c.in-Refused.is at c.in_ok-call.ensures.asked), refl)

@@ -1,16 +1,21 @@
-use Rattle.std.proofs.Common.{◌≡◌, ap, ◌∙◌, ◌+◌, sym, arith, length, replicate}
+use Rattle.std.proofs.Common.{◌≡◌, refl, ap, ◌∙◌, ◌+◌, ◌-◌, sym, arith, length, replicate}
 use Rattle.lab_sched.specs.Worlds.{WorldState}
 use Rattle.lab_sched.specs.declared.world.StepFault.TheVariants.{NoMemory, NoProcess}
 use Rattle.lab_sched.proofs.WorldLemmas.{none_taken, seen_length}
-use Rattle.lab_sched.proofs.Runs.{length-run, run_on, run_moved}
+use Rattle.lab_sched.proofs.Runs.{length-run, run-one, run_on, run_unmoved}
 use Rattle.lab_sched.proofs.world.World.advance.Goals as goal
 
-pub returns-in-Ok-clause-world : goal.returns-in-Ok-clause-world
-returns-in-Ok-clause-world c =
-    run_on c.args.self.now c.advance_locally-taken.new.self _ c.advance_locally-taken.result.0 c.steps_done.result (c.advance_locally-taken.result.0 + c.steps_done.result) c.args.pid
+pub returns-in-Ok-true-clause-world : goal.returns-in-Ok-true-clause-world
+returns-in-Ok-true-clause-world c =
+    run_on c.args.self.now c.advance_locally-taken.new.self _ c.advance_locally-taken.result.0 1 (c.advance_locally-taken.result.0 + 1) c.args.pid
+    c.advance_locally-taken.ensures.world (c.in-Ok-true.ensures.world ∙ sym (run-one c.advance_locally-taken.new.self c.args.pid)) refl
+
+pub returns-in-Ok-false-clause-world : goal.returns-in-Ok-false-clause-world
+returns-in-Ok-false-clause-world c =
+    run_on c.args.self.now c.advance_locally-taken.new.self _ c.advance_locally-taken.result.0 (c.args.most - c.advance_locally-taken.result.0) c.args.most c.args.pid
     c.advance_locally-taken.ensures.world
-    (c.in-Ok.ensures.world ∙ run_moved c.advance_locally-taken.new.self c.args.pid c.steps_done.result c.in-Ok.moved c.in-Ok.ensures.moved c.steps_done.ensures.other)
-    (omega arith)
+    (c.in-Ok-false.ensures.world ∙ run_unmoved c.advance_locally-taken.new.self c.args.pid (c.args.most - c.advance_locally-taken.result.0) (sym c.in-Ok-false.field-0-test ∙ c.in-Ok-false.ensures.moved))
+    (omega (arith, c.advance_locally-taken.ensures.within))
 
 pub returns-then-taken-gt0-clause-world : goal.returns-then-taken-gt0-clause-world
 returns-then-taken-gt0-clause-world c = c.in-Err.ensures.err ∙ c.advance_locally-taken.ensures.world

@@ -1,0 +1,34 @@
+use Rattle.std.proofs.Common.{◌∙◌, ap}
+use Rattle.ipc_kernel.specs.declared.call.Answer.TheVariants.{Done}
+use Rattle.lab_sched.proofs.LocalSteps.{asked_room, tried_reply, tried_wait}
+use Rattle.lab_sched.proofs.stepping.step_trap.Goals as goal
+
+pub give_word-requires : goal.give_word-requires
+give_word-requires c =
+    let asked = rw c.in-Kernel.is at c.in_ok-call-in-Running.ensures.asked in
+    record { trap = (c.args.vector, rw asked.1 (rw c.in-Running.is at c.requires.stands)) }
+
+pub returns-in-Ok-Done-Plain-clause-ok : goal.returns-in-Ok-Done-Plain-clause-ok
+returns-in-Ok-Done-Plain-clause-ok c =
+    let asked = rw c.in-Kernel.is at c.in_ok-call-in-Running.ensures.asked in
+    let is = c.in-Ok-Done-Plain.field-0-is ∙ ap Done c.in-Ok-Done-Plain.field-0-0-is in
+    rw c.in-Running.is (tried_reply c.args.kernel.now c.call.new.self c.args.pid asked (rw is at c.in-Ok-Done-Plain.ensures.answered) c.give_word.ensures.replied)
+
+pub give_reply-requires : goal.give_reply-requires
+give_reply-requires c =
+    let asked = rw c.in-Kernel.is at c.in_ok-call-in-Running.ensures.asked in
+    let room = rw c.in-Kernel.is at c.in_ok-call-in-Running.ensures.room in
+    record {
+      trap = rw asked.1 (rw c.in-Running.is at c.requires.stands);
+      room = asked_room c.ask_with_room.new.running _ asked room (rw c.in-Ok-Done.field-0-is at c.in-Ok-Done.ensures.form);
+    }
+
+pub returns-in-Ok-Done-clause-ok : goal.returns-in-Ok-Done-clause-ok
+returns-in-Ok-Done-clause-ok c =
+    let asked = rw c.in-Kernel.is at c.in_ok-call-in-Running.ensures.asked in
+    rw c.in-Running.is (tried_reply c.args.kernel.now c.call.new.self c.args.pid asked (rw c.in-Ok-Done.field-0-is at c.in-Ok-Done.ensures.answered) c.give_reply.ensures.replied)
+
+pub returns-in-Ok-Wait-clause-ok : goal.returns-in-Ok-Wait-clause-ok
+returns-in-Ok-Wait-clause-ok c =
+    let asked = rw c.in-Kernel.is at c.in_ok-call-in-Running.ensures.asked in
+    rw (c.in-Running.is, c.begin_wait.ensures.waits, asked.1) (tried_wait c.args.kernel.now c.call.new.self c.args.pid asked.0 (rw c.in-Ok-Wait.field-0-is at c.in-Ok-Wait.ensures.answered))
