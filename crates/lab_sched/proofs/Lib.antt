@@ -7,7 +7,6 @@ pub mod ScheduleFaults
 pub mod ListPlaces
 pub mod Runs
 pub mod VerdictsByProcess
-pub mod EndSteps
 pub mod WorldLemmas
 pub mod LocalSteps
 pub mod ScheduleRuns

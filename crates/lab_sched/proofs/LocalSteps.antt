@@ -2,6 +2,7 @@
 use Rattle.std.proofs.Common.{ℕ, ◌≡◌, ◌<◌, Some, List, refl, sym, ap, ◌∙◌, subst, option_map, length, set, map, slice_get, get_or}
 use Rattle.std.proofs.lemmas.Option.{slice_get-map}
 use Rattle.lc3_machine.specs.Process.{Process as Machine, Held}
+use Rattle.lc3_machine.specs.Reply.{process_after_end}
 use Rattle.lc3_machine.specs.Steps.{AreOwnSteps}
 use Rattle.lc3_machine.specs.declared.want.How.{How}
 use Rattle.lc3_machine.specs.declared.want.Want.TheVariants.{End}
@@ -16,8 +17,9 @@ use Rattle.ipc_kernel.specs.declared.call.Reply.TheVariants.{Plain}
 use Rattle.ipc_kernel.specs.declared.call.Answer.{Answer}
 use Rattle.ipc_kernel.specs.declared.call.Answer.TheVariants.{Done, Wait}
 use Rattle.ipc_kernel.specs.Answer.{answer}
+use Rattle.ipc_kernel.proofs.LawfulAnswers.{answer_wait}
 use Rattle.ipc_kernel.specs.Replies.{IsReplyTo}
-use Rattle.ipc_traps.specs.Asked.{Request, Local, Refuses, Calls, next_request}
+use Rattle.ipc_traps.specs.Asked.{Request, Local, Refuses, Calls, Ends, next_request}
 use Rattle.ipc_traps.specs.Reply.{HasRoom, IsPrepared, process_after_reply}
 use Rattle.ipc_traps.proofs.Laws.{room_prepared, asked_end, asked_local}
 use Rattle.lab_sched.specs.declared.process.Process.{Process as Kept}
@@ -29,7 +31,6 @@ use Rattle.lab_sched.specs.LocalRun.{IsLocalStep, AreLocal}
 use Rattle.lab_sched.specs.Settling.{AsksFor}
 use Rattle.lab_sched.specs.Stepping.{CanTakeReply, StandsBefore, StopsBy, after_end, after_reply}
 use Rattle.lab_sched.specs.Private.Settling.{StopsByIn}
-use Rattle.lab_sched.proofs.EndSteps.{act_end, end_step}
 use Rattle.lab_sched.proofs.OwnSteps.{first_local}
 use Rattle.lab_sched.proofs.ListPlaces.{get-set_same}
 use Rattle.lab_sched.proofs.WorldLemmas.{seen_at}
@@ -99,23 +100,11 @@ tried_refused k p m n {e} asked = local_first k p m (Refuses e) (Running n) (Run
 pub asked_room : (h : Held) {m : Machine} {c : Call} (r : Reply) → (next_request m ≡ Calls c) × (h.process ≡ m) → IsPrepared h → IsReplyTo c r → HasRoom h r
 asked_room h {m} {c} r asked room form = room_prepared h c r room (ap next_request asked.1 ∙ asked.0) form
 
--- there is room for the reply to a running process
-pub running_room : (x : Kept) (h : Held) (reply : Reply) → x ≡ kept.Running h → CanTakeReply x reply → HasRoom h reply
-running_room x h reply is can =
-    let so : CanTakeReply (kept.Running h) reply = subst (λ y. CanTakeReply y reply) is can in
-    room_prepared h so.0 reply so.1.1 so.1.0 so.2
-
 -- a running process, after its reply
 pub running_told : (x : Kept) (h : Held) (reply : Reply) (q : Machine) → x ≡ kept.Running h → CanTakeReply x reply → q ≡ process_after_reply h.process reply → Running q ≡ after_reply (process_view x) reply
 running_told x h reply q is can q-is =
     let so : CanTakeReply (kept.Running h) reply = subst (λ y. CanTakeReply y reply) is can in
     ap Running q-is ∙ sym (ap (λ n. process_after_reply_to h.process n reply) so.1.0) ∙ ap (λ y. after_reply (process_view y) reply) (sym is)
-
--- there is room for the reply to a process that waits
-pub reply_room : (x : Kept) (h : Held) (c : Call) (reply : Reply) → x ≡ kept.Waiting h c → IsHeld x → CanTakeReply x reply → HasRoom h reply
-reply_room x h c reply is held can =
-    let so : IsHeld (kept.Waiting h c) = subst IsHeld is held in
-    room_prepared h c reply so.1 so.0 (subst (λ y. CanTakeReply y reply) is can)
 
 -- a process that waits, after its reply
 pub reply_told : (x : Kept) (h : Held) (c : Call) (reply : Reply) (q : Machine) → x ≡ kept.Waiting h c → IsHeld x → q ≡ process_after_reply h.process reply → Running q ≡ after_reply (process_view x) reply
@@ -123,13 +112,32 @@ reply_told x h c reply q is held q-is =
     let so : IsHeld (kept.Waiting h c) = subst IsHeld is held in
     ap Running q-is ∙ sym (told_reply h.process c reply so.0) ∙ ap (λ y. after_reply (process_view y) reply) (sym is)
 
+-- a process that must still wait
+pub wait_step : (k j : KernelState) (p : ℕ) (m : Machine) (c : Call) → (Wait, j) ≡ answer k p c
+    → HasStepped k p (Waiting m c) j (Waiting m c) stepped.Same
+wait_step k j p m c is =
+    let waits : (answer k p c).0 ≡ Wait = sym (ap (λ o. o.0) is) in
+    let same : j ≡ k = ap (λ o. o.1) is ∙ answer_wait k p c waits in
+    rw waits (ap {B = StepResult} (λ l. record { process = Waiting m c; kernel = l; told = stepped.Same }) same)
+
+-- an end asks for Exit
+act_end : (m : Machine) (how : How) → next_request m ≡ Ends how → next_action m ≡ calls Exit
+unfolding next_action
+act_end m how is = rw is refl
+
+told_end : (m : Machine) (how : How) (r : Reply) → next_request m ≡ Ends how → process_after_answer m Exit (Done r) ≡ Ended (record { process = process_after_end m how; how = how })
+unfolding process_after_answer
+told_end m how r is = rw is refl
+
 -- the end of a process
 pub end_told : (k j : KernelState) (p : ℕ) (s u : Process) (how : How) → StandsBefore s (End how) → u ≡ after_end s how → j ≡ (answer k p Exit).1
     → HasStepped k p s j u (stepped.Called (Plain 0))
+unfolding answer
 end_told k j p (Running m) u how stands u-is j-is =
-    ap {B = StepResult} (λ x. record { process = x; kernel = j; told = stepped.Called (Plain 0) }) u-is
-    ∙ ap {B = StepResult} (λ l. record { process = after_end (Running m) how; kernel = l; told = stepped.Called (Plain 0) }) j-is
-    ∙ end_step k p m how (asked_end m how stands)
+    let is = asked_end m how stands in
+    ap {B = StepResult} (λ x. record { process = x; kernel = j; told = stepped.Called (Plain 0) }) (u-is ∙ sym (told_end m how (Plain 0) is))
+    ∙ ap {B = StepResult} (λ l. record { process = process_after_answer m Exit (Done (Plain 0)); kernel = l; told = stepped.Called (Plain 0) }) j-is
+    ∙ sym (ap {B = StepResult} (λ a. step_result k p (Running m) (first_try k p m a)) (act_end m how is))
 end_told k j p (Waiting m c) u how stands u-is j-is = absurd stands
 end_told k j p (Ended e) u how stands u-is j-is = absurd stands
 

@@ -5,11 +5,13 @@ ghost use Rattle.lab_sched.specs.Execution.{Commute};
 ghost use Rattle.lab_sched.specs.Verdicts.{VerdictWorkedOut};
 
 /// A schedule's text reads back as the schedule.
+#[tactic(auto, using(crate::proofs::ScheduleReadsBack::reads_back_lem))]
 pub fn reads_back()
     ensures law { ReadsBack }
 {}
 
 /// Schedules of the same steps are equal.
+#[tactic(auto, using(crate::proofs::ScheduleJoins::steps_tell_lem))]
 pub fn steps_tell()
     ensures law { StepsTell }
 {}
@@ -21,6 +23,7 @@ pub fn first_bad_block()
 
 /// `TooLong` comes only where each word is a block, and names the first with which there are too
 /// many steps.
+#[tactic(auto, using(crate::proofs::ScheduleFaults::first_too_long_lem))]
 pub fn first_too_long()
     ensures law { FirstTooLong }
 {}

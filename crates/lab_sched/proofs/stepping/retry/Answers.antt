@@ -1,6 +1,6 @@
 use Rattle.std.proofs.Common.{◌∙◌, ap, sym}
 use Rattle.lab_sched.specs.Held.{StepResult, process_view, step_of}
-use Rattle.lab_sched.proofs.EndSteps.{wait_step}
+use Rattle.lab_sched.proofs.LocalSteps.{wait_step}
 use Rattle.lab_sched.proofs.stepping.retry.Goals as goal
 
 pub returns-in-Wait-clause-ok : goal.returns-in-Wait-clause-ok
