@@ -7,7 +7,7 @@ use Rattle.std.proofs.lemmas.List.Sums.{sum_by_push}
 use Rattle.lab_sched.specs.declared.schedule.block.Block.{Block}
 use Rattle.lab_sched.specs.Schedules.{block, steps_of, total_of, IsBlock, AreApart, IsSchedule, most_steps}
 use Rattle.lab_sched.specs.Private.Blocks.{IsResized}
-use Rattle.lab_sched.proofs.ScheduleJoins.{steps-append, steps-one, valid-push}
+use Rattle.lab_sched.proofs.ScheduleJoins.{apart-last, steps-append, steps-one, valid-push}
 
 -- lists with equal ends
 same_ends : (xs ys : List ℕ) (x y : ℕ) → xs ++ x ∷ [] ≡ ys ++ y ∷ [] → (xs ≡ ys) × (x ≡ y)
@@ -27,11 +27,6 @@ apart-front : (front : List Block) (d : Block) → AreApart (front ++ d ∷ []) 
 apart-front [] d h = tt
 apart-front (x ∷ []) d h = tt
 apart-front (x ∷ y ∷ front) d h = (h.0, apart-front (y ∷ front) d h.1)
-
-apart-last : (front : List Block) (d : Block) (n : ℕ) → AreApart (front ++ d ∷ []) → AreApart (front ++ block d.pid n ∷ [])
-apart-last [] d n h = tt
-apart-last (x ∷ []) d n h = h
-apart-last (x ∷ y ∷ front) d n h = (h.0, apart-last (y ∷ front) d n h.1)
 
 pub total-last : (front : List Block) (d : Block) → total_of (front ++ d ∷ []) ≡ total_of front + d.count
 total-last front d = sum_by_push (λ (b : Block). b.count) front d

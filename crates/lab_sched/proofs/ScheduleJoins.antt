@@ -82,14 +82,15 @@ joined-apart (b ∷ c ∷ rest) h = ap (before b) (joined-apart (c ∷ rest) h.1
 
 -- a block at the end
 
-pub joined-push_same : (front : List Block) (c b : Block) → AreApart (front ++ c ∷ []) → c.pid ≡ b.pid
-    → joined_blocks (front ++ c ∷ [] ++ b ∷ []) ≡ front ++ block b.pid (c.count + b.count) ∷ []
+joined-push_same : (front : List Block) (c b : Block) → c.pid ≡ b.pid → joined_blocks (front ++ c ∷ [] ++ b ∷ []) ≡ joined_blocks (front ++ block c.pid (c.count + b.count) ∷ [])
 unfolding joined_blocks
-joined-push_same [] c b h e = rw (is_same c.pid b.pid e) (ap (λ p. block p (c.count + b.count) ∷ []) e)
-joined-push_same (x ∷ []) c b h e =
-    ap (before x) (joined-push_same [] c b tt e) ∙ before-apart x (block b.pid (c.count + b.count)) [] (λ f. h.0 (f ∙ sym e))
-joined-push_same (x ∷ y ∷ rest) c b h e =
-    ap (before x) (joined-push_same (y ∷ rest) c b h.1 e) ∙ before-apart x y (rest ++ block b.pid (c.count + b.count) ∷ []) h.0
+joined-push_same [] c b e = rw (is_same c.pid b.pid e) refl
+joined-push_same (x ∷ front) c b e = ap (before x) (joined-push_same front c b e)
+
+pub apart-last : (front : List Block) (d : Block) (n : ℕ) → AreApart (front ++ d ∷ []) → AreApart (front ++ block d.pid n ∷ [])
+apart-last [] d n h = tt
+apart-last (x ∷ []) d n h = h
+apart-last (x ∷ y ∷ front) d n h = (h.0, apart-last (y ∷ front) d n h.1)
 
 pub apart-push : (front : List Block) (c b : Block) → AreApart (front ++ c ∷ []) → c.pid ≢ b.pid → AreApart (front ++ c ∷ [] ++ b ∷ [])
 apart-push [] c b h e = (e, tt)
@@ -168,8 +169,7 @@ joined-set xs n d b l h apart e same =
     let s : xs ≡ f ++ d ∷ [] = last-split xs n d l h e in
     ap (λ ys. set ys (n - 1) (block d.pid (d.count + b.count))) s
     ∙ set_at f d [] (block d.pid (d.count + b.count)) (n - 1) (length-take-le (n - 1) xs (omega arith))
-    ∙ ap (λ p. f ++ block p (d.count + b.count) ∷ []) same
-    ∙ sym (joined-push_same f d b (subst AreApart s apart) same)
+    ∙ sym (joined-push_same f d b same ∙ joined-apart (f ++ block d.pid (d.count + b.count) ∷ []) (apart-last f d (d.count + b.count) (subst AreApart s apart)))
     ∙ ap (λ ys. joined_blocks (ys ++ b ∷ [])) (sym s)
 
 pub joined-apart_push : (xs : List Block) (n : ℕ) (d b : Block) → length xs ≡ n → 0 < n → AreApart xs → d ≡ get_or xs (n - 1) d → d.pid ≢ b.pid

@@ -1,5 +1,6 @@
 -- The text of a schedule reads back as that schedule.
-use Rattle.std.proofs.Common.{◌≡◌, ℕ, ◌+◌, ◌<◌, ◌≤◌, false, List, [], ◌∷◌, ◌++◌, length, map, drop, refl, ap, ◌∙◌, arith, one-add, add-one, Some, None, Ok, Err, Result, IfOk, String, string_bytes, append-nil, length-append}
+use Rattle.std.proofs.Common.{◌≡◌, ℕ, ◌+◌, ◌<◌, ◌≤◌, false, List, [], ◌∷◌, ◌++◌, length, map, drop, refl, ap, ◌∙◌, arith, one-add, Some, None, Ok, Err, Result, IfOk, String, string_bytes, append-nil, length-append}
+use Rattle.std.proofs.Math.Seq.{drop-append-add}
 use Rattle.std.specs.Prelude.{decimal, position}
 use Rattle.std.specs.List.{All, AllByRecursion, position_or_len}
 use Rattle.std.specs.Char.{digit_value}
@@ -47,17 +48,13 @@ count_in-decimal : (n : ℕ) → 1 ≤ n → n ≤ most_steps → count_in (deci
 unfolding count_in
 count_in-decimal n h k = ap (in_range 1 most_steps) (unsigned-decimal n (omega arith)) ∙ grind (arith, nat_tests)
 
-drop_star : (ds rest : List ℕ) → drop (length ds + 1) (ds ++ 42 ∷ rest) ≡ rest
-drop_star [] rest = refl
-drop_star (d ∷ ds) rest = rw (add-one (length (d ∷ ds))) (rw (add-one (length ds)) at (drop_star ds rest))
-
 block_in-text : (b : Block) → IsBlock b → b.count ≤ most_steps → block_in (block_text b) ≡ Some b
 unfolding block_in block_text
 block_in-text b h k =
     let pid : IsNumeral 10 (decimal b.pid) = (decimal_is_IsNumeral b.pid (omega (arith, h.process))).0 in
     ap (λ o. block_at o (decimal b.pid ++ 42 ∷ decimal b.count)) (star_at (decimal b.pid) (decimal b.count) pid.1)
     ∙ ap (λ w. block_from (process_in w) (count_in (drop (length (decimal b.pid) + 1) (decimal b.pid ++ 42 ∷ decimal b.count)))) (take_at (decimal b.pid) (42 ∷ decimal b.count) (length (decimal b.pid)) refl)
-    ∙ ap (λ w. block_from (process_in (decimal b.pid)) (count_in w)) (drop_star (decimal b.pid) (decimal b.count))
+    ∙ ap (λ w. block_from (process_in (decimal b.pid)) (count_in w)) (drop-append-add (decimal b.pid) (42 ∷ decimal b.count) 1)
     ∙ rw (process_in-decimal b.pid h.process, count_in-decimal b.count h.some k) refl
 
 text_no_space : (b : Block) → IsBlock b → b.count ≤ most_steps → All (λ c. is_space c ≡ false) (block_text b)

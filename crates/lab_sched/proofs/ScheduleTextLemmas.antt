@@ -1,7 +1,7 @@
 -- The text of a schedule, block by block.
-use Rattle.std.proofs.Common.{◌≡◌, ℕ, ◌≤◌, List, [], ◌∷◌, ◌++◌, length, drop, refl, append-nil, arith}
+use Rattle.std.proofs.Common.{◌≡◌, ℕ, ◌≤◌, List, [], ◌∷◌, ◌++◌, length, drop, refl, append-nil}
 use Rattle.std.specs.List.{flat_map}
-use Rattle.std.proofs.lemmas.List.{drop_all}
+use Rattle.std.proofs.lemmas.List.{drop_all, nil_from_length}
 use Rattle.lab_sched.specs.declared.schedule.block.Block.{Block}
 use Rattle.lab_sched.specs.ScheduleTexts.{block_text, schedule_text}
 
@@ -18,5 +18,4 @@ text-first b rest = refl
 
 pub text-none : (bs : List Block) → length bs ≡ 0 → [] ≡ schedule_text bs
 unfolding schedule_text
-text-none [] h = refl
-text-none (b ∷ rest) h = absurd (omega arith)
+text-none bs h = rw (nil_from_length bs h) refl
