@@ -85,28 +85,21 @@ settled-append {r} {q} {t} {left} {rest} {last} a b = record {
       omega (arith, a.counted p below, b.counted p (omega (arith, a.len)), count-append p a.taken b.taken);
 }
 
-stopped_here : (v : WorldState) (left : List ℕ) (bits' : ℕ) (short : Bool) (i k : ℕ) → (short ≡ true → bit_at bits' i ≡ 1) → i < length left
-    → ((k ≡ get_or left i 0) ⊎ (step_effect_in v i ≡ nothing) ⊎ (short ≡ true)) → HasStopped v (set left i (get_or left i 0 - k)) bits' i
-stopped_here v left bits' short i k set_bit within (inl all) = inl (omega (arith, get_or-set_same left i (get_or left i 0 - k) 0 within, all))
-stopped_here v left bits' short i k set_bit within (inr (inl none)) = inr (inl none)
-stopped_here v left bits' short i k set_bit within (inr (inr refused)) = inr (inr (set_bit refused))
-
-stopped_there : (w v : WorldState) (left left' : List ℕ) (bits bits' : ℕ) (p : ℕ) → w ≡ v → get_or left' p 0 ≡ get_or left p 0 → (bit_at bits p ≡ 1 → bit_at bits' p ≡ 1)
-    → HasStopped w left bits p → HasStopped v left' bits' p
-stopped_there w v left left' bits bits' p same rest kept (inl none) = inl (rest ∙ none)
-stopped_there w v left left' bits bits' p same rest kept (inr (inl still)) = inr (inl (subst (λ x. step_effect_in x p ≡ nothing) same still))
-stopped_there w v left left' bits bits' p same rest kept (inr (inr is_set)) = inr (inr (kept is_set))
-
 -- a process that had stopped still has where nothing was stepped, and so has the one that was tried
 pub stopped_more : {w v : WorldState} (left : List ℕ) (bits bits' : ℕ) {short : Bool} (i k : ℕ) → w ≡ v → ((p : ℕ) → p < i → HasStopped w left bits p)
     → ((p : ℕ) → bit_at bits p ≡ 1 → bit_at bits' p ≡ 1) → (short ≡ true → bit_at bits' i ≡ 1)
     → ((k ≡ get_or left i 0) ⊎ (step_effect_in v i ≡ nothing) ⊎ (short ≡ true)) → i < length left
     → (p : ℕ) → p < i + 1 → HasStopped v (set left i (get_or left i 0 - k)) bits' p
 stopped_more {w} {v} left bits bits' {short} i k same stopped kept set_bit last within p below = elim (eqb_tells i p) [
-  | inl here ↦ subst (λ n. HasStopped v (set left i (get_or left i 0 - k)) bits' n) here.1 (stopped_here v left bits' short i k set_bit within last)
-  | inr other ↦
-      stopped_there w v left (set left i (get_or left i 0 - k)) bits bits' p same
-      (get_or-set_other left i p (get_or left i 0 - k) 0 (λ e. other.1 (sym e))) (kept p) (stopped p (let ne = other.1 in omega arith))
+  | inl here ↦
+      subst (λ n. HasStopped v (set left i (get_or left i 0 - k)) bits' n) here.1 (elim last [
+        | inl all ↦ inl (omega (arith, get_or-set_same left i (get_or left i 0 - k) 0 within, all))
+        | inr more ↦ elim more [ inl none ↦ inr (inl none) | inr refused ↦ inr (inr (set_bit refused)) ]
+      ])
+  | inr other ↦ elim (stopped p (let ne = other.1 in omega arith)) [
+    | inl none ↦ inl (get_or-set_other left i p (get_or left i 0 - k) 0 (λ e. other.1 (sym e)) ∙ none)
+    | inr more ↦ elim more [ inl still ↦ inr (inl (subst (λ x. step_effect_in x p ≡ nothing) same still)) | inr is_set ↦ inr (inr (kept p is_set)) ]
+  ]
 ]
 
 pub sum_less : (left : List ℕ) (i k : ℕ) → i < length left → k ≤ get_or left i 0 → sum (set left i (get_or left i 0 - k)) + k ≡ sum left
