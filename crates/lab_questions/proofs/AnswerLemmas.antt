@@ -1,6 +1,5 @@
 -- What answers on the ends of an exploration say of programs.
 use Rattle.std.proofs.Common.{ℕ, ◌≡◌, ◌<◌, List, [], ◌∷◌, get_or, Option, Some, None, All, IfSome, slice_get, length, map, sym, ap, subst, refl, ◌∙◌}
-use Rattle.std.proofs.lemmas.Option.{slice_get_within, get_or_from_slice_get}
 use Rattle.lab_sched.specs.declared.verdict.Verdict.TheVariants as verdict
 use Rattle.lab_sched.specs.Schedules.{steps_of}
 use Rattle.lab_sched.specs.Worlds.{WorldState, run, machine_of}
@@ -9,6 +8,7 @@ use Rattle.lab_sched.proofs.VerdictLemmas.{verdict_from}
 use Rattle.lab_worlds.specs.declared.ends.End.{End}
 use Rattle.lab_worlds.specs.Calls.{AreAlike}
 use Rattle.lab_worlds.specs.Closed.{AreAtRest}
+use Rattle.lab_worlds.proofs.Pushes.{all_at}
 use Rattle.lab_worlds.specs.Ends.{IsEnd, AreEnds, HaveAllEnds, IsReported}
 use Rattle.lab_questions.specs.declared.asked.Waiter.{Waiter}
 use Rattle.lab_questions.specs.declared.asked.Word.{Word}
@@ -19,9 +19,6 @@ use Rattle.lab_conditions.proofs.MessageCounts.{messages_alike}
 use Rattle.lab_questions.specs.Judgments.{Meets, IsMet, IsFault, IsFaultIn, IsAnswer}
 use Rattle.lab_questions.specs.Programs.{AlwaysMeet, IsRefuted}
 use Rattle.lab_questions.specs.Texts.{schedule_of, schedule_at}
-
-pub all_at : (P : End → Type 0) (es : List End) (i : ℕ) (e : End) → All P es → slice_get es i ≡ Some e → P e
-all_at P es i e all has = subst P (get_or_from_slice_get es i e e has) (all i e (slice_get_within es i e has))
 
 emptied : (w v : WorldState) → AreAlike w v → AreEmptied v → AreEmptied w
 emptied w v alike empty = sym (messages_alike w.kernel v.kernel alike.kernel) ∙ empty
@@ -93,22 +90,12 @@ refuted word waiters start ends i each fault = by (slice_get ends 0) refl
               (subst (λ w. Meets word waiters first.world w) two.leads (subst (λ v. Meets word waiters v (run start (steps_of fault.end.schedule))) one.leads met)));
         }))
 
-fault_there : (word : Word) (waiters : List Waiter) (ends : List End) (o : Option ℕ) → IsFaultIn word waiters ends o → IfSome o (λ i. i < length ends)
-fault_there word waiters ends None fault = tt
-fault_there word waiters ends (Some i) fault = slice_get_within ends i fault.end fault.there
-
--- the ends that answers name are there
-pub all_there : (waiters : List Waiter) (ends : List End) (answers : List Answer) → All (IsAnswer waiters ends) answers
-    → All (λ a. IfSome a.fault (λ i. i < length ends)) answers
-all_there waiters ends answers each k d within =
-    fault_there (get_or answers k d).word waiters ends (get_or answers k d).fault (each k d within)
-
 fault_refuted : (word : Word) (waiters : List Waiter) (start : WorldState) (ends : List End) → AreEnds start ends → (o : Option ℕ) → IsFaultIn word waiters ends o
     → IfSome o (λ i. IsRefuted word waiters start (schedule_at ends 0) (schedule_at ends i))
 fault_refuted word waiters start ends sound None fault = tt
 fault_refuted word waiters start ends sound (Some i) fault = refuted word waiters start ends i sound fault
 
--- and show it
+-- the ends that answers name show it
 pub all_refuted : (waiters : List Waiter) (start : WorldState) (ends : List End) (answers : List Answer) → AreEnds start ends → All (IsAnswer waiters ends) answers
     → All (λ a. IfSome a.fault (λ i. IsRefuted a.word waiters start (schedule_at ends 0) (schedule_at ends i))) answers
 all_refuted waiters start ends answers sound each k d within =

@@ -1,5 +1,5 @@
 -- What is asked of calls, one by one, and where nothing is.
-use Rattle.std.proofs.Common.{IfSome, ℕ, zero, suc, ◌≡◌, ◌<◌, ◌≤◌, ◌+◌, ◌-◌, Bool, List, [], ◌∷◌, ◌++◌, filter, flat_map, map, get_or, length, take, drop, subst, sym, ap, ◌∙◌, append_assoc, append-nil, arith}
+use Rattle.std.proofs.Common.{IfSome, ℕ, ◌≡◌, ◌<◌, ◌≤◌, ◌+◌, ◌-◌, Bool, List, [], ◌∷◌, ◌++◌, filter, flat_map, map, get_or, length, take, drop, sym, ap, ◌∙◌, append_assoc, append-nil, arith}
 use Rattle.std.proofs.lemmas.Grind.{flat_map-append}
 use Rattle.std.proofs.lemmas.List.{take_more, take_all, take-append-drop, map-append, length-drop}
 use Rattle.ipc_traps.specs.declared.service.Service.{Service}
@@ -8,14 +8,6 @@ use Rattle.ipc_traps.specs.Services.{service_in, service_name}
 use Rattle.lab_ways.specs.declared.calls.CallKind.{CallKind}
 use Rattle.lab_questions.specs.CallWords.{kind_words}
 use Rattle.std.proofs.lemmas.List.Elements.{filter_more}
-use Rattle.lab_worlds.specs.Calls.{Alongside}
-
-nothing_along : {A B : Type 0} (R : A → B → Type 0) → Alongside R [] []
-nothing_along R zero = tt
-nothing_along R (suc p) = tt
-
-pub none_along : {A B : Type 0} (R : A → B → Type 0) (xs : List A) → xs ≡ [] → Alongside R xs []
-none_along R xs none = subst (λ ys. Alongside R ys []) (sym none) (nothing_along R)
 
 -- one word more
 pub other_step : (p : List ℕ → Bool) (old new xs : List (List ℕ)) (i : ℕ) (x : List ℕ) → new ≡ old ++ filter p (x ∷ []) → old ≡ filter p (take i xs)

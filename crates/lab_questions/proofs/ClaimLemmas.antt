@@ -1,7 +1,7 @@
 -- What the text says of programs, by what was found of them.
 use Rattle.std.proofs.Common.{ℕ, ◌≡◌, ◌+◌, Bool, true, false, List, [], ◌∷◌, ◌++◌, Option, Some, None, get_or, slice_get, All, refl, sym, ap, subst, ◌∙◌, append_assoc, append-nil, flat_map, codes, decimal, string_bytes, arith, ◌≤◌}
 use Rattle.std.specs.List.Sorted.{IsNonDecreasingBy}
-use Rattle.std.proofs.lemmas.Option.{slice_get_within, get_or_from_slice_get}
+use Rattle.std.proofs.lemmas.Option.{slice_get-get_or}
 use Rattle.ipc_kernel.specs.Kernel.{KernelState}
 use Rattle.lab_sched.specs.declared.schedule.block.Block.{Block}
 use Rattle.lab_sched.specs.declared.verdict.Verdict.TheVariants.{Stuck}
@@ -17,6 +17,7 @@ use Rattle.lab_worlds.specs.declared.ends.End.{End}
 use Rattle.lab_worlds.specs.declared.lassos.Lasso.{Lasso}
 use Rattle.lab_worlds.specs.declared.exploration.Exploration.{Exploration}
 use Rattle.lab_worlds.specs.Closed.{AreAtRest}
+use Rattle.lab_worlds.proofs.Pushes.{all_at}
 use Rattle.lab_worlds.specs.Ends.{IsEnd, AreEnds, HaveAllEnds, NoneStuck, HaveFewestCalls}
 use Rattle.lab_ways.specs.declared.ways.Ways.{Ways}
 use Rattle.lab_ways.specs.declared.ways.Ways.TheVariants.{Always, Without, Unknown}
@@ -36,11 +37,8 @@ use Rattle.lab_questions.specs.Texts.{word_text, schedule_at, first_lines, fault
 use Rattle.lab_questions.proofs.LineLemmas.{lines-append, lines-feed, lines-onto, lines-below, same_last}
 use Rattle.lab_questions.proofs.OneText.{same_text}
 use Rattle.lab_questions.proofs.Reports.{report_lines, output_lines, same_verdict}
-use Rattle.lab_questions.proofs.ToldEnds.{Has, told_some, told_all, has_at}
+use Rattle.lab_questions.proofs.ToldEnds.{told_some, told_all}
 use Rattle.lab_questions.proofs.TextLemmas.{stand_behind, stand_before, stand_within, ends_whole, end_stands, lasso_whole, endless_stands, extent_is_line, extent_tells}
-
-all_has : (P : End → Type 0) (es : List End) (e : End) → All P es → Has es e → P e
-all_has P es e all has = subst P (get_or_from_slice_get es has.0 e e has.1) (all has.0 e (slice_get_within es has.0 e has.1))
 
 -- the lines of answers, and of what was reached, are whole lines
 fault_whole : (ends : List End) (word : Word) (o : Option ℕ) → AreLines (fault_lines ends word o)
@@ -190,13 +188,13 @@ module _ (asked : Asked) (found : Exploration) (answers : List Answer) (faults :
       let w = run start ps in
       let one = all ps rest in
       let has = fewest ps rest in
-      let first = all_has (IsEnd start) es one.1 each (one.0, one.2) in
-      let end = all_has (IsEnd start) es has.1 each (has.0, has.2) in
+      let first = all_at (IsEnd start) es one.0 one.1 each one.2 in
+      let end = all_at (IsEnd start) es has.0 has.1 each has.2 in
       let verdict = same_verdict w has.1.world one.1.verdict has.1.verdict has.3.processes one.4 first.closed end.verdict end.closed in
       let stands = subst (IsVerdict w) verdict one.4 in
       let same = same_text show w has.1.world has.3.processes has.3.kernel (sym (verdict_from has.1.world has.1.verdict end.verdict) ∙ verdict_from w has.1.verdict stands) in
       let some = told_some show (λ s t. s.calls ≤ t.calls) (λ e. let h : e.calls ≤ e.calls = omega arith in h) es has.1 (λ i j d h k. sorted i j d (omega arith) k) (has.0, has.2) in
-      let told = all_has (IsEnd start) (told_ends show es) some.0 (told_all show (IsEnd start) es each) some.1 in
+      let told = all_at (IsEnd start) (told_ends show es) some.1.0 some.0 (told_all show (IsEnd start) es each) some.1.1 in
       let shown : text_of show some.0 ≡ shown_text show w = some.2 ∙ same in
       let number = 1 + some.1.0 in
       let lines = in_text (end_lines number (text_of show some.0) some.0.schedule) (end_stands show 1 (told_ends show es) some.1.0 some.0 some.1.1) in
@@ -217,7 +215,7 @@ module _ (asked : Asked) (found : Exploration) (answers : List Answer) (faults :
       let show = asked.show in
       let e = get_or es i d in
       let end = each i d within in
-      let some = told_some show (λ s t. Unit {0}) (λ x. tt) es e (λ j k x h l. tt) (i, has_at es i d within) in
+      let some = told_some show (λ s t. Unit {0}) (λ x. tt) es e (λ j k x h l. tt) (i, slice_get-get_or es i d within) in
       let number = 1 + some.1.0 in
       let stands = in_text (end_lines number (text_of show some.0) some.0.schedule) (end_stands show 1 (told_ends show es) some.1.0 some.0 some.1.1) in
       quiet (stuck_stands show e.world number some.0.schedule text (sym (verdict_from e.world e.verdict end.verdict) ∙ stuck)

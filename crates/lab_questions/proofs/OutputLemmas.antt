@@ -5,37 +5,16 @@ use Rattle.lab_sched.specs.Worlds.{WorldState, run, machine_of}
 use Rattle.lab_worlds.specs.declared.ends.End.{End}
 use Rattle.lab_worlds.specs.Calls.{Both, Alongside, AreAlike}
 use Rattle.lab_worlds.specs.Closed.{AreAtRest}
+use Rattle.lab_worlds.proofs.Pushes.{all_at, both_weaker}
 use Rattle.lab_worlds.specs.Ends.{IsEnd, AreEnds, HaveAllEnds}
 use Rattle.lab_questions.specs.declared.output.OutputNeed.{OutputNeed}
 use Rattle.lab_questions.specs.declared.output.OutputPart.{OutputPart}
 use Rattle.lab_questions.specs.Outputs.{Fits, HasOutput, HasWritten, IsWrittenAt, IsOutputAnswer, AlwaysWritten, IsOutputRefuted}
 use Rattle.lab_questions.specs.Texts.{schedule_of, schedule_at}
-use Rattle.lab_questions.proofs.AnswerLemmas.{all_at}
 
 -- what follows at each place
-both_more : {A B : Type 0} (R S : A → B → Type 0) → ((x : A) (y : B) → R x y → S x y) → (o : Option A) (q : Option B) → Both R o q → Both S o q
-both_more R S more None None h = tt
-both_more R S more (Some x) (Some y) h = more x y h
-both_more R S more None (Some y) h = absurd h
-both_more R S more (Some x) None h = absurd h
-
 alongside_more : {A B : Type 0} (R S : A → B → Type 0) → ((x : A) (y : B) → R x y → S x y) → (xs : List A) (ys : List B) → Alongside R xs ys → Alongside S xs ys
-alongside_more R S more xs ys h p = both_more R S more (slice_get xs p) (slice_get ys p) (h p)
-
-alongside_right : {A B : Type 0} (R : A → B → Type 0) (P : B → Type 0) → ((x : A) (y : B) → R x y → P y) → (xs : List A) (ys : List B) → Alongside R xs ys → All P ys
-alongside_right R P right xs [] h i d within = absurd (omega (arith, within))
-alongside_right R P right [] (y ∷ ys) h i d within = absurd (h 0)
-alongside_right R P right (x ∷ xs) (y ∷ ys) h zero d within = right x y (h 0)
-alongside_right R P right (x ∷ xs) (y ∷ ys) h (suc i) d within = alongside_right R P right xs ys (λ q. h (suc q)) i d (omega (arith, within))
-
-fault_there : (ends : List End) (need : OutputNeed) (o : Option ℕ) → IsOutputAnswer ends need o → IfSome o (λ i. i < length ends)
-fault_there ends need None fault = tt
-fault_there ends need (Some i) fault = slice_get_within ends i fault.end fault.there
-
--- the ends that are named are there
-pub outputs_there : (ends : List End) (needs : List OutputNeed) (faults : List (Option ℕ)) → Alongside (IsOutputAnswer ends) needs faults
-    → All (λ f. IfSome f (λ i. i < length ends)) faults
-outputs_there ends needs faults each = alongside_right (IsOutputAnswer ends) (λ f. IfSome f (λ i. i < length ends)) (fault_there ends) needs faults each
+alongside_more R S more xs ys h p = both_weaker R S more (slice_get xs p) (slice_get ys p) (h p)
 
 refuted : (need : OutputNeed) (start : WorldState) (ends : List End) → AreEnds start ends → (o : Option ℕ) → IsOutputAnswer ends need o
     → IfSome o (λ i. IsOutputRefuted need start (schedule_at ends i))
@@ -49,7 +28,7 @@ refuted need start ends sound (Some i) fault =
       unmet = λ met. fault.unmet (subst (HasWritten need) end.leads met);
     })
 
--- and show that the output isn't as it is needed
+-- the ends that are named show that the output isn't as it is needed
 pub outputs_refuted : (start : WorldState) (ends : List End) (needs : List OutputNeed) (faults : List (Option ℕ)) → AreEnds start ends → Alongside (IsOutputAnswer ends) needs faults
     → Alongside (λ need fault. IfSome fault (λ i. IsOutputRefuted need start (schedule_at ends i))) needs faults
 outputs_refuted start ends needs faults sound each =
@@ -74,16 +53,3 @@ pub outputs_met : (start : WorldState) (ends : List End) (needs : List OutputNee
 outputs_met start ends needs faults all each =
     alongside_more (IsOutputAnswer ends) (λ need fault. fault ≡ None → AlwaysWritten need start)
     (λ need fault answer. met need start ends all fault answer) needs faults each
-
--- what a process has written, where that is known
-pub written_by : (part : OutputPart) (written : List (List ℕ)) (out : List ℕ) (r : Bool) → slice_get written part.process ≡ Some out
-    → (r ≡ true ↔ Fits part.relation part.bytes.items out) → (r ≡ true ↔ HasOutput part written)
-written_by part written out r at fits = (
-  λ yes. (out, at, fits.0 yes),
-  λ (other, there, fit).
-      let same : other ≡ out = let some : Some other ≡ Some out = sym there ∙ at in cc in
-      fits.1 (subst (Fits part.relation part.bytes.items) same fit),
-)
-
-pub unwritten_by : (part : OutputPart) (written : List (List ℕ)) → slice_get written part.process ≡ None → HasOutput part written → ⊥
-unwritten_by part written at (other, there, fit) = let some : ◌≡◌ {A = Option (List ℕ)} (Some other) None = sym there ∙ at in absurd (cc)

@@ -1,10 +1,11 @@
 -- Which ends are told.
-use Rattle.std.proofs.Common.{ℕ, zero, suc, ◌≡◌, ◌≢◌, ◌<◌, Bool, true, false, not, ◌||◌, cond, List, [], ◌∷◌, ◌++◌, Some, slice_get, get_or, length, map, filter, All, Any, AllPairs, Contains, bytes_eq, refl, sym, ap, subst, ◌∙◌, append-nil, arith}
+use Rattle.std.proofs.Common.{ℕ, zero, suc, ◌≡◌, ◌≢◌, ◌<◌, Bool, true, false, not, ◌||◌, cond, List, [], ◌∷◌, ◌++◌, Some, slice_get, get_or, length, map, filter, All, Any, AllPairs, Contains, bytes_eq, refl, sym, true≢false, ap, subst, ◌∙◌, append-nil, arith}
 use Rattle.std.specs.List.{list_any}
-use Rattle.std.proofs.lemmas.Option.{slice_get_within, get_or_from_slice_get}
+use Rattle.std.proofs.lemmas.Bool.{not-false, not-true}
+use Rattle.std.proofs.lemmas.Option.{slice_get_within, slice_get-get_or, get_or_from_slice_get}
 use Rattle.std.proofs.lemmas.Slice.Eq.{bytes_eq-Decides}
 use Rattle.std.proofs.lemmas.List.Elements.{All-cons, All-head, All-tail, All-filter, All-weaker, All-contains_itself, filter-append, filter_passes}
-use Rattle.std.proofs.lemmas.List.Kept.{AllPairs-filter}
+use Rattle.std.proofs.lemmas.List.Kept.{AllPairs-cons, AllPairs-filter}
 use Rattle.lab_worlds.specs.declared.ends.End.{End}
 use Rattle.lab_questions.specs.declared.asked.Show.{Show}
 use Rattle.lab_questions.specs.EndTexts.{text_of, has_other_text, told_ends}
@@ -14,29 +15,21 @@ use Rattle.lab_questions.specs.Laws.{EachToldOnce}
 abbrev pub Has : List End → End → Type 0
 Has es e = (i : ℕ) × (slice_get es i ≡ Some e)
 
-not_false : (b : Bool) → not b ≡ false → b ≡ true
-not_false true e = refl
-not_false false e = cc
-
-not_true : (b : Bool) → not b ≡ true → b ≡ true → ⊥
-not_true true e h = cc
-not_true false e h = cc
-
 pub any_of : (P : End → Type 0) (es : List End) (t : End) → Has es t → P t → Any P es
 any_of P es t h is = (h.0, t, slice_get_within es h.0 t h.1, get_or_from_slice_get es h.0 t t h.1, is)
 
-pub has_at : (es : List End) (i : ℕ) (d : End) → i < length es → slice_get es i ≡ Some (get_or es i d)
-has_at [] i d h = absurd (omega arith)
-has_at (x ∷ xs) zero d h = refl
-has_at (x ∷ xs) (suc i) d h = has_at xs i d (omega arith)
+-- a test of what is made of each element
+pub any-map : {X Y : Type 0} (f : X → Y) (test : Y → Bool) (xs : List X) → list_any test (map f xs) ≡ list_any (λ x. test (f x)) xs
+any-map f test [] = refl
+any-map f test (x ∷ xs) = ap (λ r. test (f x) || r) (any-map f test xs)
 
 module _ (show : Show) where
   -- an end that hasn't another text has the text
   same_text : (e f : End) → has_other_text show e f ≡ false → text_of show e ≡ text_of show f
-  same_text e f h = (bytes_eq-Decides (text_of show e) (text_of show f)).0 (not_false _ h)
+  same_text e f h = (bytes_eq-Decides (text_of show e) (text_of show f)).0 (not-false _ h)
 
   other_text : (e f : End) → has_other_text show e f ≡ true → text_of show e ≢ text_of show f
-  other_text e f h same = not_true _ h ((bytes_eq-Decides (text_of show e) (text_of show f)).1 same)
+  other_text e f h same = true≢false (sym ((bytes_eq-Decides (text_of show e) (text_of show f)).1 same) ∙ not-true _ h)
 
   -- what passes a test is kept
   has_filter : (p : End → Bool) (es : List End) (e : End) → Has es e → p e ≡ true → Has (filter p es) e
@@ -80,18 +73,12 @@ module _ (show : Show) where
   abbrev Differ : End → End → Type 0
   Differ s t = text_of show s ≢ text_of show t
 
-  pairs-cons : (x : End) (xs : List End) → All (Differ x) xs → AllPairs Differ xs → AllPairs Differ (x ∷ xs)
-  pairs-cons x xs first rest zero zero d h k = absurd (omega arith)
-  pairs-cons x xs first rest zero (suc j) d h k = first j d (omega arith)
-  pairs-cons x xs first rest (suc i) zero d h k = absurd (omega arith)
-  pairs-cons x xs first rest (suc i) (suc j) d h k = rest i j d (omega arith) (omega arith)
-
   told_differ : (es : List End) → AllPairs Differ (told_ends show es)
   unfolding told_ends
   told_differ [] = λ i j d h k. absurd (omega arith)
   told_differ (x ∷ xs) =
       let others = filter (has_other_text show x) (told_ends show xs) in
-      pairs-cons x others
+      AllPairs-cons Differ x others
       (All-weaker (λ t. has_other_text show x t ≡ true) (Differ x) (other_text x) others (filter_passes (has_other_text show x) (told_ends show xs)))
       (AllPairs-filter Differ (has_other_text show x) (told_ends show xs) (told_differ xs))
 
@@ -114,10 +101,6 @@ module _ (show : Show) where
       by later true h b k = rw h (ap (λ r. q x || r) later)
       by later false h true k = let pass : p x ≡ true = keeps x k in cc
       by later false h false k = rw (h, k) later
-
-  any-map : (test : List ℕ → Bool) (es : List End) → list_any test (map (text_of show) es) ≡ list_any (λ t. test (text_of show t)) es
-  any-map test [] = refl
-  any-map test (e ∷ es) = ap (λ r. test (text_of show e) || r) (any-map test es)
 
   -- one end more
   told-push : (es : List End) (e : End) → told_ends show (es ++ e ∷ []) ≡ told_ends show es ++ new_end (list_any (has_text e) (told_ends show es)) e
@@ -158,19 +141,19 @@ module _ (show : Show) where
       → told_ends show (es ++ e ∷ []) ≡ told_ends show es
   told-known es e h =
       told-push es e
-      ∙ ap (λ b. told_ends show es ++ new_end b e) (sym (any-map (λ r. bytes_eq r (text_of show e)) (told_ends show es)) ∙ h)
+      ∙ ap (λ b. told_ends show es ++ new_end b e) (sym (any-map (text_of show) (λ r. bytes_eq r (text_of show e)) (told_ends show es)) ∙ h)
       ∙ append-nil (told_ends show es)
 
   pub told-new : (es : List End) (e : End) → list_any (λ r. bytes_eq r (text_of show e)) (map (text_of show) (told_ends show es)) ≡ false
       → told_ends show (es ++ e ∷ []) ≡ told_ends show es ++ e ∷ []
   told-new es e h =
       told-push es e
-      ∙ ap (λ b. told_ends show es ++ new_end b e) (sym (any-map (λ r. bytes_eq r (text_of show e)) (told_ends show es)) ∙ h)
+      ∙ ap (λ b. told_ends show es ++ new_end b e) (sym (any-map (text_of show) (λ r. bytes_eq r (text_of show e)) (told_ends show es)) ∙ h)
 
 pub each_told_once : EachToldOnce
 each_told_once show es = record {
   each = λ i d within.
-      let some = told_some show (λ s t. Unit {0}) (λ e. tt) es (get_or es i d) (λ j k x h l. tt) (i, has_at es i d within) in
+      let some = told_some show (λ s t. Unit {0}) (λ e. tt) es (get_or es i d) (λ j k x h l. tt) (i, slice_get-get_or es i d within) in
       any_of (λ t. text_of show t ≡ text_of show (get_or es i d)) (told_ends show es) some.0 some.1 some.2;
   once = told_differ show es;
   only = told_all show (Contains es) es (All-contains_itself es);

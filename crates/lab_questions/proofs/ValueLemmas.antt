@@ -4,7 +4,7 @@ use Rattle.std.proofs.lemmas.List.{map-append, take_more}
 use Rattle.std.proofs.lemmas.List.FromFn.{length-enumerate_from, get_or-enumerate_from}
 use Rattle.std.proofs.lemmas.Slice.Zip.{length-zip}
 use Rattle.std.proofs.lemmas.List.Elements.{filter_map-append}
-use Rattle.std.proofs.lemmas.Option.{slice_get_within, slice_get-get_or, get_or_from_slice_get}
+use Rattle.std.proofs.lemmas.Option.{slice_get_read, slice_get_within, slice_get-get_or, get_or_from_slice_get}
 use Rattle.std.specs.List.{enumerate_from}
 use Rattle.std.specs.Option.{option_to_list}
 
@@ -55,9 +55,11 @@ zip-at (a ∷ ws) (b ∷ zs) (suc i) x y here there = zip-at ws zs i x y here th
 
 -- what the elements beside each other give, and the next ones
 pub zipped-next : {X Y : Type 0} (h : X × Y → Option (List ℕ)) (xs : List X) (ys : List Y) (i : ℕ) (x : X) (y : Y) (olds now next : List (List ℕ)) (told : Option (List ℕ))
-    → slice_get xs i ≡ Some x → slice_get ys i ≡ Some y → now ≡ olds ++ filter_map h (take i (zip xs ys)) → next ≡ now ++ option_to_list told → told ≡ h (x, y)
-    → next ≡ olds ++ filter_map h (take (i + 1) (zip xs ys))
-zipped-next h xs ys i x y olds now next told here there = given-next h (zip xs ys) i (x, y) olds now next told (zip-at xs ys i x y here there)
+    → i < length xs → i < length ys → x ≡ get_or xs i x → y ≡ get_or ys i y → now ≡ olds ++ filter_map h (take i (zip xs ys)) → next ≡ now ++ option_to_list told
+    → told ≡ h (x, y) → next ≡ olds ++ filter_map h (take (i + 1) (zip xs ys))
+zipped-next h xs ys i x y olds now next told one two here there =
+    given-next h (zip xs ys) i (x, y) olds now next told
+    (zip-at xs ys i x y (slice_get_read xs (length xs) i x refl one here) (slice_get_read ys (length ys) i y refl two there))
 
 -- what all elements beside each other give
 pub zipped-all : {X Y : Type 0} (h : X × Y → Option (List ℕ)) (xs : List X) (ys : List Y) (i : ℕ) (olds now : List (List ℕ)) → min (length xs) (length ys) ≤ i

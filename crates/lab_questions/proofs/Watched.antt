@@ -10,19 +10,11 @@ use Rattle.lab_conditions.specs.declared.never.Never.{Never}
 use Rattle.lab_conditions.specs.declared.never.Never.TheVariants as never
 use Rattle.lab_conditions.specs.Conditions.{PartHolds}
 use Rattle.lab_worlds.specs.Calls.{Both, Alongside}
+use Rattle.lab_worlds.proofs.Pushes.{all_at}
 use Rattle.lab_worlds.specs.Reached.{Violates, IsKept, ViolatesIfSome, KeptIfNone}
 use Rattle.lab_questions.specs.declared.object.Object.{Object}
 use Rattle.lab_questions.specs.Objects.{named, presence, IsOpened, IsNeverOpened, AreUnopened}
 use Rattle.lab_questions.specs.Private.Presences.{AsksFor, IsUnseen}
-
--- one more of each
-pub alongside_push : {A B : Type 0} (R : A → B → Type 0) (xs : List A) (ys : List B) (x : A) (y : B) → Alongside R xs ys → R x y → Alongside R (xs ++ x ∷ []) (ys ++ y ∷ [])
-alongside_push R [] [] x y h r zero = r
-alongside_push R [] [] x y h r (suc p) = tt
-alongside_push R [] (z ∷ ys) x y h r p = absurd (h 0)
-alongside_push R (z ∷ xs) [] x y h r p = absurd (h 0)
-alongside_push R (w ∷ xs) (z ∷ ys) x y h r zero = h 0
-alongside_push R (w ∷ xs) (z ∷ ys) x y h r (suc p) = alongside_push R xs ys x y (λ q. h (suc q)) r p
 
 -- at least as many as the first ones
 pub front_within : {A B : Type 0} (R : A → B → Type 0) (xs us : List A) (ys : List B) → Alongside R (xs ++ us) ys → length xs ≤ length ys
@@ -101,9 +93,6 @@ seen_opened start o (Some p) (Some n) (Some (Some s)) is asks reached =
     let same : p ≡ o = cc in
     inr (opened start o n s (subst (λ q. AsksFor q n) same asks) reached)
 
-held_at : (P : Object → Type 0) (os : List Object) (i : ℕ) (o : Object) → All P os → slice_get os i ≡ Some o → P o
-held_at P os i o all at = subst P (get_or_from_slice_get os i o o at) (all i o (slice_get_within os i o at))
-
 -- the objects for which a whole search has no schedule are those of the named ones that are never there
 pub are_unopened : (start : WorldState) (conditions presences : List Never) (objects unopened : List Object) (seen : List (Option (List Block))) → Alongside AsksFor objects presences
     → Alongside (ViolatesIfSome start) presences seen → Alongside (KeptIfNone start) presences seen
@@ -111,7 +100,7 @@ pub are_unopened : (start : WorldState) (conditions presences : List Never) (obj
     → All (IsUnseen objects seen) unopened → ((i : ℕ) (o : Object) → slice_get objects i ≡ Some o → slice_get seen i ≡ Some None → Contains unopened o)
     → AreUnopened start conditions unopened
 are_unopened start conditions presences objects unopened seen asks reached kept all only each whole = record {
-  among = λ k d within. let at = each k d within in held_at (Contains (named conditions)) objects at.0 (get_or unopened k d) only at.1;
+  among = λ k d within. let at = each k d within in all_at (Contains (named conditions)) objects at.0 (get_or unopened k d) only at.1;
   never = λ k d within.
       let at = each k d within in
       unseen_never start (get_or unopened k d) (slice_get objects at.0) (slice_get presences at.0) (slice_get seen at.0) at.1 at.2 (asks at.0) (kept at.0);

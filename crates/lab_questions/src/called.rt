@@ -1,16 +1,14 @@
 //! What is asked of calls on every way, and what a way shows not to be so.
-ghost use Rattle.std.specs.Prelude.{◌≡◌, ◌↔◌, ◌++◌, ◌<◌, ℕ, List, None, Some, false, IfOk, IfSome, IsTrue, OnOk, length, slice_get, string_bytes};
+ghost use Rattle.std.specs.Prelude.{◌≡◌, ◌↔◌, ℕ, List, None, Some, false, IfOk, IfSome, IsTrue, slice_get, string_bytes};
 ghost use Rattle.lab_sched.specs.declared.schedule.block.Block.{Block};
 ghost use Rattle.lab_ways.specs.Ways.{AreAllWays};
 ghost use Rattle.lab_ways.specs.declared.ways.Ways.TheVariants.{Always, Without};
-ghost use Rattle.lab_questions.specs.Called.{AreAlways, IsAgainst, ShowsWay, call_head, call_lines, calls_lines};
+ghost use Rattle.lab_questions.specs.Called.{AreAlways, IsAgainst, ShowsWay};
 
-use crate::lines::push_schedule;
-use lab_sched::{Fresh, Schedule};
+use lab_sched::Fresh;
 use lab_ways::{Wanted, Ways, ask_ways};
 use lab_worlds::{ExploreFault, Limits, Observer};
 use std::alloc::{AllocError, Global};
-use std::fmt::Write;
 
 /// What is asked of calls, as it was written.
 #[derive(Drop)]
@@ -74,65 +72,6 @@ pub(crate) fn are_always(ways: &[Ways]) -> bool
         }
     }
     true
-}
-
-/// How the line begins of what isn't so.
-fn call_head(never: bool) -> &'static str
-    ensures text { result.now ≡ call_head never }
-{
-    if never { "reached " } else { "uncalled " }
-}
-
-/// Adds the lines of what a way shows not to be so.
-fn push_against(
-    alloc: Global,
-    text: &mut String,
-    word: &CallWord,
-    schedule: &Schedule,
-) -> Result<(), AllocError>
-    ensures text { OnOk result (string_bytes text.new ≡ string_bytes text.old
-        ++ call_lines (Some word.now) (Some (Without schedule.now))) }
-{
-    let head = call_head(word.never);
-    let asked = word.text.as_str();
-    write!(text, "{head}{asked}\n")?;
-    push_schedule(alloc, text, schedule)
-}
-
-/// Adds the lines of what is asked of calls, by its number, counted from 0, if a way shows that it isn't so.
-fn push_call(
-    alloc: Global,
-    text: &mut String,
-    words: &[CallWord],
-    ways: &[Ways],
-    number: usize,
-) -> Result<(), AllocError>
-    requires word { number < length words.now }
-    requires ways { number < length ways.now }
-    ensures text { OnOk result (string_bytes text.new ≡ string_bytes text.old
-        ++ call_lines (slice_get words.now number) (slice_get ways.now number)) }
-{
-    match &ways[number] {
-        Ways::Without(schedule) => push_against(alloc, text, &words[number], schedule),
-        Ways::Always | Ways::Unknown => Ok(()),
-    }
-}
-
-/// Adds the lines of all that is asked of calls and that a way shows not to be so.
-#[tactic(auto, using(lab_texts::proofs::RowLemmas::texts_below_none), unfolding(crate::specs::Called::calls_lines))]
-pub(crate) fn push_calls(
-    alloc: Global,
-    text: &mut String,
-    words: &[CallWord],
-    ways: &[Ways],
-) -> Result<(), AllocError>
-    ensures text { OnOk result (string_bytes text.new
-        ≡ string_bytes text.old ++ calls_lines words.now ways.now) }
-{
-    for number in 0..words.len().min(ways.len()) {
-        push_call(alloc, text, words, ways, number)?;
-    }
-    Ok(())
 }
 
 /// The text of the schedule of the way that shows number `number` of what is asked of calls, counted from 0, not to be so.

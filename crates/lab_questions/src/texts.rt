@@ -1,17 +1,18 @@
 //! The lines of answers.
-ghost use Rattle.std.specs.Prelude.{◌≡◌, ◌<◌, ◌++◌, Some, length, map, OnOk, IfOk, IfSome, All, string_bytes, flat_map};
-ghost use Rattle.lab_questions.specs.EndTexts.{text_of, told_ends, schedule_line, AreTold};
-ghost use Rattle.lab_questions.specs.Texts.{schedule_at, first_lines, fault_lines, answer_lines, need_lines, needs_lines, condition_lines, reached_lines, word_lines, last_lines, judged_lines, answers_text};
+ghost use Rattle.std.specs.Prelude.{◌≡◌, ◌++◌, Some, map, OnOk, IfOk, string_bytes};
+ghost use Rattle.lab_questions.specs.Called.{call_head, call_lines, calls_lines};
+ghost use Rattle.lab_questions.specs.EndTexts.{text_of, told_ends, AreTold, lasso_text};
+ghost use Rattle.lab_questions.specs.Texts.{answer_lines, word_lines, need_lines, needs_lines, condition_lines, reached_lines, last_lines, judged_lines, answers_text};
 
-use crate::called::push_calls;
-use crate::lines::{push_extent, push_lasso, push_schedule};
+use crate::lines::{Steps, extent_of, steps_at};
 use crate::told::{Told, told_of};
-use crate::{Answer, Asked, OutputNeed, Word};
+use crate::{Answer, Asked, CallWord, OutputNeed, Word};
 use lab_conditions::Never;
 use lab_sched::Schedule;
 use lab_ways::Ways;
-use lab_worlds::{End, Exploration};
+use lab_worlds::{End, Exploration, Lasso};
 use std::alloc::{AllocError, Global};
+use std::fmt;
 use std::fmt::Write;
 
 /// What was asked and found, with the answers on words, outputs and calls.
@@ -24,141 +25,174 @@ pub(crate) struct Judged<'a> {
     pub ways: &'a [Ways],
 }
 
-fn push_schedule_at(
-    alloc: Global,
-    text: &mut String,
-    ends: &[End],
-    number: usize,
-) -> Result<(), AllocError>
-    requires there { number < length ends.now }
-    ensures text { OnOk result (string_bytes text.new
-        ≡ string_bytes text.old ++ schedule_line (schedule_at ends.now number)) }
-{
-    push_schedule(alloc, text, &ends[number].schedule)
-}
+/// The lines of a word, if it isn't so at one of these ends.
+#[derive(Clone, Copy)]
+struct WordLines<'a>(&'a [End], Answer);
 
-/// Adds the line of the schedule of the first end, where a word compares others with it.
-fn push_first(alloc: Global, text: &mut String, ends: &[End], word: Word) -> Result<(), AllocError>
-    requires some { 0 < length ends.now }
-    ensures text { OnOk result (string_bytes text.new
-        ≡ string_bytes text.old ++ first_lines ends.now word) }
-{
-    match word {
-        Word::Same => push_schedule_at(alloc, text, ends, 0),
-        _ => Ok(()),
+impl fmt::Display for WordLines<'_> {
+    ghost output = { λ l. Some (answer_lines l.0.now l.1) };
+
+    #[tactic(auto, unfolding(crate::specs::EndTexts::schedule_line))]
+    fn fmt<W: fmt::Write>(&self, f: &mut fmt::Formatter<W>) -> fmt::Result {
+        let WordLines(ends, answer) = *self;
+        let Some(number) = answer.fault else {
+            return Ok(());
+        };
+        let name = answer.word.text();
+        let steps = steps_at(ends, number);
+        match answer.word {
+            Word::Same => {
+                let first = steps_at(ends, 0);
+                write!(f, "not {name}\nschedule {first}\nschedule {steps}\n")
+            }
+            Word::Ended | Word::Stuck | Word::Halted | Word::Empty => {
+                write!(f, "not {name}\nschedule {steps}\n")
+            }
+        }
     }
 }
 
-/// Adds the lines of a word that isn't so at an end.
-fn push_fault(
-    alloc: Global,
-    text: &mut String,
-    ends: &[End],
-    word: Word,
-    number: usize,
-) -> Result<(), AllocError>
-    requires there { number < length ends.now }
-    ensures text { OnOk result (string_bytes text.new
-        ≡ string_bytes text.old ++ fault_lines ends.now word (Some number)) }
-{
-    let name = word.text();
-    write!(text, "not {name}\n")?;
-    push_first(alloc, text, ends, word)?;
-    push_schedule_at(alloc, text, ends, number)
-}
+/// The lines of what is required of an output, if one of these ends shows that it isn't so.
+#[derive(Clone, Copy)]
+struct OutputLines<'a>(&'a [End], &'a OutputNeed, Option<usize>);
 
-fn push_answer(
-    alloc: Global,
-    text: &mut String,
-    ends: &[End],
-    answer: Answer,
-) -> Result<(), AllocError>
-    requires there { IfSome answer.fault (λ i. i < length ends.now) }
-    ensures text { OnOk result (string_bytes text.new
-        ≡ string_bytes text.old ++ answer_lines ends.now answer) }
-{
-    match answer.fault {
-        Some(number) => push_fault(alloc, text, ends, answer.word, number),
-        None => Ok(()),
+impl fmt::Display for OutputLines<'_> {
+    ghost output = { λ l. Some (need_lines l.0.now (Some l.1.now) (Some l.2)) };
+
+    #[tactic(auto, unfolding(crate::specs::EndTexts::schedule_line))]
+    fn fmt<W: fmt::Write>(&self, f: &mut fmt::Formatter<W>) -> fmt::Result {
+        let OutputLines(ends, need, fault) = *self;
+        let Some(number) = fault else {
+            return Ok(());
+        };
+        let name = need.text.as_str();
+        let steps = steps_at(ends, number);
+        write!(f, "not {name}\nschedule {steps}\n")
     }
 }
 
-fn push_answers(
-    alloc: Global,
+/// How the line begins of what isn't so.
+fn call_head(never: bool) -> &'static str
+    ensures text { result.now ≡ call_head never }
+{
+    if never { "reached " } else { "uncalled " }
+}
+
+/// The lines of what is asked of calls, if a way shows that it isn't so.
+#[derive(Clone, Copy)]
+struct CallLines<'a>(&'a CallWord, &'a Ways);
+
+impl fmt::Display for CallLines<'_> {
+    ghost output = { λ l. Some (call_lines (Some l.0.now) (Some l.1.now)) };
+
+    #[tactic(auto, unfolding(crate::specs::EndTexts::schedule_line))]
+    fn fmt<W: fmt::Write>(&self, f: &mut fmt::Formatter<W>) -> fmt::Result {
+        match self.1 {
+            Ways::Without(schedule) => {
+                let head = call_head(self.0.never);
+                let asked = self.0.text.as_str();
+                let steps = Steps(schedule.blocks());
+                write!(f, "{head}{asked}\nschedule {steps}\n")
+            }
+            Ways::Always | Ways::Unknown => Ok(()),
+        }
+    }
+}
+
+/// The lines of what must never be so, if it was reached.
+#[derive(Clone, Copy)]
+struct ReachedLines<'a>(&'a Never, &'a Option<Schedule>);
+
+impl fmt::Display for ReachedLines<'_> {
+    ghost output = { λ l. Some (condition_lines (Some l.0.now) (Some l.1.now)) };
+
+    #[tactic(auto, unfolding(crate::specs::EndTexts::schedule_line))]
+    fn fmt<W: fmt::Write>(&self, f: &mut fmt::Formatter<W>) -> fmt::Result {
+        match self.1 {
+            Some(schedule) => {
+                let condition = self.0;
+                let steps = Steps(schedule.blocks());
+                write!(f, "reached {condition}\nschedule {steps}\n")
+            }
+            None => Ok(()),
+        }
+    }
+}
+
+/// The lines of a lasso, if there is one.
+#[derive(Clone, Copy)]
+struct LassoLines<'a>(&'a Option<Lasso>);
+
+impl fmt::Display for LassoLines<'_> {
+    ghost output = { λ l. Some (lasso_text l.0.now) };
+
+    #[tactic(auto, unfolding(crate::specs::EndTexts::schedule_line, crate::specs::EndTexts::lasso_line))]
+    fn fmt<W: fmt::Write>(&self, f: &mut fmt::Formatter<W>) -> fmt::Result {
+        match self.0 {
+            Some(lasso) => {
+                let steps = Steps(lasso.schedule.blocks());
+                let round = Steps(lasso.steps.blocks());
+                write!(f, "endless\nschedule {steps}\nround {round}\n")
+            }
+            None => Ok(()),
+        }
+    }
+}
+
+/// Adds the lines of answers, unless no more is asked than the ends.
+fn push_words(
     text: &mut String,
+    plain: bool,
     ends: &[End],
     answers: &[Answer],
 ) -> Result<(), AllocError>
-    requires there { All (λ a. IfSome a.fault (λ i. i < length ends.now)) answers.now }
     ensures text { OnOk result (string_bytes text.new
-        ≡ string_bytes text.old ++ flat_map (answer_lines ends.now) answers.now) }
+        ≡ string_bytes text.old ++ word_lines plain ends.now answers.now) }
 {
+    if plain {
+        return Ok(());
+    }
     for answer in answers {
-        push_answer(alloc, text, ends, *answer)?;
+        let lines = WordLines(ends, *answer);
+        write!(text, "{lines}")?;
     }
     Ok(())
-}
-
-/// Adds the lines of what is required of an output, if an end shows that it isn't so.
-fn push_need(
-    alloc: Global,
-    text: &mut String,
-    ends: &[End],
-    need: &OutputNeed,
-    fault: Option<usize>,
-) -> Result<(), AllocError>
-    requires there { IfSome fault (λ i. i < length ends.now) }
-    ensures text { OnOk result (string_bytes text.new
-        ≡ string_bytes text.old ++ need_lines ends.now (Some need.now) (Some fault)) }
-{
-    let Some(number) = fault else {
-        return Ok(());
-    };
-    let name = need.text.as_str();
-    write!(text, "not {name}\n")?;
-    push_schedule_at(alloc, text, ends, number)
 }
 
 /// Adds the lines of what is required of outputs and isn't so.
 #[tactic(auto, using(lab_texts::proofs::RowLemmas::texts_below_none), unfolding(crate::specs::Texts::needs_lines))]
 fn push_needs(
-    alloc: Global,
     text: &mut String,
     ends: &[End],
     needs: &[OutputNeed],
     faults: &[Option<usize>],
 ) -> Result<(), AllocError>
-    requires there { All (λ f. IfSome f (λ i. i < length ends.now)) faults.now }
     ensures text { OnOk result (string_bytes text.new
         ≡ string_bytes text.old ++ needs_lines ends.now needs.now faults.now) }
 {
     for number in 0..needs.len().min(faults.len()) {
-        push_need(alloc, text, ends, &needs[number], faults[number])?;
+        let lines = OutputLines(ends, &needs[number], faults[number]);
+        write!(text, "{lines}")?;
     }
     Ok(())
 }
 
-/// Adds the lines of what must never be so, if it was reached.
-fn push_condition(
-    alloc: Global,
-    text: &mut String,
-    condition: &Never,
-    reached: &Option<Schedule>,
-) -> Result<(), AllocError>
+/// Adds the lines of what is asked of calls and isn't so.
+#[tactic(auto, using(lab_texts::proofs::RowLemmas::texts_below_none), unfolding(crate::specs::Called::calls_lines))]
+fn push_calls(text: &mut String, words: &[CallWord], ways: &[Ways]) -> Result<(), AllocError>
     ensures text { OnOk result (string_bytes text.new
-        ≡ string_bytes text.old ++ condition_lines (Some condition.now) (Some reached.now)) }
+        ≡ string_bytes text.old ++ calls_lines words.now ways.now) }
 {
-    let Some(schedule) = reached else {
-        return Ok(());
-    };
-    write!(text, "reached {condition}\n")?;
-    push_schedule(alloc, text, schedule)
+    for number in 0..words.len().min(ways.len()) {
+        let lines = CallLines(&words[number], &ways[number]);
+        write!(text, "{lines}")?;
+    }
+    Ok(())
 }
 
 /// Adds the lines of what must never be so and was reached.
 #[tactic(auto, using(lab_texts::proofs::RowLemmas::texts_below_none), unfolding(crate::specs::Texts::reached_lines))]
 fn push_conditions(
-    alloc: Global,
     text: &mut String,
     conditions: &[Never],
     reached: &[Option<Schedule>],
@@ -167,35 +201,14 @@ fn push_conditions(
         ≡ string_bytes text.old ++ reached_lines conditions.now reached.now) }
 {
     for number in 0..conditions.len().min(reached.len()) {
-        push_condition(alloc, text, &conditions[number], &reached[number])?;
+        let lines = ReachedLines(&conditions[number], &reached[number]);
+        write!(text, "{lines}")?;
     }
     Ok(())
 }
 
-/// Adds the lines of answers, unless no more is asked than the ends.
-fn push_words(
-    alloc: Global,
-    text: &mut String,
-    plain: bool,
-    ends: &[End],
-    answers: &[Answer],
-) -> Result<(), AllocError>
-    requires there { All (λ a. IfSome a.fault (λ i. i < length ends.now)) answers.now }
-    ensures text { OnOk result (string_bytes text.new
-        ≡ string_bytes text.old ++ word_lines plain ends.now answers.now) }
-{
-    if plain {
-        return Ok(());
-    }
-    push_answers(alloc, text, ends, answers)
-}
-
 /// Adds the lines of words, outputs and calls that aren't so.
-fn push_judged(alloc: Global, text: &mut String, judged: Judged<'_>) -> Result<(), AllocError>
-    requires there { All (λ a. IfSome a.fault (λ i. i < length judged.found.now.ends.items))
-        judged.answers.now }
-    requires outputs { All (λ f. IfSome f (λ i. i < length judged.found.now.ends.items))
-        judged.faults.now }
+fn push_judged(text: &mut String, judged: Judged<'_>) -> Result<(), AllocError>
     ensures text { OnOk result (string_bytes text.new
         ≡ string_bytes text.old
         ++ judged_lines judged.entry.asked.now judged.entry.found.now judged.entry.answers.now
@@ -203,15 +216,14 @@ fn push_judged(alloc: Global, text: &mut String, judged: Judged<'_>) -> Result<(
 {
     let asked = judged.asked;
     let ends = &judged.found.ends;
-    push_words(alloc, text, asked.plain, ends, judged.answers)?;
-    push_needs(alloc, text, ends, &asked.outputs, judged.faults)?;
-    push_calls(alloc, text, &asked.call_words, judged.ways)
+    push_words(text, asked.plain, ends, judged.answers)?;
+    push_needs(text, ends, &asked.outputs, judged.faults)?;
+    push_calls(text, &asked.call_words, judged.ways)
 }
 
 /// Adds the last lines: of walks how many were taken; else what was reached, a lasso, and whether everything was visited.
-#[tactic(auto, unfolding(crate::specs::Texts::walks_line))]
+#[tactic(auto, unfolding(crate::specs::Texts::walks_line, crate::specs::EndTexts::extent_line))]
 fn push_last(
-    alloc: Global,
     text: &mut String,
     walks: bool,
     never: &[Never],
@@ -220,22 +232,18 @@ fn push_last(
     ensures text { OnOk result (string_bytes text.new
         ≡ string_bytes text.old ++ last_lines walks never.now found.now) }
 {
+    let worlds = found.worlds;
     if walks {
-        let walks = found.worlds;
-        write!(text, "incomplete {walks} walks\n")?;
-        return Ok(());
+        return write!(text, "incomplete {worlds} walks\n");
     }
-    push_conditions(alloc, text, never, &found.reached)?;
-    push_lasso(alloc, text, &found.lasso)?;
-    push_extent(text, found.complete, found.worlds)
+    push_conditions(text, never, &found.reached)?;
+    let lasso = LassoLines(&found.lasso);
+    let extent = extent_of(found.complete);
+    write!(text, "{lasso}{extent} {worlds} worlds\n")
 }
 
 /// Tells what was found, by walks or by a search, and answers.
 pub(crate) fn tell(alloc: Global, judged: Judged<'_>, walks: bool) -> Result<Told, AllocError>
-    requires there { All (λ a. IfSome a.fault (λ i. i < length judged.found.now.ends.items))
-        judged.answers.now }
-    requires outputs { All (λ f. IfSome f (λ i. i < length judged.found.now.ends.items))
-        judged.faults.now }
     ensures text { IfOk result (λ told. string_bytes told.text
         ≡ answers_text walks judged.entry.asked.now judged.entry.found.now
         judged.entry.answers.now judged.entry.faults.now judged.entry.ways.now) }
@@ -247,7 +255,7 @@ pub(crate) fn tell(alloc: Global, judged: Judged<'_>, walks: bool) -> Result<Tol
 {
     let Judged { asked, found, .. } = judged;
     let mut told = told_of(alloc, asked.show, &found.ends)?;
-    push_judged(alloc, &mut told.text, judged)?;
-    push_last(alloc, &mut told.text, walks, &asked.never, found)?;
+    push_judged(&mut told.text, judged)?;
+    push_last(&mut told.text, walks, &asked.never, found)?;
     Ok(told)
 }

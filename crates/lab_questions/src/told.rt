@@ -5,10 +5,11 @@ ghost use Rattle.lab_questions.specs.EndTexts.{text_of, told_ends, ends_text, Ar
 ghost use Rattle.lab_questions.specs.Private.Told.{TellsNext};
 
 use crate::Show;
-use crate::lines::push_end;
+use crate::lines::Steps;
 use crate::shown::shown_text;
 use lab_worlds::End;
 use std::alloc::{AllocError, Global};
+use std::fmt::Write;
 
 /// The lines of the ends that are told, what is told of each, and their numbers among all ends.
 #[derive(Drop)]
@@ -19,15 +20,9 @@ pub(crate) struct Told {
 }
 
 fn is_among(text: &str, texts: &[String]) -> bool
-    ensures value { result
-        ≡ list_any (λ other. bytes_eq other text.now) (map string_bytes texts.now) }
+    ensures value { result ≡ list_any (λ other. bytes_eq (string_bytes other) text.now) texts.now }
 {
-    for other in texts {
-        if other.as_str() == text {
-            return true;
-        }
-    }
-    false
+    texts.iter().any(|other| other.as_str() == text)
 }
 
 impl Told {
@@ -40,7 +35,8 @@ impl Told {
             return Ok(());
         }
         let number = self.texts.len() + 1;
-        push_end(alloc, &mut self.text, number, &text, &end.schedule)?;
+        let steps = Steps(end.schedule.blocks());
+        write!(self.text, "end {number}\n{text}schedule {steps}\n")?;
         self.texts.push(text)?;
         self.numbers.push(at)?;
         Ok(())

@@ -1,5 +1,6 @@
-use Rattle.std.proofs.Common.{string_bytes, IfSome, rules, subst, sym}
+use Rattle.std.proofs.Common.{string_bytes, Global, IfSome, Vec, rules, subst, sym}
 use Rattle.lab_questions.specs.Called.{AreAlways, IsFailureOfAll}
+use Rattle.lab_conditions.specs.declared.never.Never.{Never}
 use Rattle.lab_questions.specs.declared.asked.Asked.{Asked}
 use Rattle.lab_questions.proofs.AnswerLemmas.{all_refuted, all_met}
 use Rattle.lab_questions.proofs.ClaimLemmas.{is_complete, has_no_lasso, tells_every_end, none_stuck}
@@ -7,6 +8,20 @@ use Rattle.lab_questions.proofs.FailureLemmas.{no_failure, all_come, all_other}
 use Rattle.lab_questions.proofs.OutputLemmas.{outputs_refuted, outputs_met}
 use Rattle.lab_questions.proofs.ToldLemmas.{tell_every_end}
 use Rattle.lab_questions.proofs.asking.ask.Goals as goal
+
+-- what was asked, with the conditions that a search leaves
+abbrev asked_for : Asked → Vec Never Global → Asked
+asked_for a never = record {
+  words = a.words;
+  outputs = a.outputs;
+  waiters = a.waiters;
+  never = never;
+  call_words = a.call_words;
+  wanted = a.wanted;
+  fair = a.fair;
+  show = a.show;
+  plain = a.plain;
+}
 
 pub returns-clause-refuted : goal.returns-clause-refuted
 returns-clause-refuted g c =
@@ -39,17 +54,7 @@ returns-clause-told g c complete =
 
 pub returns-clause-says_all : goal.returns-clause-says_all
 returns-clause-says_all g c says =
-    let asked : Asked = record {
-      words = c.args.asked.words;
-      outputs = c.args.asked.outputs;
-      waiters = c.args.asked.waiters;
-      never = c.find.new.never;
-      call_words = c.args.asked.call_words;
-      wanted = c.args.asked.wanted;
-      fair = c.args.asked.fair;
-      show = c.args.asked.show;
-      plain = c.args.asked.plain;
-    } in
+    let asked = asked_for c.args.asked c.find.new.never in
     let found = c.in_ok-found.found.exploration in
     let answers = c.in_ok-said.said.answers.items in
     let faults = c.in_ok-said.said.output_faults.items in
@@ -62,17 +67,7 @@ returns-clause-says_all g c says =
 
 pub returns-clause-says_free : goal.returns-clause-says_free
 returns-clause-says_free g c says quiet =
-    let asked : Asked = record {
-      words = c.args.asked.words;
-      outputs = c.args.asked.outputs;
-      waiters = c.args.asked.waiters;
-      never = c.find.new.never;
-      call_words = c.args.asked.call_words;
-      wanted = c.args.asked.wanted;
-      fair = c.args.asked.fair;
-      show = c.args.asked.show;
-      plain = c.args.asked.plain;
-    } in
+    let asked = asked_for c.args.asked c.find.new.never in
     let found = c.in_ok-found.found.exploration in
     let answers = c.in_ok-said.said.answers.items in
     let faults = c.in_ok-said.said.output_faults.items in
@@ -83,17 +78,7 @@ returns-clause-says_free g c says quiet =
 
 pub returns-clause-says_bounded : goal.returns-clause-says_bounded
 returns-clause-says_bounded g c unfair says quiet =
-    let asked : Asked = record {
-      words = c.args.asked.words;
-      outputs = c.args.asked.outputs;
-      waiters = c.args.asked.waiters;
-      never = c.find.new.never;
-      call_words = c.args.asked.call_words;
-      wanted = c.args.asked.wanted;
-      fair = c.args.asked.fair;
-      show = c.args.asked.show;
-      plain = c.args.asked.plain;
-    } in
+    let asked = asked_for c.args.asked c.find.new.never in
     let found = c.in_ok-found.found.exploration in
     let answers = c.in_ok-said.said.answers.items in
     let faults = c.in_ok-said.said.output_faults.items in

@@ -2,7 +2,7 @@ use Rattle.std.proofs.Common.{◌+◌, ◌++◌, ◌∷◌, [], take, ap, subst,
 use Rattle.std.proofs.lemmas.List.{take_all, take_more}
 use Rattle.lab_worlds.specs.Calls.{Alongside}
 use Rattle.lab_questions.specs.Outputs.{IsOutputAnswer}
-use Rattle.lab_questions.proofs.Watched.{alongside_push}
+use Rattle.lab_worlds.proofs.Pushes.{alongside_push}
 use Rattle.lab_questions.proofs.output.faults_in.Goals as goal
 
 pub loop-need-preserved : goal.loop-need-preserved

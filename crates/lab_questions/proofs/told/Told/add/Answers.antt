@@ -1,20 +1,21 @@
-use Rattle.std.proofs.Common.{ℕ, ◌≡◌, ◌∙◌, ◌+◌, [], ◌∷◌, ◌++◌, Bool, List, map, length, string_bytes, bytes_eq, sym, ap, arith}
+use Rattle.std.proofs.Common.{ℕ, ◌≡◌, ◌∙◌, ◌+◌, [], ◌∷◌, ◌++◌, Bool, Global, List, String, map, length, string_bytes, bytes_eq, sym, ap, arith}
 use Rattle.std.specs.List.{list_any}
 use Rattle.std.proofs.lemmas.List.{map_push, length-map}
 use Rattle.lab_worlds.specs.declared.ends.End.{End}
 use Rattle.lab_questions.specs.declared.asked.Show.{Show}
 use Rattle.lab_questions.specs.EndTexts.{text_of, told_ends, end_lines, ends_text}
 use Rattle.lab_questions.proofs.Numbered.{numbers_known, numbers_new}
-use Rattle.lab_questions.proofs.ToldEnds.{told-known, told-new}
-use Rattle.lab_questions.proofs.TextLemmas.{ends-push}
+use Rattle.lab_questions.proofs.ToldEnds.{any-map, told-known, told-new}
+use Rattle.lab_questions.proofs.TextLemmas.{end_told, ends-push}
 use Rattle.lab_questions.proofs.told.Told.add.Goals as goal
 
 -- the answer is that of the ends that are told
-answered : (show : Show) (es : List End) (e : End) (others : List (List ℕ)) (text : List ℕ) (r known : Bool) → others ≡ map (text_of show) (told_ends show es)
-    → text ≡ text_of show e → r ≡ list_any (λ other. bytes_eq other text) others → r ≡ known
+answered : (show : Show) (es : List End) (e : End) (others : List (String Global)) (text : List ℕ) (r known : Bool) → map string_bytes others ≡ map (text_of show) (told_ends show es)
+    → text ≡ text_of show e → r ≡ list_any (λ other. bytes_eq (string_bytes other) text) others → r ≡ known
     → list_any (λ other. bytes_eq other (text_of show e)) (map (text_of show) (told_ends show es)) ≡ known
 answered show es e others text r known told is value here =
-    ap (λ xs. list_any (λ other. bytes_eq other (text_of show e)) xs) (sym told) ∙ ap (λ x. list_any (λ other. bytes_eq other x) others) (sym is) ∙ sym value ∙ here
+    let test = λ (other : List ℕ). bytes_eq other (text_of show e) in
+    ap (list_any test) (sym told) ∙ any-map string_bytes test others ∙ ap (λ x. list_any (λ other. bytes_eq (string_bytes other) x) others) (sym is) ∙ sym value ∙ here
 
 pub returns-then-is_among : goal.returns-then-is_among
 returns-then-is_among c = record {
@@ -40,14 +41,15 @@ returns c = record {
       let others = ap (map string_bytes) c.deref-2.ensures.value ∙ told.texts in
       let text = c.deref.ensures ∙ c.in_ok-text.ensures.text in
       let is_new = told-new show ends e (answered show ends e _ _ _ _ others text c.is_among.ensures.value c.if-is_among.false) in
-      let again = c.deref-3.ensures ∙ c.in_ok-text.ensures.text in
-      let count : c.len-number.result + 1 ≡ 1 + length (told_ends show ends) =
+      let count : c.len.result + 1 ≡ 1 + length (told_ends show ends) =
       let same = ap length told.texts in
-      omega (arith, same, length-map old.texts.items string_bytes, length-map (told_ends show ends) (text_of show), c.len-number.ensures, old.texts.ok.0) in
+      omega (arith, same, length-map old.texts.items string_bytes, length-map (told_ends show ends) (text_of show), c.len.ensures, old.texts.ok.0) in
       record {
-        text = c.in_ok-push_end.ensures.text ∙ ap (λ t. t ++ end_lines (c.len-number.result + 1) c.deref-3.result.now e.schedule) told.text
-            ∙ ap (λ n. ends_text show 1 (told_ends show ends) ++ end_lines n c.deref-3.result.now e.schedule) count
-            ∙ ap (λ r. ends_text show 1 (told_ends show ends) ++ end_lines (1 + length (told_ends show ends)) r e.schedule) again
+        text = c.in_ok-write.ensures.bytes ∙ end_told (string_bytes old.text) (c.len.result + 1) (string_bytes c.in_ok-text.text) c.blocks-2.result.now
+            ∙ ap (λ t. t ++ end_lines (c.len.result + 1) (string_bytes c.in_ok-text.text) c.blocks-2.result.now) told.text
+            ∙ ap (λ n. ends_text show 1 (told_ends show ends) ++ end_lines n (string_bytes c.in_ok-text.text) c.blocks-2.result.now) count
+            ∙ ap (λ r. ends_text show 1 (told_ends show ends) ++ end_lines (1 + length (told_ends show ends)) r c.blocks-2.result.now) c.in_ok-text.ensures.text
+            ∙ ap (λ s. ends_text show 1 (told_ends show ends) ++ end_lines (1 + length (told_ends show ends)) (text_of show e) s) c.blocks-2.ensures.value
             ∙ sym (ends-push show 1 (told_ends show ends) e) ∙ ap (ends_text show 1) (sym is_new);
         texts = ap (map string_bytes) c.in_ok-push.ensures.items ∙ map_push string_bytes old.texts.items c.in_ok-text.text
             ∙ ap (λ rs. rs ++ string_bytes c.in_ok-text.text ∷ []) told.texts

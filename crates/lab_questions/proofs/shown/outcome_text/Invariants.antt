@@ -1,7 +1,7 @@
 use Rattle.std.proofs.Common.{◌≡◌, ◌++◌, string_bytes}
 use Rattle.lab_texts.specs.Texts.{out_text}
 use Rattle.lab_texts.specs.Rows.{texts_below}
-use Rattle.lab_questions.proofs.shown.push_outputs.Given as goal
+use Rattle.lab_questions.proofs.shown.outcome_text.Given as goal
 
 -- the lines so far are added
 abbrev pub invariant-loop-pid : goal.invariant-loop-pid

@@ -1,6 +1,6 @@
 use Rattle.std.proofs.Common.{◌≡◌, ◌++◌, flat_map, take, string_bytes}
 use Rattle.lab_questions.specs.Texts.{answer_lines}
-use Rattle.lab_questions.proofs.texts.push_answers.Given as goal
+use Rattle.lab_questions.proofs.texts.push_words.Given as goal
 
 -- the answers so far are told
 abbrev pub invariant-loop-answer : goal.invariant-loop-answer

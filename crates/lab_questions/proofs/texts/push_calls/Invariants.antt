@@ -1,7 +1,7 @@
 use Rattle.std.proofs.Common.{◌≡◌, ◌++◌, slice_get, string_bytes}
 use Rattle.lab_texts.specs.Rows.{texts_below}
 use Rattle.lab_questions.specs.Called.{call_lines}
-use Rattle.lab_questions.proofs.called.push_calls.Given as goal
+use Rattle.lab_questions.proofs.texts.push_calls.Given as goal
 
 -- the lines so far are added
 abbrev pub invariant-loop-number : goal.invariant-loop-number
