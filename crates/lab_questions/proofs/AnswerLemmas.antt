@@ -1,5 +1,5 @@
 -- What answers on the ends of an exploration say of programs.
-use Rattle.std.proofs.Common.{ℕ, ◌≡◌, ◌<◌, List, [], ◌∷◌, get_or, Option, Some, None, All, IfSome, slice_get, length, map, sym, ap, subst, refl, ◌∙◌}
+use Rattle.std.proofs.Common.{ℕ, ◌≡◌, List, [], ◌∷◌, get_or, Option, Some, None, All, IfSome, slice_get, map, sym, ap, subst, refl, ◌∙◌}
 use Rattle.lab_sched.specs.declared.verdict.Verdict.TheVariants as verdict
 use Rattle.lab_sched.specs.Schedules.{steps_of}
 use Rattle.lab_sched.specs.Worlds.{WorldState, run, machine_of}

@@ -1,5 +1,5 @@
 -- What the text says of programs, by what was found of them.
-use Rattle.std.proofs.Common.{ℕ, ◌≡◌, ◌+◌, Bool, true, false, List, [], ◌∷◌, ◌++◌, Option, Some, None, get_or, slice_get, All, refl, sym, ap, subst, ◌∙◌, append_assoc, append-nil, flat_map, codes, decimal, string_bytes, arith, ◌≤◌}
+use Rattle.std.proofs.Common.{ℕ, ◌≡◌, ◌+◌, Bool, true, false, List, [], ◌∷◌, ◌++◌, Option, Some, None, get_or, slice_get, refl, sym, ap, subst, ◌∙◌, append_assoc, append-nil, flat_map, codes, decimal, string_bytes, arith, ◌≤◌}
 use Rattle.std.specs.List.Sorted.{IsNonDecreasingBy}
 use Rattle.std.proofs.lemmas.Option.{slice_get-get_or}
 use Rattle.ipc_kernel.specs.Kernel.{KernelState}
@@ -59,9 +59,7 @@ unfolding schedule_line
 need_whole ends (Some need) (Some (Some i)) = lines-onto (codes "not " ++ string_bytes need.text ++ codes "\n") (codes "schedule " ++ schedule_text (schedule_at ends i))
 need_whole ends (Some need) (Some None) = tt
 need_whole ends (Some need) None = tt
-need_whole ends None (Some (Some i)) = tt
-need_whole ends None (Some None) = tt
-need_whole ends None None = tt
+need_whole ends None fault = tt
 
 needs_whole : (ends : List End) (needs : List OutputNeed) (faults : List (Option ℕ)) → AreLines (needs_lines ends needs faults)
 unfolding needs_lines
@@ -73,10 +71,7 @@ call_whole (Some word) (Some (Without s)) = lines-onto (call_head word.never ++ 
 call_whole (Some word) (Some Always) = tt
 call_whole (Some word) (Some Unknown) = tt
 call_whole (Some word) None = tt
-call_whole None (Some (Without s)) = tt
-call_whole None (Some Always) = tt
-call_whole None (Some Unknown) = tt
-call_whole None None = tt
+call_whole None ways = tt
 
 calls_whole : (words : List CallWord) (ways : List Ways) → AreLines (calls_lines words ways)
 unfolding calls_lines
@@ -94,9 +89,7 @@ unfolding schedule_line
 condition_whole (Some c) (Some (Some s)) = lines-onto (codes "reached " ++ never_text c ++ codes "\n") (codes "schedule " ++ schedule_text s)
 condition_whole (Some c) (Some None) = tt
 condition_whole (Some c) None = tt
-condition_whole None (Some (Some s)) = tt
-condition_whole None (Some None) = tt
-condition_whole None None = tt
+condition_whole None s = tt
 
 reached_whole : (never : List Never) (reached : List (Option (List Block))) → AreLines (reached_lines never reached)
 unfolding reached_lines

@@ -27,3 +27,7 @@ same_lists (x ∷ xs) (y ∷ ys) count each =
 pub none_from : (o : Option ℕ) → is_some o ≡ false → o ≡ None
 none_from None e = refl
 none_from (Some i) e = cc
+
+pub none_unless : (o : Option ℕ) → ((x : ℕ) → o ≡ Some x → ⊥) → o ≡ None
+none_unless None not = refl
+none_unless (Some x) not = absurd (not x refl)

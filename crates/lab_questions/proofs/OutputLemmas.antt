@@ -1,15 +1,13 @@
 -- What the answers on outputs say of programs.
-use Rattle.std.proofs.Common.{ℕ, zero, suc, ◌≡◌, ◌<◌, ◌↔◌, Bool, true, List, [], ◌∷◌, Option, Some, None, All, Any, IfSome, slice_get, length, map, sym, ap, subst, ◌∙◌, arith}
-use Rattle.std.proofs.lemmas.Option.{slice_get_within}
+use Rattle.std.proofs.Common.{ℕ, ◌≡◌, List, Option, Some, None, All, Any, IfSome, slice_get, map, sym, ap, subst}
 use Rattle.lab_sched.specs.Worlds.{WorldState, run, machine_of}
 use Rattle.lab_worlds.specs.declared.ends.End.{End}
-use Rattle.lab_worlds.specs.Calls.{Both, Alongside, AreAlike}
+use Rattle.lab_worlds.specs.Calls.{Alongside, AreAlike}
 use Rattle.lab_worlds.specs.Closed.{AreAtRest}
 use Rattle.lab_worlds.proofs.Pushes.{all_at, both_weaker}
 use Rattle.lab_worlds.specs.Ends.{IsEnd, AreEnds, HaveAllEnds}
 use Rattle.lab_questions.specs.declared.output.OutputNeed.{OutputNeed}
-use Rattle.lab_questions.specs.declared.output.OutputPart.{OutputPart}
-use Rattle.lab_questions.specs.Outputs.{Fits, HasOutput, HasWritten, IsWrittenAt, IsOutputAnswer, AlwaysWritten, IsOutputRefuted}
+use Rattle.lab_questions.specs.Outputs.{HasOutput, HasWritten, IsWrittenAt, IsOutputAnswer, AlwaysWritten, IsOutputRefuted}
 use Rattle.lab_questions.specs.Texts.{schedule_of, schedule_at}
 
 -- what follows at each place

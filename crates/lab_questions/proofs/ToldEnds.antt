@@ -1,11 +1,12 @@
 -- Which ends are told.
-use Rattle.std.proofs.Common.{ℕ, zero, suc, ◌≡◌, ◌≢◌, ◌<◌, Bool, true, false, not, ◌||◌, cond, List, [], ◌∷◌, ◌++◌, Some, slice_get, get_or, length, map, filter, All, Any, AllPairs, Contains, bytes_eq, refl, sym, true≢false, ap, subst, ◌∙◌, append-nil, arith}
+use Rattle.std.proofs.Common.{ℕ, zero, suc, ◌≡◌, ◌≢◌, Bool, true, false, not, ◌||◌, cond, List, [], ◌∷◌, ◌++◌, Some, slice_get, get_or, map, filter, All, Any, AllPairs, Contains, bytes_eq, refl, sym, true≢false, ap, subst, ◌∙◌, append-nil, arith}
 use Rattle.std.specs.List.{list_any}
 use Rattle.std.proofs.lemmas.Bool.{not-false, not-true}
 use Rattle.std.proofs.lemmas.Option.{slice_get_within, slice_get-get_or, get_or_from_slice_get}
 use Rattle.std.proofs.lemmas.Slice.Eq.{bytes_eq-Decides}
 use Rattle.std.proofs.lemmas.List.Elements.{All-cons, All-head, All-tail, All-filter, All-weaker, All-contains_itself, filter-append, filter_passes}
 use Rattle.std.proofs.lemmas.List.Kept.{AllPairs-cons, AllPairs-filter}
+use Rattle.std.proofs.lemmas.Map.Views.{any-filter_same}
 use Rattle.lab_worlds.specs.declared.ends.End.{End}
 use Rattle.lab_questions.specs.declared.asked.Show.{Show}
 use Rattle.lab_questions.specs.EndTexts.{text_of, has_other_text, told_ends}
@@ -91,17 +92,6 @@ module _ (show : Show) where
   new_end true e = []
   new_end false e = e ∷ []
 
-  -- a filter keeps the answer where it keeps all that pass
-  any-filter : (p q : End → Bool) → ((x : End) → q x ≡ true → p x ≡ true) → (xs : List End) → list_any q (filter p xs) ≡ list_any q xs
-  any-filter p q keeps [] = refl
-  any-filter p q keeps (x ∷ xs) = by (any-filter p q keeps xs) (p x) refl (q x) refl
-    where
-      by : list_any q (filter p xs) ≡ list_any q xs → (a : Bool) → p x ≡ a → (b : Bool) → q x ≡ b
-          → list_any q (filter p (x ∷ xs)) ≡ list_any q (x ∷ xs)
-      by later true h b k = rw h (ap (λ r. q x || r) later)
-      by later false h true k = let pass : p x ≡ true = keeps x k in cc
-      by later false h false k = rw (h, k) later
-
   -- one end more
   told-push : (es : List End) (e : End) → told_ends show (es ++ e ∷ []) ≡ told_ends show es ++ new_end (list_any (has_text e) (told_ends show es)) e
   unfolding told_ends
@@ -134,7 +124,7 @@ module _ (show : Show) where
           alone (list_any (has_text e) (told_ends show xs)) (ap not is) ∙ ap (λ b. new_end (b || list_any (has_text e) others) e) (sym is)
       by known false is =
           kept (list_any (has_text e) (told_ends show xs)) (ap not is)
-          ∙ ap (λ b. new_end b e) (sym (any-filter (has_other_text show x) (has_text e) (keeps is) (told_ends show xs)))
+          ∙ ap (λ b. new_end b e) (sym (any-filter_same (has_text e) (has_other_text show x) true (keeps is) (told_ends show xs)))
           ∙ ap (λ b. new_end (b || list_any (has_text e) others) e) (sym is)
 
   pub told-known : (es : List End) (e : End) → list_any (λ r. bytes_eq r (text_of show e)) (map (text_of show) (told_ends show es)) ≡ true

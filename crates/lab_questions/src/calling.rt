@@ -320,19 +320,6 @@ fn forbidden_in(alloc: Global, words: &[&[u8]]) -> Result<Option<Pattern>, Alloc
     }
 }
 
-/// What must be so on every way, by the words behind a process, or by all.
-fn pattern_in(alloc: Global, never: bool, words: &[&[u8]]) -> Result<Option<Pattern>, AllocError>
-    ensures pattern { IfOk result (λ read. IfSome read (λ pattern.
-        Say (map (λ word. word.now) words.now) pattern)) }
-    ensures forbids { IfOk result (λ read. IfSome read (λ pattern. forbids pattern ≡ never)) }
-{
-    if never {
-        forbidden_in(alloc, words)
-    } else {
-        required_in(alloc, words)
-    }
-}
-
 /// The process that words name first, and the words behind it.
 fn process_of<'a, 'b>(words: &'a [&'b [u8]]) -> (Option<usize>, &'a [&'b [u8]])
     ensures words { (pattern : Calls) → Say (map (λ word. word.now) result.1.now) pattern
@@ -357,7 +344,12 @@ pub fn read_calls(alloc: Global, text: &str, never: bool) -> Result<Option<Wante
 {
     let words = words_between(alloc, b" ,", text.as_bytes())?;
     let (process, rest) = process_of(&words);
-    match pattern_in(alloc, never, rest)? {
+    let pattern = if never {
+        forbidden_in(alloc, rest)
+    } else {
+        required_in(alloc, rest)
+    };
+    match pattern? {
         Some(pattern) => Ok(Some(Wanted { process, pattern })),
         None => Ok(None),
     }

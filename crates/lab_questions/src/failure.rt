@@ -29,14 +29,15 @@ pub enum Failure {
     Incomplete,
 }
 
-fn unmet_word(answers: &[Answer]) -> Option<Word>
+/// The first word that isn't so, and the number of the first end that shows it, counted from 0.
+pub(crate) fn first_unmet(answers: &[Answer]) -> Option<(Word, usize)>
     ensures none { result ≡ None → All (λ a. a.fault ≡ None) answers.now }
-    ensures some { IfSome result (λ word.
-        IsUnmet answers.now word) }
+    ensures word { IfSome result (λ unmet. IsUnmet answers.now unmet.0) }
+    ensures fault { IfSome result (λ unmet. Any (λ a. a.fault ≡ Some unmet.1) answers.now) }
 {
     for answer in answers {
-        if answer.fault.is_some() {
-            return Some(answer.word);
+        if let Some(number) = answer.fault {
+            return Some((answer.word, number));
         }
     }
     None
@@ -121,7 +122,7 @@ fn failure_of(
     if plain && endless {
         return Some(Failure::Endless);
     }
-    if let Some(word) = unmet_word(answers) {
+    if let Some((word, _)) = first_unmet(answers) {
         return Some(Failure::Not(word));
     }
     if let Some(number) = first_unwritten(faults) {

@@ -12,22 +12,6 @@ use lab_texts::{NameText, push_message};
 use std::alloc::{AllocError, Global};
 use std::fmt::Write;
 
-/// Adds the line of a message in a queue of this name, or of none.
-#[tactic(auto, unfolding(crate::specs::Left::left_line))]
-fn push_left_message(
-    text: &mut String,
-    name: Option<&Name>,
-    priority: u16,
-    words: &[u16],
-) -> Result<(), AllocError>
-    ensures text { OnOk result (string_bytes text.new ≡ string_bytes text.old
-        ++ left_line (option_copied name.entry) (record { priority = priority; words = words.now })) }
-{
-    let name = NameText(name);
-    write!(text, "left {name}")?;
-    push_message(text, priority, words)
-}
-
 /// Adds the lines of the messages in a queue of this name, or of none, in the order in which they would
 /// be received.
 fn push_messages(text: &mut String, name: Option<&Name>, queue: &Queue) -> Result<(), AllocError>
@@ -39,7 +23,9 @@ fn push_messages(text: &mut String, name: Option<&Name>, queue: &Queue) -> Resul
         let Some((priority, words)) = queue.entry(i as usize) else {
             return Ok(());
         };
-        push_left_message(text, name, priority, words)?;
+        let name = NameText(name);
+        write!(text, "left {name}")?;
+        push_message(text, priority, words)?;
     }
     Ok(())
 }

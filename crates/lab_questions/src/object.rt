@@ -1,7 +1,7 @@
 //! Semaphores and queues that conditions name.
 ghost use Rattle.std.specs.Prelude.{◌≡◌, ◌++◌, All, AllPairs, Contains, IfOk, OnOk, flat_map};
 ghost use Rattle.std.specs.Option.{option_to_list};
-ghost use Rattle.lab_questions.specs.Objects.{objects_in, objects_of, named, StandsBefore};
+ghost use Rattle.lab_questions.specs.Objects.{objects_in, named, StandsBefore};
 ghost use Rattle.lab_questions.specs.Private.Presences.{AddsNew};
 
 use ipc_names::Name;
@@ -61,23 +61,16 @@ fn push_objects(objects: &mut Vec<Object>, parts: &[Part]) -> Result<(), AllocEr
     Ok(())
 }
 
-fn push_named(objects: &mut Vec<Object>, condition: &Never) -> Result<(), AllocError>
-    ensures objects { OnOk result
-        (objects.new.items ≡ objects.old.items ++ objects_of condition.now) }
-{
-    match condition {
-        Never::Holds(condition) => push_objects(objects, &condition.parts),
-        Never::Lost | Never::Refused(_) => Ok(()),
-    }
-}
-
 /// The objects that conditions name, as often as they do.
 fn all_named(alloc: Global, conditions: &[Never]) -> Result<Vec<Object>, AllocError>
     ensures objects { IfOk result (λ objects. objects.items ≡ named conditions.now) }
 {
     let mut objects = Vec::new(alloc);
     for condition in conditions {
-        push_named(&mut objects, condition)?;
+        match condition {
+            Never::Holds(condition) => push_objects(&mut objects, &condition.parts)?,
+            Never::Lost | Never::Refused(_) => {}
+        }
     }
     Ok(objects)
 }

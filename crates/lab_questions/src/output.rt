@@ -78,32 +78,16 @@ fn has_output(part: &OutputPart, world: &World) -> bool
     }
 }
 
-fn lacks_output(part: &OutputPart, world: &World) -> bool
-    ensures no { result ≡ false → HasOutput part.now (outputs world.now) }
-    ensures yes { IsTrue result → HasOutput part.now (outputs world.now) → ⊥ }
-{
-    !has_output(part, world)
-}
-
 fn have_outputs(parts: &[OutputPart], world: &World) -> bool
     ensures written { IsTrue result
         ↔ All (λ part. HasOutput part (outputs world.now)) parts.now }
 {
     for part in parts {
-        if lacks_output(part, world) {
+        if !has_output(part, world) {
             return false;
         }
     }
     true
-}
-
-fn is_written(alternative: &Alternative, world: &World) -> bool
-    ensures yes { IsTrue result
-        → All (λ part. HasOutput part (outputs world.now)) alternative.now.parts.items }
-    ensures no { result ≡ false
-        → All (λ part. HasOutput part (outputs world.now)) alternative.now.parts.items → ⊥ }
-{
-    have_outputs(&alternative.parts, world)
 }
 
 fn is_any_written(alternatives: &[Alternative], world: &World) -> bool
@@ -112,7 +96,7 @@ fn is_any_written(alternatives: &[Alternative], world: &World) -> bool
         alternatives.now }
 {
     for alternative in alternatives {
-        if is_written(alternative, world) {
+        if have_outputs(&alternative.parts, world) {
             return true;
         }
     }

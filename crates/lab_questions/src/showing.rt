@@ -9,23 +9,11 @@ ghost use Rattle.lab_questions.specs.Called.{ShowsWay};
 ghost use Rattle.lab_questions.specs.Texts.{IsBeyond, IsTooLong, ShowsFault, ShowsOutput, ShowsReached, ShowsLasso};
 
 use crate::called::way_schedule;
+use crate::failure::first_unmet;
 use crate::{Answer, Answers, Failure};
 use lab_sched::{SchedFault, Schedule};
 use lab_worlds::{Exploration, Lasso};
 use std::alloc::{AllocError, Global};
-
-/// The number of the first end that isn't as the first word that isn't so requires.
-fn first_fault(answers: &[Answer]) -> Option<usize>
-    ensures none { result ≡ None → All (λ a. a.fault ≡ None) answers.now }
-    ensures some { IfSome result (λ i. Any (λ a. a.fault ≡ Some i) answers.now) }
-{
-    for answer in answers {
-        if answer.fault.is_some() {
-            return answer.fault;
-        }
-    }
-    None
-}
 
 /// The text of the schedule of the first end that isn't as it is required.
 fn fault_schedule(
@@ -39,7 +27,7 @@ fn fault_schedule(
         → All (λ a. a.fault ≡ None) answers.now
         ⊎ Any (IsBeyond (length found.now.ends.items)) answers.now) }
 {
-    let Some(number) = first_fault(answers) else {
+    let Some((_, number)) = first_unmet(answers) else {
         return Ok(None);
     };
     match found.ends.get(number) {

@@ -1,7 +1,7 @@
 //! Values of JSON.
-ghost use Rattle.std.specs.Prelude.{◌≡◌, Some, IfOk, flat_map, map, string_bytes};
+ghost use Rattle.std.specs.Prelude.{◌≡◌, Some, IfOk, map, string_bytes};
 ghost use Rattle.lab_questions.specs.ProcessMembers.{word_json};
-ghost use Rattle.lab_questions.specs.Values.{number_json, character_json, text_json, schedule_json, truth_json, further_json, values_json, array_json, name_json};
+ghost use Rattle.lab_questions.specs.Values.{number_json, character_json, text_json, schedule_json, truth_json, values_json, array_json, name_json};
 
 use lab_sched::Schedule;
 use lc3_word::Hex;
@@ -45,21 +45,6 @@ impl fmt::Display for Character {
     }
 }
 
-#[derive(Clone, Copy)]
-struct Characters<'a>(&'a [u8]);
-
-impl fmt::Display for Characters<'_> {
-    ghost output = { λ c. Some (flat_map character_json c.0.now) };
-
-    fn fmt<W: fmt::Write>(&self, f: &mut fmt::Formatter<W>) -> fmt::Result {
-        for number in self.0 {
-            let character = Character(*number);
-            write!(f, "{character}")?;
-        }
-        Ok(())
-    }
-}
-
 /// The text of characters, by their numbers.
 #[derive(Clone, Copy)]
 pub(crate) struct Text<'a>(pub &'a [u8]);
@@ -69,8 +54,12 @@ impl fmt::Display for Text<'_> {
 
     #[tactic(auto, unfolding(crate::specs::Values::text_json))]
     fn fmt<W: fmt::Write>(&self, f: &mut fmt::Formatter<W>) -> fmt::Result {
-        let characters = Characters(self.0);
-        write!(f, "\"{characters}\"")
+        write!(f, "\"")?;
+        for number in self.0 {
+            let character = Character(*number);
+            write!(f, "{character}")?;
+        }
+        write!(f, "\"")
     }
 }
 
@@ -112,21 +101,6 @@ impl fmt::Display for Truth {
     }
 }
 
-/// Values behind others, each behind a comma.
-#[derive(Clone, Copy)]
-struct Further<'a>(&'a [String]);
-
-impl fmt::Display for Further<'_> {
-    ghost output = { λ v. Some (further_json (map string_bytes v.0.now)) };
-
-    fn fmt<W: fmt::Write>(&self, f: &mut fmt::Formatter<W>) -> fmt::Result {
-        for value in self.0 {
-            write!(f, ",{value}")?;
-        }
-        Ok(())
-    }
-}
-
 /// Values with commas between them.
 #[derive(Clone, Copy)]
 pub(crate) struct Listed<'a>(pub &'a [String]);
@@ -137,8 +111,11 @@ impl fmt::Display for Listed<'_> {
     fn fmt<W: fmt::Write>(&self, f: &mut fmt::Formatter<W>) -> fmt::Result {
         match self.0.split_first() {
             Some((first, rest)) => {
-                let rest = Further(rest);
-                write!(f, "{first}{rest}")
+                write!(f, "{first}")?;
+                for value in rest {
+                    write!(f, ",{value}")?;
+                }
+                Ok(())
             }
             None => Ok(()),
         }

@@ -11,15 +11,15 @@ loop-part-preserved c =
     let i = c.loop-part.part-index in
     let part = c.part-item.result in
     all_more (λ part. HasOutput part (outputs c.args.world.now)) parts i c.loop-part-test.true c.loop-part.invariant
-    (λ d. subst (λ part. HasOutput part (outputs c.args.world.now)) (c.part-item.is ∙ get_or_default parts i part d c.loop-part-test.true) (c.lacks_output.ensures.no c.if-lacks_output.false))
+    (λ d. subst (λ part. HasOutput part (outputs c.args.world.now)) (c.part-item.is ∙ get_or_default parts i part d c.loop-part-test.true) (c.if-not-has_output.ensures.written.0 refl))
 
-pub returns-then-lacks_output : goal.returns-then-lacks_output
-returns-then-lacks_output c =
+pub returns-then-not-has_output : goal.returns-then-not-has_output
+returns-then-not-has_output c =
     record {
       written = (
         λ no. absurd (let f : false ≡ true = no in cc),
-        λ all. absurd (c.lacks_output.ensures.yes c.if-lacks_output.true
-            (subst (λ part. HasOutput part (outputs c.args.world.now)) (sym c.part-item.is) (all c.loop-part.part-index c.part-item.result c.loop-part-test.true))),
+        λ all. absurd (let f : false ≡ true = c.if-not-has_output.ensures.written.1
+            (subst (λ part. HasOutput part (outputs c.args.world.now)) (sym c.part-item.is) (all c.loop-part.part-index c.part-item.result c.loop-part-test.true)) in cc),
       );
     }
 

@@ -11,13 +11,13 @@ loop-alternative-preserved c =
     let i = c.loop-alternative.alternative-index in
     let alternative = c.alternative-item.result in
     all_more (λ a. All (λ part. HasOutput part (outputs c.args.world.now)) a.parts.items → ⊥) alternatives i c.loop-alternative-test.true c.loop-alternative.invariant
-    (λ d so. c.is_written.ensures.no c.if-is_written.false
-    (subst (λ a. All (λ part. HasOutput part (outputs c.args.world.now)) a.parts.items) (sym (c.alternative-item.is ∙ get_or_default alternatives i alternative d c.loop-alternative-test.true)) so))
+    (λ d so. let f : false ≡ true = c.if-have_outputs.ensures.written.1 (subst (All (λ part. HasOutput part (outputs c.args.world.now))) (sym c.deref.ensures.value)
+    (subst (λ a. All (λ part. HasOutput part (outputs c.args.world.now)) a.parts.items) (sym (c.alternative-item.is ∙ get_or_default alternatives i alternative d c.loop-alternative-test.true)) so)) in absurd (cc))
 
-pub returns-then-is_written : goal.returns-then-is_written
-returns-then-is_written c = record {
+pub returns-then-have_outputs : goal.returns-then-have_outputs
+returns-then-have_outputs c = record {
   written = (
-    λ yes. (c.loop-alternative.alternative-index, c.alternative-item.result, c.loop-alternative-test.true, sym c.alternative-item.is, c.is_written.ensures.yes c.if-is_written.true),
+    λ yes. (c.loop-alternative.alternative-index, c.alternative-item.result, c.loop-alternative-test.true, sym c.alternative-item.is, subst (All (λ part. HasOutput part (outputs c.args.world.now))) c.deref.ensures.value (c.if-have_outputs.ensures.written.0 refl)),
     λ any. refl,
   );
 }

@@ -1,5 +1,5 @@
 use Rattle.std.proofs.Common.{◌≡◌, None, All, take}
-use Rattle.lab_questions.proofs.showing.first_fault.Given as goal
+use Rattle.lab_questions.proofs.failure.first_unmet.Given as goal
 
 -- the words so far are so
 abbrev pub invariant-loop-answer : goal.invariant-loop-answer

@@ -1,7 +1,7 @@
 use Rattle.std.proofs.Common.{flat_map, take}
 use Rattle.std.specs.Fmt.{HasWritten, IsPlainFormatter}
 use Rattle.lab_questions.specs.Values.{character_json}
-use Rattle.lab_questions.proofs.json.values.CharactersDisplay.fmt.Given as goal
+use Rattle.lab_questions.proofs.json.values.TextDisplay.fmt.Given as goal
 
 -- the characters so far are written
 abbrev pub invariant-loop-number : goal.invariant-loop-number
