@@ -45,8 +45,7 @@ meets Same waiters first w v e f other alike here there a b =
     written x y is = ap (λ ps. map (λ s. (machine_of s).output) ps) is.processes
 
 if_some : (P : End → Type 0) (o : Option End) (e : End) → o ≡ Some e → IfSome o P → P e
-if_some P None e is h = absurd (cc)
-if_some P (Some x) e is h = let same : x ≡ e = cc in subst P same h
+if_some P o e is h = subst (λ x. IfSome x P) is h
 
 none_first : (es : List End) (i : ℕ) (e : End) → slice_get es 0 ≡ None → slice_get es i ≡ Some e → ⊥
 none_first [] i e none has = absurd (cc)

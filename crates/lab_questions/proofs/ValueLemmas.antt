@@ -1,8 +1,8 @@
 -- Values of JSON, one after the other.
-use Rattle.std.proofs.Common.{ℕ, zero, suc, ◌≡◌, ◌<◌, ◌≤◌, ◌+◌, Option, Some, None, String, Global, List, [], ◌∷◌, ◌++◌, filter_map, length, map, min, zip, slice_get, get_or, string_bytes, take, take_all, refl, sym, ap, ◌∙◌, append_assoc, arith}
+use Rattle.std.proofs.Common.{ℕ, ◌≡◌, ◌<◌, ◌≤◌, ◌+◌, Option, Some, None, String, Global, List, [], ◌∷◌, ◌++◌, filter_map, length, map, min, zip, slice_get, get_or, string_bytes, take, take_all, refl, sym, ap, ap₂, ◌∙◌, append_assoc, arith}
 use Rattle.std.proofs.lemmas.List.{map-append, take_more}
 use Rattle.std.proofs.lemmas.List.FromFn.{length-enumerate_from, get_or-enumerate_from}
-use Rattle.std.proofs.lemmas.Slice.Zip.{length-zip}
+use Rattle.std.proofs.lemmas.Slice.Zip.{get_or-zip, length-zip}
 use Rattle.std.proofs.lemmas.List.Elements.{filter_map-append}
 use Rattle.std.proofs.lemmas.Option.{slice_get_read, slice_get_within, slice_get-get_or, get_or_from_slice_get}
 use Rattle.std.specs.List.{enumerate_from}
@@ -43,23 +43,14 @@ given-next h xs i x olds now next told at before added is =
     ∙ ap (λ vs. olds ++ (front ++ vs)) (sym (one-given h x))
     ∙ ap (λ vs. olds ++ vs) (sym (filter_map-append h (take i xs) (x ∷ [])) ∙ ap (filter_map h) (sym (take-next xs i x at)))
 
--- elements beside each other
-zip-at : {X Y : Type 0} (xs : List X) (ys : List Y) (i : ℕ) (x : X) (y : Y) → slice_get xs i ≡ Some x → slice_get ys i ≡ Some y → slice_get (zip xs ys) i ≡ Some (x, y)
-zip-at [] ys i x y here there = absurd (cc)
-zip-at (a ∷ ws) [] i x y here there = absurd (cc)
-zip-at (a ∷ ws) (b ∷ zs) zero x y here there =
-    let first : a ≡ x = cc in
-    let second : b ≡ y = cc in
-    ap (λ u. Some (u, b)) first ∙ ap (λ v. Some (x, v)) second
-zip-at (a ∷ ws) (b ∷ zs) (suc i) x y here there = zip-at ws zs i x y here there
-
 -- what the elements beside each other give, and the next ones
 pub zipped-next : {X Y : Type 0} (h : X × Y → Option (List ℕ)) (xs : List X) (ys : List Y) (i : ℕ) (x : X) (y : Y) (olds now next : List (List ℕ)) (told : Option (List ℕ))
     → i < length xs → i < length ys → x ≡ get_or xs i x → y ≡ get_or ys i y → now ≡ olds ++ filter_map h (take i (zip xs ys)) → next ≡ now ++ option_to_list told
     → told ≡ h (x, y) → next ≡ olds ++ filter_map h (take (i + 1) (zip xs ys))
 zipped-next h xs ys i x y olds now next told one two here there =
     given-next h (zip xs ys) i (x, y) olds now next told
-    (zip-at xs ys i x y (slice_get_read xs (length xs) i x refl one here) (slice_get_read ys (length ys) i y refl two there))
+    (slice_get_read (zip xs ys) (length (zip xs ys)) i (x, y) refl (omega (arith, length-zip xs ys, one, two))
+    (ap₂ (λ a b. (a, b)) here there ∙ sym (get_or-zip xs ys i (x, y) one two)))
 
 -- what all elements beside each other give
 pub zipped-all : {X Y : Type 0} (h : X × Y → Option (List ℕ)) (xs : List X) (ys : List Y) (i : ℕ) (olds now : List (List ℕ)) → min (length xs) (length ys) ≤ i

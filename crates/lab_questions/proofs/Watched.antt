@@ -1,11 +1,10 @@
 -- Objects that a search looks for beside the conditions that it is asked.
 use Rattle.std.proofs.Common.{ℕ, zero, suc, ◌≡◌, ◌≤◌, ◌++◌, ◌⊎◌, inl, inr, List, [], ◌∷◌, Option, Some, None, All, Contains, length, take, drop, get_or, slice_get, sym, ap, subst, refl, ◌∙◌, arith}
-use Rattle.std.proofs.lemmas.List.Elements.{All-contains}
+use Rattle.std.proofs.lemmas.List.Elements.{All-contains, All-push}
 use Rattle.std.proofs.lemmas.Option.{slice_get-get_or}
 use Rattle.lab_sched.specs.declared.schedule.block.Block.{Block}
 use Rattle.lab_sched.specs.Schedules.{steps_of}
 use Rattle.lab_sched.specs.Worlds.{WorldState, run}
-use Rattle.lab_conditions.specs.declared.condition.Part.{Part}
 use Rattle.lab_conditions.specs.declared.never.Never.{Never}
 use Rattle.lab_conditions.specs.declared.never.Never.TheVariants as never
 use Rattle.lab_conditions.specs.Conditions.{PartHolds}
@@ -49,17 +48,10 @@ enough R xs us whole ys n is count h =
     let within = front_within R xs us ys (subst (λ zs. Alongside R zs ys) is h) in
     omega (arith, within, count)
 
-all_one : (P : Part → Type 0) (x : Part) → P x → All P (x ∷ [])
-all_one P x here zero d within = here
-all_one P x here (suc k) d within = absurd (omega (arith, within))
-
-the_one : (P : Part → Type 0) (x : Part) → All P (x ∷ []) → P x
-the_one P x all = all 0 x (omega arith)
-
 -- where the condition never holds, the object is never there
 never_there : (start : WorldState) (o : Object) (n : Never) → AsksFor o n → IsKept start n → IsNeverOpened start o
 never_there start o (never.Holds c) asks kept ps there =
-    kept ps (subst (All (λ part. PartHolds part (run start ps))) (sym asks) (all_one (λ part. PartHolds part (run start ps)) (presence o) there))
+    kept ps (subst (All (λ part. PartHolds part (run start ps))) (sym asks) (All-push (λ part. PartHolds part (run start ps)) [] (presence o) (λ k d within. absurd (omega (arith, within))) there))
 never_there start o never.Lost asks kept ps there = absurd asks
 never_there start o (never.Refused r) asks kept ps there = absurd asks
 
@@ -68,7 +60,7 @@ opened : (start : WorldState) (o : Object) (n : Never) (s : List Block) → Asks
 opened start o (never.Holds c) s asks leads = record {
   schedule = s;
   effective = leads.effective;
-  there = the_one (λ part. PartHolds part (run start (steps_of s))) (presence o) (subst (All (λ part. PartHolds part (run start (steps_of s)))) asks leads.holds);
+  there = (subst (All (λ part. PartHolds part (run start (steps_of s)))) asks leads.holds) 0 (presence o) (omega arith);
 }
 opened start o never.Lost s asks leads = absurd asks
 opened start o (never.Refused r) s asks leads = absurd asks

@@ -1,5 +1,5 @@
 //! Reading what is asked of calls.
-ghost use Rattle.std.specs.Prelude.{◌≡◌, ◌<◌, ◌≤◌, ◌++◌, ◌∷◌, [], None, true, false, IfOk, IfSome, IsTrue, OnOk, codes, flat_map, length, map};
+ghost use Rattle.std.specs.Prelude.{◌≡◌, ◌<◌, ◌≤◌, ◌++◌, ◌∷◌, [], None, true, false, IfOk, IfSome, OnOk, codes, flat_map, length, map};
 ghost use Rattle.ipc_traps.specs.Services.{service_in, service_name};
 ghost use Rattle.ipc_traps.specs.declared.service.Service.{Service as Call};
 ghost use Rattle.lc3_word.specs.Blanks.{words_between};

@@ -74,16 +74,6 @@ fn put_in_order(texts: &mut Vec<String>) -> Result<(), AllocError>
     texts.sort()
 }
 
-fn push_all(text: &mut String, texts: &[String]) -> Result<(), AllocError>
-    ensures text { OnOk result (string_bytes text.new
-        ≡ string_bytes text.old ++ flat_map (λ lines. lines) (map string_bytes texts.now)) }
-{
-    for part in texts {
-        text.push_str(part)?;
-    }
-    Ok(())
-}
-
 /// Adds the lines of all messages that are left in the queues of a kernel.
 #[tactic(auto, unfolding(crate::specs::Left::left_text))]
 pub(crate) fn push_left(alloc: Global, text: &mut String, kernel: &Kernel) -> Result<(), AllocError>
@@ -92,5 +82,8 @@ pub(crate) fn push_left(alloc: Global, text: &mut String, kernel: &Kernel) -> Re
 {
     let mut texts = left_texts(alloc, kernel)?;
     put_in_order(&mut texts)?;
-    push_all(text, &texts)
+    for part in &texts {
+        text.push_str(part)?;
+    }
+    Ok(())
 }

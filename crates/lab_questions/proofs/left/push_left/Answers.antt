@@ -2,15 +2,18 @@ use Rattle.std.proofs.Common.{◌<◌, Some, ◌++◌, ap, ap₂, sym, ◌∙◌
 use Rattle.std.proofs.lemmas.List.{get_or-map, length-map}
 use Rattle.std.proofs.lemmas.Option.{slice_get-get_or}
 use Rattle.lab_texts.proofs.RowLemmas.{flat_map-next}
-use Rattle.lab_questions.proofs.left.push_all.Goals as goal
+use Rattle.lab_questions.proofs.left.push_left.Goals as goal
 
 pub loop-part-preserved : goal.loop-part-preserved
 loop-part-preserved c =
-    let texts = c.args.texts.now in
+    let texts = c.deref-part-items.result.now in
     let i = c.loop-part.part-index in
     let part = c.part-item.result in
     let lines = map string_bytes texts in
     let within : i < length lines = omega (arith, length-map texts string_bytes, c.loop-part-test.true) in
     let here = get_or-map string_bytes texts i part (string_bytes part) c.loop-part-test.true ∙ ap string_bytes (sym c.part-item.is) in
-    c.in_ok-push_str.ensures.bytes ∙ ap₂ (λ a b. a ++ b) c.loop-part.invariant c.deref.ensures
-    ∙ flat_map-next (λ l. l) (string_bytes c.args.text.now) lines i (string_bytes part) (slice_get-get_or lines i (string_bytes part) within ∙ ap Some here)
+    record {
+      order = c.loop-part.invariant.order;
+      text = c.in_ok-push_str.ensures.bytes ∙ ap₂ (λ a b. a ++ b) c.loop-part.invariant.text c.deref.ensures
+          ∙ flat_map-next (λ l. l) (string_bytes c.args.text.now) lines i (string_bytes part) (slice_get-get_or lines i (string_bytes part) within ∙ ap Some here);
+    }
