@@ -1,5 +1,6 @@
 -- Objects that a search looks for beside the conditions that it is asked.
-use Rattle.std.proofs.Common.{ℕ, zero, suc, ◌≡◌, ◌≤◌, ◌++◌, ◌⊎◌, inl, inr, List, [], ◌∷◌, Option, Some, None, All, Contains, length, take, drop, get_or, slice_get, sym, ap, subst, refl, ◌∙◌, arith}
+use Rattle.std.proofs.Common.{ℕ, zero, suc, ◌≡◌, ◌<◌, ◌≤◌, ◌+◌, ◌++◌, ◌⊎◌, inl, inr, List, [], ◌∷◌, Option, Some, None, All, Contains, length, take, drop, get_or, slice_get, sym, ap, subst, refl, ◌∙◌, arith}
+use Rattle.std.proofs.lemmas.List.{take_more}
 use Rattle.std.proofs.lemmas.List.Elements.{All-contains, All-push}
 use Rattle.std.proofs.lemmas.Option.{slice_get-get_or}
 use Rattle.lab_sched.specs.declared.schedule.block.Block.{Block}
@@ -9,11 +10,18 @@ use Rattle.lab_conditions.specs.declared.never.Never.{Never}
 use Rattle.lab_conditions.specs.declared.never.Never.TheVariants as never
 use Rattle.lab_conditions.specs.Conditions.{PartHolds}
 use Rattle.lab_worlds.specs.Calls.{Both, Alongside}
-use Rattle.lab_worlds.proofs.Pushes.{all_at}
+use Rattle.lab_worlds.proofs.Pushes.{all_at, alongside_push}
 use Rattle.lab_worlds.specs.Reached.{Violates, IsKept, ViolatesIfSome, KeptIfNone}
 use Rattle.lab_questions.specs.declared.object.Object.{Object}
 use Rattle.lab_questions.specs.Objects.{named, presence, IsOpened, IsNeverOpened, AreUnopened}
 use Rattle.lab_questions.specs.Private.Presences.{AsksFor, IsUnseen}
+
+-- one more of each
+pub along_next : {A B : Type 0} (R : A → B → Type 0) (xs : List A) (ys zs : List B) (n : ℕ) (x : A) (y : B) → Alongside R (take n xs) ys → n < length xs → x ≡ get_or xs n x → R x y
+    → zs ≡ ys ++ y ∷ [] → Alongside R (take (n + 1) xs) zs
+along_next R xs ys zs n x y h within read here pushed =
+    let more = take_more xs n x within ∙ ap (λ z. take n xs ++ z ∷ []) (sym read) in
+    subst (Alongside R (take (n + 1) xs)) (sym pushed) (subst (λ us. Alongside R us (ys ++ y ∷ [])) (sym more) (alongside_push R (take n xs) ys x y h here))
 
 -- at least as many as the first ones
 pub front_within : {A B : Type 0} (R : A → B → Type 0) (xs us : List A) (ys : List B) → Alongside R (xs ++ us) ys → length xs ≤ length ys

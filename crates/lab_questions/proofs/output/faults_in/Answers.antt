@@ -1,22 +1,14 @@
-use Rattle.std.proofs.Common.{◌+◌, ◌++◌, ◌∷◌, [], take, ap, subst, sym, ◌∙◌}
-use Rattle.std.proofs.lemmas.List.{take_all, take_more}
+use Rattle.std.proofs.Common.{subst}
+use Rattle.std.proofs.lemmas.List.{take_all}
 use Rattle.lab_worlds.specs.Calls.{Alongside}
 use Rattle.lab_questions.specs.Outputs.{IsOutputAnswer}
-use Rattle.lab_worlds.proofs.Pushes.{alongside_push}
+use Rattle.lab_questions.proofs.Watched.{along_next}
 use Rattle.lab_questions.proofs.output.faults_in.Goals as goal
 
 pub loop-need-preserved : goal.loop-need-preserved
 loop-need-preserved c =
-    let needs = c.args.needs.now in
-    let answer = IsOutputAnswer c.args.ends.now in
-    let faults = c.loop-need.faults.items in
-    let i = c.loop-need.need-index in
-    let need = c.need-item.result in
-    let fault = c.fault_in.result in
-    let more = take_more needs i need c.loop-need-test.true ∙ ap (λ n. take i needs ++ n ∷ []) (sym c.need-item.is) in
-    subst (λ ys. Alongside answer (take (i + 1) needs) ys) (sym c.in_ok-push.ensures.items)
-    (subst (λ xs. Alongside answer xs (faults ++ fault ∷ [])) (sym more)
-    (alongside_push answer (take i needs) faults need fault c.loop-need.invariant c.fault_in.ensures.fault))
+    along_next (IsOutputAnswer c.args.ends.now) c.args.needs.now c.loop-need.faults.items _ c.loop-need.need-index c.need-item.result c.fault_in.result c.loop-need.invariant
+    c.loop-need-test.true c.need-item.is c.fault_in.ensures.fault c.in_ok-push.ensures.items
 
 pub returns : goal.returns
 returns c =

@@ -1,21 +1,14 @@
-use Rattle.std.proofs.Common.{◌+◌, ◌++◌, ◌∷◌, [], take, ap, subst, sym, ◌∙◌}
-use Rattle.std.proofs.lemmas.List.{take_all, take_more}
+use Rattle.std.proofs.Common.{subst}
+use Rattle.std.proofs.lemmas.List.{take_all}
 use Rattle.lab_worlds.specs.Calls.{Alongside}
 use Rattle.lab_questions.specs.Private.Presences.{AsksFor}
-use Rattle.lab_worlds.proofs.Pushes.{alongside_push}
+use Rattle.lab_questions.proofs.Watched.{along_next}
 use Rattle.lab_questions.proofs.presence.presences_of.Goals as goal
 
 pub loop-object-preserved : goal.loop-object-preserved
 loop-object-preserved c =
-    let objects = c.args.objects.now in
-    let conditions = c.loop-object.conditions.items in
-    let i = c.loop-object.object-index in
-    let object = c.object-item.result in
-    let condition = c.in_ok-condition.condition in
-    let more = take_more objects i object c.loop-object-test.true ∙ ap (λ o. take i objects ++ o ∷ []) (sym c.object-item.is) in
-    subst (λ ys. Alongside AsksFor (take (i + 1) objects) ys) (sym c.in_ok-push.ensures.items)
-    (subst (λ xs. Alongside AsksFor xs (conditions ++ condition ∷ [])) (sym more)
-    (alongside_push AsksFor (take i objects) conditions object condition c.loop-object.invariant c.in_ok-condition.ensures.asks))
+    along_next AsksFor c.args.objects.now c.loop-object.conditions.items _ c.loop-object.object-index c.object-item.result c.in_ok-condition.condition c.loop-object.invariant
+    c.loop-object-test.true c.object-item.is c.in_ok-condition.ensures.asks c.in_ok-push.ensures.items
 
 pub returns : goal.returns
 returns c =
