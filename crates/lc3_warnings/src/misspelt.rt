@@ -71,9 +71,5 @@ pub fn misspelt(
         return Ok(None);
     }
     let was_meant = was_meant(alloc, bytes, line)?;
-    if was_meant {
-        Ok(Some(Kind::Misspelt))
-    } else {
-        Ok(None)
-    }
+    Ok(was_meant.then_some(Kind::Misspelt))
 }

@@ -4,7 +4,7 @@ ghost use Rattle.std.specs.Prelude.{◌≡◌, ℕ, List, [], ◌||◌, bytes_eq
 ghost use Rattle.std.specs.List.{list_any};
 ghost use Rattle.lc3_warnings.specs.Private.Names.{is_among};
 ghost use Rattle.lc3_asm.specs.Views.{seen_line, seen_operand};
-ghost use Rattle.lc3_warnings.specs.Labels.{is_label, names_label, calls_label, named, called, defines_one};
+ghost use Rattle.lc3_warnings.specs.Labels.{is_label, named, called, defines_one};
 
 use indexmap::IndexSet;
 use lc3_asm::{Line, Operand};
@@ -59,30 +59,6 @@ impl Names {
         Ok(())
     }
 
-    fn add_line(&mut self, alloc: Global, line: &Line) -> Result<(), AllocError>
-        ensures added { OnOk result ((name : List ℕ) →
-            is_among self.new name ≡ (is_among self.old name || names_label name (seen_line line.now))) }
-    {
-        match line {
-            Line::Operates { operands, .. } => self.add_labels(alloc, operands),
-            _ => Ok(()),
-        }
-    }
-
-    fn add_call(&mut self, alloc: Global, line: &Line) -> Result<(), AllocError>
-        ensures added { OnOk result ((name : List ℕ) →
-            is_among self.new name ≡ (is_among self.old name || calls_label name (seen_line line.now))) }
-    {
-        match line {
-            Line::Operates {
-                operation: Operation::JumpSubroutine,
-                operands,
-                ..
-            } => self.add_labels(alloc, operands),
-            _ => Ok(()),
-        }
-    }
-
     pub fn has_label_of(&self, line: &Line) -> bool
         ensures value { result ≡ defines_one (is_among self.now) (seen_line line.now) }
     {
@@ -95,7 +71,9 @@ pub fn named(alloc: Global, lines: &[Line]) -> Result<Names, AllocError>
 {
     let mut names = Names::new(alloc);
     for line in lines {
-        names.add_line(alloc, line)?;
+        if let Line::Operates { operands, .. } = line {
+            names.add_labels(alloc, operands)?;
+        }
     }
     Ok(names)
 }
@@ -105,7 +83,14 @@ pub fn called(alloc: Global, lines: &[Line]) -> Result<Names, AllocError>
 {
     let mut names = Names::new(alloc);
     for line in lines {
-        names.add_call(alloc, line)?;
+        if let Line::Operates {
+            operation: Operation::JumpSubroutine,
+            operands,
+            ..
+        } = line
+        {
+            names.add_labels(alloc, operands)?;
+        }
     }
     Ok(names)
 }

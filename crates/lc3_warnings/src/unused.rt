@@ -41,9 +41,5 @@ pub fn unused_label(
         return Ok(None);
     }
     let was_meant = was_meant(alloc, bytes, line)?;
-    if was_meant {
-        Ok(None)
-    } else {
-        Ok(Some(Kind::UnusedLabel))
-    }
+    Ok((!was_meant).then_some(Kind::UnusedLabel))
 }

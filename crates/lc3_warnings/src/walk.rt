@@ -86,25 +86,6 @@ fn first_with_token(behind: usize, rest: Option<&[u8]>) -> Option<usize>
     None
 }
 
-/// Adds the warning of what stands behind `.END`, which is in this line.
-fn push_after_end(
-    found: &mut Vec<Warning>,
-    end: usize,
-    rest: Option<&[u8]>,
-) -> Result<(), AllocError>
-    requires small { end < 2 ^ 63 }
-    ensures told { OnOk result (found.new.items
-        ≡ found.old.items ++ after_end end (lines_if rest.entry)) }
-{
-    if let Some(line) = first_with_token(end, rest) {
-        found.push(Warning {
-            line,
-            kind: Kind::AfterEnd { end },
-        })?;
-    }
-    Ok(())
-}
-
 fn is_accepted(alloc: Global, text: &str, reader: &Reader) -> Result<bool, AllocError>
     requires read { reader.now ≡ reading text.now }
     ensures value { IfOk result (λ accepted. accepted ≡ is_accepted text.now) }
@@ -126,7 +107,13 @@ fn warnings_under(
 {
     let mut found = Vec::new(alloc);
     let rest = push_lines(&mut found, setting, text, read)?;
-    push_after_end(&mut found, read.len(), rest)?;
+    let end = read.len();
+    if let Some(line) = first_with_token(end, rest) {
+        found.push(Warning {
+            line,
+            kind: Kind::AfterEnd { end },
+        })?;
+    }
     Ok(found)
 }
 
