@@ -69,15 +69,3 @@ pub(crate) fn is_typographic_quote(character: char) -> bool {
         '\u{2018}' | '\u{2019}' | '\u{201C}'..='\u{201F}' | '\u{AB}' | '\u{BB}'
     )
 }
-
-pub(crate) fn is_dash(character: char) -> bool {
-    matches!(character, '\u{2010}'..='\u{2015}' | '\u{2212}')
-}
-
-/// Whether a character is a blank that separates no words.
-pub(crate) fn is_other_blank(character: char) -> bool {
-    matches!(
-        character,
-        '\u{A0}' | '\u{2000}'..='\u{200B}' | '\u{202F}' | '\u{3000}' | '\u{FEFF}'
-    )
-}

@@ -6,7 +6,7 @@ use crate::words::{NO_LABEL_BUT_OPERATION, is_operation, is_register, number_mea
 use lc3_asm::is_label;
 use lc3_table::Form;
 use std::alloc::{AllocError, Global};
-use std::fmt::Write;
+use std::fmt;
 
 /// What may stand as an operand.
 fn form_text(form: Form) -> &'static str {
@@ -24,51 +24,49 @@ fn form_text(form: Form) -> &'static str {
     }
 }
 
-/// Adds a number, or this word where it is 0.
-fn push_number(text: &mut String, number: usize, none: &str) -> Result<(), AllocError> {
-    if number == 0 {
-        text.push_str(none)
-    } else {
-        write!(text, "{number}")
+/// A number, or this word where it is 0.
+#[derive(Clone, Copy)]
+struct Count(usize, &'static str);
+
+impl fmt::Display for Count {
+    fn fmt<W: fmt::Write>(&self, f: &mut fmt::Formatter<W>) -> fmt::Result {
+        match *self {
+            Count(0, none) => write!(f, "{none}"),
+            Count(number, _) => write!(f, "{number}"),
+        }
     }
 }
 
-fn push_counts(text: &mut String, taken: usize, given: usize) -> Result<(), AllocError> {
-    push_number(text, taken, "no")?;
-    text.push_str(if taken == 1 {
-        " operand, here "
-    } else {
-        " operands, here "
-    })?;
-    text.push_str(if given > 1 { "are " } else { "is " })?;
-    push_number(text, given, "none")
+/// What an operation takes, and how many operands stand here.
+fn counts_text(
+    alloc: Global,
+    word: &str,
+    taken: usize,
+    given: usize,
+) -> Result<String, AllocError> {
+    let (shown, takes, stand) = (Excerpt(word), Count(taken, "no"), Count(given, "none"));
+    let s = if taken == 1 { "" } else { "s" };
+    let are = if given > 1 { "are" } else { "is" };
+    format!(in alloc; "{shown} takes {takes} operand{s}, here {are} {stand}")
 }
 
 fn other_count(alloc: Global, place: Place<'_>) -> Result<String, AllocError> {
-    if place.at == 0
-        && place
-            .parts
-            .get(1)
-            .is_some_and(|second| second.is_operation())
-    {
-        return said_of(alloc, place.part.word, NO_LABEL_BUT_OPERATION);
+    let word = place.part.word;
+    let second = place.parts.get(1);
+    if place.at == 0 && second.is_some_and(|second| second.is_operation()) {
+        return said_of(alloc, word, NO_LABEL_BUT_OPERATION);
     }
+    let taken = place.forms.len();
     let given = place.parts.len().saturating_sub(place.at.saturating_add(1));
-    let mut text = said_of(alloc, place.part.word, " takes ")?;
-    push_counts(&mut text, place.forms.len(), given)?;
-    push_forms(&mut text, place.forms)?;
-    if given > place.forms.len() {
-        text.push_str(" (a comment begins with ;)")?;
-    }
-    Ok(text)
-}
-
-fn push_forms(text: &mut String, forms: &[Form]) -> Result<(), AllocError> {
-    for (i, form) in forms.iter().enumerate() {
+    let mut text = counts_text(alloc, word, taken, given)?;
+    for (i, form) in place.forms.iter().enumerate() {
         text.push_str(if i == 0 { ": " } else { "; " })?;
         text.push_str(form_text(*form))?;
     }
-    Ok(())
+    if given > taken {
+        text.push_str(" (a comment begins with ;)")?;
+    }
+    Ok(text)
 }
 
 fn misplaced(alloc: Global, word: &str, said: &str, form: Form) -> Result<String, AllocError> {

@@ -1,33 +1,29 @@
 //! Characters that can't stand in a word.
-use crate::characters::{Number, is_dash, is_other_blank, is_typographic_quote};
+use crate::characters::{Number, is_typographic_quote};
 use crate::message::{Remark, Span};
 use crate::texts::Place;
 use std::alloc::{AllocError, Global};
 
 /// What is said of a character that can't stand in a word, before its number and behind it.
 fn around_number(character: char, is_first: bool) -> (&'static str, &'static str) {
-    if is_first && character == '\u{FEFF}' {
-        (
+    match character {
+        '\u{FEFF}' if is_first => (
             "the file begins with a byte order mark, ",
             "; save it as UTF-8 without one",
-        )
-    } else if is_typographic_quote(character) {
-        (
+        ),
+        _ if is_typographic_quote(character) => (
             "this is a typographic quote, ",
             "; a string stands between two \"",
-        )
-    } else if is_dash(character) {
-        ("this is a dash, ", "; a minus is written -")
-    } else if is_other_blank(character) {
-        (
+        ),
+        '\u{2010}'..='\u{2015}' | '\u{2212}' => ("this is a dash, ", "; a minus is written -"),
+        '\u{A0}' | '\u{2000}'..='\u{200B}' | '\u{202F}' | '\u{3000}' | '\u{FEFF}' => (
             "this is a blank of another kind, ",
             "; blanks, tabs and commas separate words",
-        )
-    } else {
-        (
+        ),
+        _ => (
             "the character ",
             " can't stand in a word; words have characters from x21 to x7E",
-        )
+        ),
     }
 }
 

@@ -15,6 +15,7 @@ use crate::warned::warning_remark;
 use lc3_asm::{faults_of, reading};
 use lc3_table::Profile;
 use std::alloc::{AllocError, Global};
+use std::fmt;
 use std::fmt::Write;
 
 /// The most messages of a source that are written.
@@ -41,83 +42,86 @@ pub struct Report {
     pub warnings: usize,
 }
 
-/// Adds a line as it is shown, and a `^` below each character of the mark.
-fn push_marked(text: &mut String, line: &str, mark: Span) -> Result<(), AllocError> {
-    push_shown(text, line)?;
-    text.push('\n')?;
-    for character in line.get(..mark.start).unwrap_or("").chars() {
-        text.push(if character == '\t' { '\t' } else { ' ' })?;
-    }
-    let count = mark.text_in(line).chars().count();
-    push_carets(text, count)?;
-    text.push('\n')
-}
+/// A line as it is shown, and below it a `^` for each character of a part.
+#[derive(Clone, Copy)]
+struct Marked<'a>(&'a str, Span);
 
-fn push_shown(text: &mut String, line: &str) -> Result<(), AllocError> {
-    for character in line.chars() {
-        text.push(picture(character))?;
-    }
-    Ok(())
-}
-
-fn push_carets(text: &mut String, count: usize) -> Result<(), AllocError> {
-    for _ in 0..count {
-        text.push('^')?;
-    }
-    Ok(())
-}
-
-fn push_message(
-    text: &mut String,
-    file: &str,
-    line: &str,
-    message: &Message,
-) -> Result<(), AllocError> {
-    let number = message.line;
-    let column = message.column;
-    let kind = message.kind;
-    let sort = kind.sort();
-    let told = message.text.as_str();
-    write!(text, "{file}:{number}:{column}: {sort}: {told} [{kind}]\n")?;
-    match message.mark {
-        Some(mark) if line.chars().nth(LENGTH).is_none() => push_marked(text, line, mark),
-        _ => Ok(()),
+impl fmt::Display for Marked<'_> {
+    fn fmt<W: fmt::Write>(&self, f: &mut fmt::Formatter<W>) -> fmt::Result {
+        let Marked(line, mark) = *self;
+        for character in line.chars() {
+            f.write_char(picture(character))?;
+        }
+        f.write_char('\n')?;
+        for character in line.get(..mark.start).unwrap_or("").chars() {
+            f.write_char(if character == '\t' { '\t' } else { ' ' })?;
+        }
+        for _ in mark.text_in(line).chars() {
+            f.write_char('^')?;
+        }
+        f.write_char('\n')
     }
 }
 
-fn push_count(text: &mut String, count: usize, name: &str) -> Result<(), AllocError> {
-    if count == 1 {
-        write!(text, "1 {name}")
-    } else {
-        write!(text, "{count} {name}s")
+/// A message as it is written, about this file and this line.
+#[derive(Clone, Copy)]
+struct Written<'a>(&'a str, &'a str, &'a Message);
+
+impl fmt::Display for Written<'_> {
+    fn fmt<W: fmt::Write>(&self, f: &mut fmt::Formatter<W>) -> fmt::Result {
+        let Written(file, line, message) = *self;
+        let (number, column, kind) = (message.line, message.column, message.kind);
+        let (sort, told) = (kind.sort(), message.text.as_str());
+        write!(f, "{file}:{number}:{column}: {sort}: {told} [{kind}]\n")?;
+        match message.mark {
+            Some(mark) if line.chars().nth(LENGTH).is_none() => {
+                let marked = Marked(line, mark);
+                write!(f, "{marked}")
+            }
+            _ => Ok(()),
+        }
     }
 }
 
-/// Adds the line with the numbers of errors and warnings, if there are any.
-fn push_counts(
-    text: &mut String,
+/// How many there are of this name, if there are any.
+#[derive(Clone, Copy)]
+struct Count(usize, &'static str);
+
+impl fmt::Display for Count {
+    fn fmt<W: fmt::Write>(&self, f: &mut fmt::Formatter<W>) -> fmt::Result {
+        match *self {
+            Count(0, _) => Ok(()),
+            Count(1, name) => write!(f, "1 {name}"),
+            Count(count, name) => write!(f, "{count} {name}s"),
+        }
+    }
+}
+
+/// The report with these messages, and behind them a line with their numbers, if there are any.
+fn counted(
+    messages: String,
     file: &str,
     errors: usize,
     warnings: usize,
-) -> Result<(), AllocError> {
+) -> Result<Report, AllocError>
+    ensures numbers { IfOk result (λ r. (r.errors ≡ errors) × (r.warnings ≡ warnings)) }
+{
+    let mut text = messages;
     let all = errors.saturating_add(warnings);
-    if all == 0 {
-        return Ok(());
+    if all > 0 {
+        let (refused, warned) = (Count(errors, "error"), Count(warnings, "warning"));
+        let comma = if errors > 0 && warnings > 0 { ", " } else { "" };
+        write!(text, "lc3lab: {file}: {refused}{comma}{warned}")?;
+        if all > MOST {
+            write!(text, " ({MOST} of {all} are shown)")?;
+        }
+        text.push('\n')?;
     }
-    write!(text, "lc3lab: {file}: ")?;
-    if errors > 0 {
-        push_count(text, errors, "error")?;
-    }
-    if errors > 0 && warnings > 0 {
-        text.push_str(", ")?;
-    }
-    if warnings > 0 {
-        push_count(text, warnings, "warning")?;
-    }
-    if all > MOST {
-        write!(text, " ({MOST} of {all} are shown)")?;
-    }
-    text.push('\n')
+    Ok(Report {
+        text,
+        errors,
+        warnings,
+    })
 }
 
 fn message_of<'a>(
@@ -139,21 +143,6 @@ fn message_of<'a>(
     Ok(message_on(line, finding.line, kind, remark))
 }
 
-fn push_messages(
-    alloc: Global,
-    text: &mut String,
-    file: &str,
-    source: &Source<'_>,
-    findings: &[Finding],
-) -> Result<(), AllocError> {
-    for finding in findings.iter().take(MOST) {
-        let line = line_at(source, finding.line);
-        let message = message_of(alloc, source, line, *finding)?;
-        push_message(text, file, line, &message)?;
-    }
-    Ok(())
-}
-
 fn report_of(
     alloc: Global,
     file: &str,
@@ -167,13 +156,13 @@ fn report_of(
     let errors = error_count(findings);
     let warnings = findings.len().saturating_sub(errors);
     let mut text = String::new(alloc);
-    push_messages(alloc, &mut text, file, source, findings)?;
-    push_counts(&mut text, file, errors, warnings)?;
-    Ok(Report {
-        text,
-        errors,
-        warnings,
-    })
+    for finding in findings.iter().take(MOST) {
+        let line = line_at(source, finding.line);
+        let message = message_of(alloc, source, line, *finding)?;
+        let written = Written(file, line, &message);
+        write!(text, "{written}")?;
+    }
+    counted(text, file, errors, warnings)
 }
 
 fn source_report(
@@ -243,14 +232,8 @@ fn no_text_report(
         kind: Kind::NotUtf8,
         text: no_utf8(alloc, bytes, rest.first())?,
     };
-    let mut text = String::new(alloc);
-    push_message(&mut text, file, "", &message)?;
-    push_counts(&mut text, file, 1, 0)?;
-    Ok(Report {
-        text,
-        errors: 1,
-        warnings: 0,
-    })
+    let written = Written(file, "", &message);
+    counted(format!(in alloc; "{written}")?, file, 1, 0)
 }
 
 /// All messages about the bytes of a source, by its lines, and behind them a line with their numbers. `file` is the name of
