@@ -1,5 +1,5 @@
 -- Labels one after the other.
-use Rattle.std.proofs.Common.{◌≡◌, ℕ, zero, suc, ◌+◌, ◌<◌, ◌≤◌, Bool, true, false, List, [], ◌∷◌, Option, Some, None, option_map, drop, length, find, slice_get, refl, sym, ap, ◌∙◌, arith}
+use Rattle.std.proofs.Common.{◌≡◌, ℕ, zero, suc, ◌+◌, Bool, true, false, List, [], ◌∷◌, Option, Some, None, drop, length, find, slice_get, refl, sym, ap, ◌∙◌, arith}
 use Rattle.lab_sources.specs.Labels.{or_higher, highest_up_to}
 
 -- an element, and those behind it
@@ -20,9 +20,6 @@ find_here p xs i x is e = rw (drop_at xs i x is, e) refl
 
 pub find_behind : {A : Type 0} (p : A → Bool) (xs : List A) (i : ℕ) (x : A) → slice_get xs i ≡ Some x → p x ≡ false → find p (drop i xs) ≡ find p (drop (i + 1) xs)
 find_behind p xs i x is e = rw (drop_at xs i x is, e) refl
-
-pub find_none : {A : Type 0} (p : A → Bool) (xs : List A) (i : ℕ) → slice_get xs i ≡ None → find p (drop i xs) ≡ None
-find_none p xs i is = rw (drop_none xs i is) refl
 
 -- a label more at the front
 pub highest_more : (a : ℕ) (ls : List (List ℕ × ℕ)) (i n : ℕ) (l : List ℕ × ℕ) (found : Option (List ℕ × ℕ)) → slice_get ls i ≡ Some l

@@ -1,9 +1,9 @@
 -- States without the parts of their outputs that others share.
-use Rattle.std.proofs.Common.{◌≡◌, ◌-◌, ◌<◌, inl, inr, ℕ, All, List, [], ◌∷◌, ◌++◌, Option, Some, None, refl, sym, ap, subst, ◌∙◌, append_assoc, arith, drop, get_or, length, map, slice_get, take}
+use Rattle.std.proofs.Common.{◌≡◌, ◌-◌, inl, inr, ℕ, All, List, [], ◌∷◌, ◌++◌, Option, Some, None, refl, sym, ap, subst, ◌∙◌, append_assoc, arith, drop, get_or, length, map, slice_get, take}
 use Rattle.std.specs.Option.{option_map}
 use Rattle.std.proofs.lemmas.List.{length-append, length-drop, map-append, take-append-drop, take_all}
 use Rattle.std.proofs.lemmas.List.Elements.{All-push, All-tail, All-weaker}
-use Rattle.std.proofs.lemmas.Option.{slice_get-map, slice_get_within}
+use Rattle.std.proofs.lemmas.Option.{slice_get-map}
 use Rattle.lab_sched.specs.declared.process.Process.{Process as Kept}
 use Rattle.lab_sched.specs.Worlds.{machine_of}
 use Rattle.lab_sched.specs.Verdicts.{HasEnded}
@@ -28,9 +28,6 @@ start_empty os h = ap (λ xs. slice_get xs 0) h.1
 first_empty : (os : List (List ℕ)) → slice_get os 0 ≡ Some [] → get_or os 0 [] ≡ []
 first_empty [] e = refl
 first_empty (o ∷ os) e = let same : Some o ≡ Some [] = e in let is : o ≡ [] = cc in is
-
-pub first_there : (os : List (List ℕ)) → slice_get os 0 ≡ Some [] → 0 < length os
-first_there os e = slice_get_within os 0 [] e
 
 -- a state that shares nothing is its process
 pub whole_alone : (os : List (List ℕ)) (k : Kept) (s : CollapsedState) → slice_get os 0 ≡ Some [] → s.before ≡ 0 → s.process ≡ k → whole_of os s ≡ k

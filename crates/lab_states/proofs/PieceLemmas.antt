@@ -141,9 +141,6 @@ take_parts out at n bs same =
 pub take_parts_of : (out : List ℕ) (at n m : ℕ) (bs : List ℕ) → m ≡ n → bs ≡ take m (drop at out) → take (at + n) out ≡ take at out ++ bs
 take_parts_of out at n m bs is same = take_parts out at n bs (same ∙ ap (λ k. take k (drop at out)) is)
 
-pub take_parts_in : (out : List ℕ) (at n : ℕ) (bs : List ℕ) → bs ≡ drop at (take (at + n) out) → take (at + n) out ≡ take at out ++ bs
-take_parts_in out at n bs same = take_parts out at n bs (same ∙ drop-take at n out)
-
 -- one piece more of an output that is kept
 pub part_kept : (os qs : List (List ℕ)) (n m before : ℕ) (front bytes more : List ℕ) → slice_get os n ≡ Some front → before ≡ n → more ≡ front ++ bytes → slice_get qs m ≡ Some (get_or os before [] ++ bytes)
     → slice_get qs m ≡ Some more

@@ -1,4 +1,4 @@
-use Rattle.std.proofs.Common.{◌≡◌, sym, ap, ◌∙◌, option_map, rules}
+use Rattle.std.proofs.Common.{sym, ap, ◌∙◌, option_map, rules}
 use Rattle.lc3_table.specs.Words.{same_name}
 use Rattle.lab_sources.proofs.LabelLemmas.{find_here, find_behind}
 use Rattle.lab_sources.proofs.labels.address_of.Goals as goal

@@ -1,4 +1,4 @@
-use Rattle.std.proofs.Common.{◌≡◌, ◌+◌, ◌-◌, ◌≤◌, sym, ap, ◌∙◌, option_map, drop, rules, arith}
+use Rattle.std.proofs.Common.{◌≡◌, ◌+◌, ◌-◌, sym, ap, ◌∙◌, drop, rules, arith}
 use Rattle.lab_sources.specs.Labels.{highest_up_to}
 use Rattle.lab_sources.proofs.LabelLemmas.{highest_more, highest_none}
 use Rattle.lab_sources.proofs.labels.highest_up_to.Goals as goal
