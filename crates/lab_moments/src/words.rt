@@ -96,7 +96,8 @@ impl SeenWords {
 
     /// A word with its text, where it is among them.
     fn text_of(&self, alloc: Global, word: u16) -> Result<Option<Value>, AllocError>
-        ensures text { IfOk result (λ v. option_to_list (option_map view v) ≡ text_of self.now word) }
+        ensures text { IfOk result (λ v. option_to_list (option_map view v)
+            ≡ text_of self.now word) }
     {
         match self.flags.get(usize::from(word)) {
             Some(true) => Ok(Some(word_value(alloc, word)?)),
