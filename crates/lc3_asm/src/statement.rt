@@ -5,14 +5,14 @@ ghost use Rattle.lc3_asm.specs.Views.{token_of, seen_operand};
 ghost use Rattle.lc3_asm.specs.Results.{Gives};
 ghost use Rattle.lc3_table.specs.Words.{upper, register};
 ghost use Rattle.std.specs.List.{list_all};
-ghost use Rattle.lc3_table.specs.Statements.{is_between, characters, onto, fault_in, token_fault, operand_by_register, operand_by_number, operand, all_operands, escape, takes_register, takes_label, accepts, forms, token_operation, without_colon};
+ghost use Rattle.lc3_table.specs.Statements.{is_between, characters, onto, fault_in, token_fault, operand_by_register, operand_by_number, operand, all_operands, takes_register, takes_label, accepts, forms, token_operation, without_colon};
 ghost use Rattle.lc3_word.specs.Numbers.{number};
 ghost use Rattle.lc3_table.specs.Tokens.{Word};
 
 use crate::fault::LineError;
 use crate::token::Token;
 use crate::word::{is_label, operation, register};
-use lc3_table::{Fault, Form, Operation};
+use lc3_table::{Fault, Form, Operation, escape};
 use lc3_word::{FIRST_DEVICE, Reg, number_of};
 use std::alloc::{AllocError, Global};
 
@@ -25,25 +25,6 @@ pub enum Operand {
     Label(String),
     /// What a string writes, its escapes resolved.
     Characters(Vec<u8>),
-}
-
-/// What an escape writes, by the character after its backslash.
-fn escape(byte: u8) -> Option<u8>
-    ensures value { result ≡ escape byte }
-{
-    match byte {
-        b'n' => Some(b'\n'),
-        b't' => Some(b'\t'),
-        b'r' => Some(b'\r'),
-        b'a' => Some(0x07),
-        b'b' => Some(0x08),
-        b'f' => Some(0x0C),
-        b'v' => Some(0x0B),
-        b'e' => Some(0x1B),
-        b'0' => Some(0),
-        b'"' | b'\\' => Some(byte),
-        _ => None,
-    }
 }
 
 /// The operation or directive that a token names.
