@@ -1,8 +1,9 @@
 //! The calls of the kernel, by the vectors of their traps and by their names.
 
-ghost use Rattle.std.specs.Prelude.{◌≡◌, is_some};
+ghost use Rattle.std.specs.Prelude.{◌≡◌, None, IfSome, is_some};
 ghost use Rattle.lc3_machine.specs.Effects.{is_kernel_trap};
 ghost use Rattle.ipc_traps.specs.Services.{service_in, service_name, is_on_queues, is_open, is_by_name, is_on_level};
+ghost use Rattle.ipc_traps.specs.declared.service.Service.{Service as Call};
 
 /// The vector of the trap of mq_send.
 pub const MQ_SEND: u8 = 0x43;
@@ -33,6 +34,20 @@ pub enum Service {
     SemTrywait,
     SemPost,
     SemGetvalue,
+}
+
+/// The call with a vector, if this is its name.
+fn named_at(vector: u8, name: &[u8]) -> Option<Service>
+    ensures some { IfSome result (λ service. service_name service ≡ name.now) }
+    ensures none { result ≡ None
+        → IfSome (service_in vector) (λ s. service_name s ≡ name.now → ⊥) }
+{
+    let service = Service::of_vector(vector)?;
+    if service.name().as_bytes() == name {
+        Some(service)
+    } else {
+        None
+    }
 }
 
 impl Service {
@@ -82,6 +97,19 @@ impl Service {
             Service::SemPost => "sem_post",
             Service::SemGetvalue => "sem_getvalue",
         }
+    }
+
+    /// The call of this name.
+    pub fn of_name(name: &[u8]) -> Option<Service>
+        ensures some { IfSome result (λ service. service_name service ≡ name.now) }
+        ensures none { result ≡ None → (s : Call) → service_name s ≡ name.now → ⊥ }
+    {
+        for vector in 0x40..0x57_u8 {
+            if let Some(service) = named_at(vector, name) {
+                return Some(service);
+            }
+        }
+        None
     }
 
     /// Whether the call is on message queues, and not on semaphores.
