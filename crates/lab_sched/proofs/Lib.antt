@@ -1,7 +1,6 @@
 pub mod ScheduleJoins
 pub mod ScheduleWords
 pub mod ScheduleSteps
-pub mod ScheduleTextLemmas
 pub mod ScheduleReadsBack
 pub mod ScheduleFaults
 pub mod ListPlaces

@@ -2,7 +2,7 @@
 use Rattle.std.proofs.Common.{◌≡◌, ℕ, ◌+◌, ◌<◌, ◌≤◌, false, List, [], ◌∷◌, ◌++◌, length, map, drop, refl, ap, ◌∙◌, arith, one-add, Some, None, Ok, Err, Result, IfOk, String, string_bytes, append-nil, length-append}
 use Rattle.std.proofs.Math.Seq.{drop-append-add}
 use Rattle.std.specs.Prelude.{decimal, position}
-use Rattle.std.specs.List.{All, AllByRecursion, position_or_len}
+use Rattle.std.specs.List.{All, AllByRecursion, flat_map, position_or_len}
 use Rattle.std.specs.Char.{digit_value}
 use Rattle.std.specs.Str.Parse.{AllDigits, IsNumeral}
 use Rattle.std.proofs.lemmas.Fmt.{decimal_is_IsNumeral}
@@ -19,9 +19,12 @@ use Rattle.lab_sched.specs.ScheduleTexts.{block_text, schedule_text, words, is_s
 use Rattle.lab_sched.proofs.ScheduleJoins.{joined-apart}
 use Rattle.lab_sched.proofs.ScheduleWords.{is_space, words-blank, words-last, words-none}
 use Rattle.lc3_word.proofs.Numerals.{unsigned-decimal}
-use Rattle.lab_sched.proofs.ScheduleTextLemmas.{later_text}
 use Rattle.lab_sched.proofs.ScheduleSteps.{fits}
 use Rattle.ipc_kernel.specs.Limits.{process_max}
+
+-- blocks with a blank before each
+abbrev later_text : List Block → List ℕ
+later_text blocks = flat_map (λ b. 32 ∷ block_text b) blocks
 
 digit_no_space : (c : ℕ) → digit_value c < 10 → is_space c ≡ false
 digit_no_space c h = let r = digit_from_value c h in grind (arith, nat_tests, r)

@@ -18,7 +18,7 @@ pub use entry::Entry;
 pub use fresh::{Fresh, FreshFault, Program};
 pub use next::{Next, find_next};
 pub use process::Process;
-pub use schedule::{Block, MOST_STEPS, SchedFault, Schedule};
+pub use schedule::{Block, MOST_STEPS, SchedFault, Schedule, Steps};
 pub use stepped::Stepped;
 pub use stepping::{answer_call, ask_call, begin_wait, end_process, local_steps, take_step};
 pub use trace::{Trace, TracedCall};

@@ -10,13 +10,15 @@ mod block;
 mod fault;
 mod last;
 mod reading;
+mod steps;
 
 pub use block::{Block, MOST_STEPS};
 pub use fault::SchedFault;
 use reading::{schedule_of, schedule_of_words};
 use std::alloc::{AllocError, Global};
-use std::fmt::Write;
+use std::fmt;
 use std::marker::Model;
+pub use steps::Steps;
 
 /// A schedule: blocks of steps in order, at most 999,999,999 steps in all. Neighbouring blocks have
 /// different processes, so that schedules of the same steps are equal.
@@ -38,6 +40,17 @@ impl Model for Schedule {
     ghost invariant = { λ s. IsSchedule s.blocks.items × (s.total ≡ total_of s.blocks.items) };
 }
 
+impl fmt::Display for Schedule {
+    ghost use Rattle.std.specs.Prelude.{Some};
+    ghost use Rattle.lab_sched.specs.ScheduleTexts.{schedule_text};
+
+    ghost output = { λ s. Some (schedule_text s) };
+
+    fn fmt<W: fmt::Write>(&self, f: &mut fmt::Formatter<W>) -> fmt::Result {
+        Steps(&self.blocks).fmt(f)
+    }
+}
+
 /// Adds a block at the end; where the last block has the same process, it takes the steps.
 fn append(blocks: &mut Vec<Block>, block: Block) -> Result<(), AllocError>
     requires apart { AreApart blocks.old.items }
@@ -52,21 +65,6 @@ fn append(blocks: &mut Vec<Block>, block: Block) -> Result<(), AllocError>
         blocks.push(block)?;
     }
     Ok(())
-}
-
-/// The blocks, with a blank before each but the first.
-fn text_of(alloc: Global, blocks: &[Block]) -> Result<String, AllocError>
-    ensures text { IfOk result (λ s. string_bytes s ≡ schedule_text blocks.now) }
-{
-    let mut text = String::new(alloc);
-    let Some((first, rest)) = blocks.split_first() else {
-        return Ok(text);
-    };
-    write!(text, "{first}")?;
-    for block in rest {
-        write!(text, " {block}")?;
-    }
-    Ok(text)
 }
 
 impl Schedule {
@@ -118,7 +116,8 @@ impl Schedule {
         ensures text { IfOk result (λ s. string_bytes s ≡ schedule_text self.now) }
         ensures reads_back { IfOk result (λ s. reading (string_bytes s) ≡ Ok self.now) }
     {
-        text_of(alloc, &self.blocks)
+        let steps = Steps(self.blocks());
+        format!(in alloc; "{steps}")
     }
 
     /// The schedule that a text writes. Its words stand between blanks, tabs, carriage returns and
