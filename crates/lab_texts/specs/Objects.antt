@@ -18,18 +18,14 @@ name_text None = codes "-"
 name_text (Some name) = name
 
 -- place and name of an object, each with a blank
-unfoldable pub object_part : ℕ → Option (List ℕ) → List ℕ
+abbrev pub object_part : ℕ → Option (List ℕ) → List ℕ
 object_part place name = decimal place ++ codes " " ++ name_text name ++ codes " "
 
--- mq_maxmsg, mq_msgsize and mq_curmsgs of a queue
-unfoldable pub sizes_part : QueueState → List ℕ
-sizes_part q =
-    decimal q.max_messages ++ codes " " ++ decimal q.message_size ++ codes " "
+-- place and name of a queue, its mq_maxmsg, mq_msgsize and mq_curmsgs
+unfoldable pub queue_line : ℕ → Option (List ℕ) → QueueState → List ℕ
+queue_line place name q =
+    object_part place name ++ decimal q.max_messages ++ codes " " ++ decimal q.message_size ++ codes " "
     ++ decimal (length q.messages) ++ codes "\n"
-
--- place, name and sizes of a queue
-abbrev pub queue_line : ℕ → Option (List ℕ) → QueueState → List ℕ
-queue_line place name q = object_part place name ++ sizes_part q
 
 -- a word of a message, after a blank
 abbrev pub word_part : ℕ → List ℕ

@@ -1,6 +1,6 @@
 //! What processes have written.
-ghost use Rattle.std.specs.Prelude.{◌≡◌, Some, IfOk, string_bytes, flat_map};
-ghost use Rattle.lab_texts.specs.Texts.{escape_text, escape_of, out_text};
+ghost use Rattle.std.specs.Prelude.{◌≡◌, Some, IfOk, string_bytes};
+ghost use Rattle.lab_texts.specs.Texts.{escape_text, out_text};
 
 use lab_sched::World;
 use std::alloc::{AllocError, Global};
@@ -20,26 +20,6 @@ impl fmt::Display for Escape {
     }
 }
 
-/// A byte so that it can be printed.
-#[derive(Clone, Copy)]
-struct Printed(u8);
-
-impl fmt::Display for Printed {
-    ghost output = { λ p. Some (escape_of p.0) };
-
-    #[tactic(auto, unfolding(crate::specs::Texts::escape_of, crate::specs::Texts::is_plain))]
-    fn fmt<W: fmt::Write>(&self, f: &mut fmt::Formatter<W>) -> fmt::Result {
-        let byte = self.0;
-        if b' ' <= byte && byte <= b'~' && byte != b'\\' {
-            let character = char::from(byte);
-            write!(f, "{character}")
-        } else {
-            let escape = Escape(byte);
-            write!(f, "{escape}")
-        }
-    }
-}
-
 /// The output line of process `pid`, where the process is there.
 #[derive(Clone, Copy)]
 pub(crate) struct OutputLine<'a>(pub &'a World, pub usize);
@@ -47,7 +27,7 @@ pub(crate) struct OutputLine<'a>(pub &'a World, pub usize);
 impl fmt::Display for OutputLine<'_> {
     ghost output = { λ o. Some (out_text o.1 o.0.now) };
 
-    #[tactic(auto, unfolding(crate::specs::Texts::out_line))]
+    #[tactic(auto, unfolding(crate::specs::Texts::out_line, crate::specs::Texts::escape_of, crate::specs::Texts::is_plain))]
     fn fmt<W: fmt::Write>(&self, f: &mut fmt::Formatter<W>) -> fmt::Result {
         let OutputLine(world, pid) = *self;
         let Some(process) = world.process(pid) else {
@@ -59,8 +39,14 @@ impl fmt::Display for OutputLine<'_> {
             write!(f, " ")?;
         }
         for byte in output {
-            let byte = Printed(*byte);
-            write!(f, "{byte}")?;
+            let byte = *byte;
+            if b' ' <= byte && byte <= b'~' && byte != b'\\' {
+                let character = char::from(byte);
+                write!(f, "{character}")?;
+                continue;
+            }
+            let escape = Escape(byte);
+            write!(f, "{escape}")?;
         }
         write!(f, "\n")
     }

@@ -1,5 +1,6 @@
-//! Verdicts and reports.
+//! The profile and the verdict of a world, and the report on it.
 ghost use Rattle.std.specs.Prelude.{◌≡◌, IfOk, string_bytes};
+ghost use Rattle.lab_texts.specs.Texts.{profile_text};
 ghost use Rattle.lab_texts.specs.Verdicts.{verdict_text};
 ghost use Rattle.lab_texts.specs.Reports.{report_text};
 
@@ -7,6 +8,14 @@ use crate::output::OutputLine;
 use crate::status::StatusLine;
 use lab_sched::World;
 use std::alloc::{AllocError, Global};
+
+/// The profile that the processes have, as `profile a`.
+pub fn profile_text(alloc: Global, world: &World) -> Result<String, AllocError>
+    ensures text { IfOk result (λ s. string_bytes s ≡ profile_text world.now) }
+{
+    let profile = world.profile();
+    format!(in alloc; "profile {profile}\n")
+}
 
 /// The verdict line.
 pub fn verdict_text(alloc: Global, world: &World) -> Result<String, AllocError>

@@ -2,7 +2,7 @@ use Rattle.std.proofs.Common.{◌≡◌, ◌++◌, string_bytes}
 use Rattle.ipc_kernel.specs.Processes.{descriptor_of, slot_of}
 use Rattle.lab_texts.specs.Objects.{descriptor_line, slot_line}
 use Rattle.lab_texts.specs.Rows.{texts_below}
-use Rattle.lab_texts.proofs.descriptors.fds_text.Given as goal
+use Rattle.lab_texts.proofs.objects.fds_text.Given as goal
 
 -- the texts so far are added
 abbrev pub invariant-loop-mqd : goal.invariant-loop-mqd

@@ -2,7 +2,7 @@ use Rattle.std.proofs.Common.{◌++◌, ap, sym, ◌∙◌, string_bytes}
 use Rattle.ipc_objects.specs.declared.queue.Message.{Message}
 use Rattle.lab_texts.specs.Objects.{message_line}
 use Rattle.lab_texts.proofs.RowLemmas.{flat_map-next}
-use Rattle.lab_texts.proofs.queues.push_messages.Goals as goal
+use Rattle.lab_texts.proofs.objects.push_messages.Goals as goal
 
 pub loop-i-preserved : goal.loop-i-preserved
 loop-i-preserved c =

@@ -1,7 +1,7 @@
 use Rattle.std.proofs.Common.{◌≡◌, ◌++◌, string_bytes}
 use Rattle.lab_texts.specs.Objects.{queue_text}
 use Rattle.lab_texts.specs.Rows.{texts_below}
-use Rattle.lab_texts.proofs.queues.mqs_text.Given as goal
+use Rattle.lab_texts.proofs.objects.mqs_text.Given as goal
 
 -- the texts so far are added
 abbrev pub invariant-loop-place : goal.invariant-loop-place

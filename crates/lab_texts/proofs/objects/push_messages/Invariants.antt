@@ -1,6 +1,6 @@
 use Rattle.std.proofs.Common.{◌≡◌, ◌++◌, take, flat_map, string_bytes}
 use Rattle.lab_texts.specs.Objects.{message_line}
-use Rattle.lab_texts.proofs.queues.push_messages.Given as goal
+use Rattle.lab_texts.proofs.objects.push_messages.Given as goal
 
 -- the messages so far are added
 abbrev pub invariant-loop-i : goal.invariant-loop-i

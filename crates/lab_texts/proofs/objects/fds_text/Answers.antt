@@ -2,7 +2,7 @@ use Rattle.std.proofs.Common.{ℕ, List, ◌++◌, ap, ◌∙◌, string_bytes}
 use Rattle.ipc_kernel.specs.Processes.{slot_of}
 use Rattle.lab_texts.specs.Objects.{slot_line}
 use Rattle.lab_texts.proofs.RowLemmas.{texts_below_more}
-use Rattle.lab_texts.proofs.descriptors.fds_text.Goals as goal
+use Rattle.lab_texts.proofs.objects.fds_text.Goals as goal
 
 pub loop-slot-preserved : goal.loop-slot-preserved
 loop-slot-preserved c =
