@@ -1,15 +1,11 @@
 //! Sources with their lines by number, and where a process stands in one.
-ghost use Rattle.std.specs.Prelude.{◌≡◌, ◌-◌, ◌++◌, OnOk, IfOk, slice_get, map, string_bytes};
+ghost use Rattle.std.specs.Prelude.{◌≡◌, IfOk, string_bytes};
 ghost use Rattle.std.specs.Option.{option_map};
-ghost use Rattle.lab_sources.specs.Places.{line_or_nothing};
-ghost use Rattle.lab_sources.specs.Labels.{nearest};
-ghost use Rattle.lc3_table.specs.Text.{word_text};
-ghost use Rattle.lab_places.specs.Statuses.{is_word};
-ghost use Rattle.lab_places.specs.Placed.{listed, label_part, shown_row, row_part, place_text};
+ghost use Rattle.lab_places.specs.Placed.{listed, shown_row, place_text};
 ghost use Rattle.lab_places.specs.Private.Standings.{standing_seen};
 
 use crate::status::{Standing, is_word};
-use lab_sources::{Listing, Source};
+use lab_sources::{Listing, Source, line_at};
 use lc3_asm::Row;
 use lc3_table::WordText;
 use std::alloc::{AllocError, Global};
@@ -79,16 +75,6 @@ fn shown_row(
     }
 }
 
-/// A line as it is shown, by its number, from 1.
-fn line(lines: &[String], number: usize) -> &str
-    ensures line { result.now ≡ line_or_nothing (slice_get lines.now (number - 1)) }
-{
-    match lines.get(number.saturating_sub(1)) {
-        Some(line) => line.as_str(),
-        None => "",
-    }
-}
-
 /// Where a process stands in a source: the nearest label, and the line with its number, as far as there are such.
 #[tactic(auto, unfolding(crate::specs::Placed::place_text))]
 pub(crate) fn place_text(
@@ -105,7 +91,7 @@ pub(crate) fn place_text(
     }
     if let Some(row) = shown_row(alloc, source.source, standing)? {
         let number = row.line;
-        let line = line(source.lines, number);
+        let line = line_at(source.lines, number);
         write!(place, ", line {number}: {line}")?;
     }
     Ok(place)

@@ -1,6 +1,5 @@
 //! Labels by their names and by addresses.
 ghost use Rattle.std.specs.Prelude.{◌≡◌, Some, option_map};
-ghost use Rattle.lc3_table.specs.Words.{same_name};
 ghost use Rattle.lab_sources.specs.Labels.{address_of, or_higher, highest_up_to, label_text};
 
 use lc3_asm::Symbols;
@@ -32,21 +31,14 @@ impl fmt::Display for Near<'_> {
     }
 }
 
-/// Whether a word is this name, in either case.
-#[tactic(auto, unfolding(lc3_table::specs::Words::same_name))]
-fn is_name(name: &str, word: &[u8]) -> bool
-    ensures value { result ≡ same_name name.now word.now }
-{
-    name.as_bytes().eq_ignore_ascii_case(word)
-}
-
 /// The address of the label that a word names, in either case.
+#[tactic(auto, unfolding(lc3_table::specs::Words::same_name))]
 pub fn address_of(symbols: &Symbols, word: &[u8]) -> Option<u16>
     ensures value { result ≡ address_of symbols.now word.now }
 {
     for i in 0..symbols.len() {
         let (name, address) = symbols.get(i)?;
-        if is_name(name, word) {
+        if name.as_bytes().eq_ignore_ascii_case(word) {
             return Some(address);
         }
     }

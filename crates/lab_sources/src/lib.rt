@@ -7,5 +7,5 @@ mod listing;
 mod source;
 
 pub use labels::Near;
-pub use listing::{Content, Listing, NearestLabel};
+pub use listing::{Content, Listing, NearestLabel, line_at};
 pub use source::Source;

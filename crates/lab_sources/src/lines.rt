@@ -19,16 +19,12 @@ fn has_picture(character: char) -> bool {
     )
 }
 
-/// Blank, tab, comma, carriage return: what separates the words of a line.
-fn is_separator(character: char) -> bool {
-    matches!(character, ' ' | '\t' | ',' | '\r')
-}
-
-/// A line as it is shown: without separators at its ends, and with `?` for each character without a
-/// picture.
+/// A line as it is shown: without separators of words at its ends, and with `?` for each character
+/// without a picture.
 fn shown_line(alloc: Global, line: &str) -> Result<String, AllocError> {
     let mut shown = String::new(alloc);
-    for character in line.trim_matches(is_separator).chars() {
+    let line = line.trim_matches(|end| matches!(end, ' ' | '\t' | ',' | '\r'));
+    for character in line.chars() {
         shown.push(if has_picture(character) {
             character
         } else {

@@ -25,15 +25,15 @@ impl Listing {
         let lines = shown_lines(alloc, &source.text)?;
         Ok(Listing { source, lines })
     }
+}
 
-    /// A line as it is shown, by its number, from 1.
-    fn line(&self, number: usize) -> &str
-        ensures line { result.now ≡ line_or_nothing (slice_get self.now.lines.items (number - 1)) }
-    {
-        match self.lines.get(number.saturating_sub(1)) {
-            Some(line) => line.as_str(),
-            None => "",
-        }
+/// A line as it is shown, by its number, from 1.
+pub fn line_at(lines: &[String], number: usize) -> &str
+    ensures line { result.now ≡ line_or_nothing (slice_get lines.now (number - 1)) }
+{
+    match lines.get(number.saturating_sub(1)) {
+        Some(line) => line.as_str(),
+        None => "",
     }
 }
 
@@ -104,7 +104,7 @@ impl fmt::Display for Content<'_> {
         match listing.source.held_row(self.address, self.word) {
             Some(row) => {
                 let number = row.line;
-                let line = listing.line(number);
+                let line = line_at(&listing.lines, number);
                 write!(f, "line {number}: {line}")
             }
             None => write!(f, "{word}"),
