@@ -1,6 +1,6 @@
 -- Steps in blocks.
 use native.Mathlib.Numerals.{unary_clauses}
-use Rattle.std.proofs.Common.{◌≡◌, ℕ, zero, suc, ◌+◌, ◌-◌, ◌<◌, ◌++◌, List, [], ◌∷◌, replicate, take, drop, drop-cons, get_or, length, min, refl, sym, ap, ◌∙◌, arith, append_assoc, append-nil}
+use Rattle.std.proofs.Common.{◌≡◌, ℕ, zero, suc, ◌+◌, ◌-◌, ◌++◌, List, [], ◌∷◌, replicate, take, length, min, refl, sym, ap, ◌∙◌, arith, append_assoc, append-nil}
 use Rattle.std.proofs.lemmas.List.{length-append, length-replicate}
 use Rattle.lab_sched.specs.declared.schedule.block.Block.{Block}
 use Rattle.lab_sched.specs.Schedules.{steps_of}
@@ -10,21 +10,17 @@ pub steps-cons : (b : Block) (bs : List Block) → steps_of (b ∷ bs) ≡ repli
 unfolding steps_of
 steps-cons b bs = refl
 
-pub steps-nil : steps_of [] ≡ []
+-- one block alone
+pub one_block : (b : Block) → steps_of (b ∷ []) ≡ replicate b.count b.pid
 unfolding steps_of
-steps-nil = refl
+one_block b = append-nil (replicate b.count b.pid)
 
 pub push-block : (xs ys : List Block) (b : Block) → ys ≡ xs ++ b ∷ [] → steps_of ys ≡ steps_of xs ++ replicate b.count b.pid
-push-block xs ys b is =
-    ap steps_of is ∙ steps_of-append xs (b ∷ []) ∙ ap (λ zs. steps_of xs ++ zs) (steps-cons b [] ∙ ap (λ zs. replicate b.count b.pid ++ zs) steps-nil ∙ append-nil (replicate b.count b.pid))
+push-block xs ys b is = ap steps_of is ∙ steps_of-append xs (b ∷ []) ∙ ap (λ zs. steps_of xs ++ zs) (one_block b)
 
 pub nothing-taken : (xs : List Block) (zs : List ℕ) → xs ≡ [] → steps_of xs ++ zs ≡ zs
 unfolding steps_of
 nothing-taken xs zs is = ap (λ ys. steps_of ys ++ zs) is
-
--- a block, and those behind it
-pub cut-block : (bs : List Block) (i : ℕ) (d : Block) → i < length bs → drop i bs ≡ get_or bs i d ∷ drop (i + 1) bs
-cut-block bs i d h = let next : suc i ≡ i + 1 = omega arith in drop-cons bs i d h ∙ ap (λ n. get_or bs i d ∷ drop n bs) next
 
 take-block : (c n p : ℕ) (rest : List ℕ) → take n (replicate c p ++ rest) ≡ replicate (min c n) p ++ take (n - min c n) rest
 take-block zero n p rest = simp unary_clauses refl
@@ -46,10 +42,6 @@ pub take-none : (left : ℕ) → take left (steps_of []) ≡ []
 unfolding steps_of
 take-none zero = refl
 take-none (suc left) = refl
-
--- one block alone
-pub one_block : (b : Block) → steps_of (b ∷ []) ≡ replicate b.count b.pid
-one_block b = steps-cons b [] ∙ ap (λ zs. replicate b.count b.pid ++ zs) steps-nil ∙ append-nil (replicate b.count b.pid)
 
 -- the steps of a block and of those behind it
 pub count-more : (b : Block) (left rest : List Block) (n all : ℕ) → left ≡ b ∷ rest → n + length (steps_of left) ≡ all → (n + b.count) + length (steps_of rest) ≡ all

@@ -9,7 +9,7 @@ use Rattle.lab_session.specs.Marks.{break_at, stands_at_break, is_at_break}
 use Rattle.lab_session.specs.Sessions.{SessionState, effective, with_steps, after_steps}
 use Rattle.lab_session.specs.Stops.{is_stop, comes_to_stop, steps_to_stop, stopped_process, steps_until}
 use Rattle.lab_session.specs.Private.Stops.{only_if}
-use Rattle.lab_session.proofs.StepLemmas.{run-same, effective-append}
+use Rattle.lab_session.proofs.StepLemmas.{effective-append}
 use Rattle.lab_session.proofs.StopLemmas.{went-rests}
 use Rattle.lab_session.proofs.BlockLemmas.{steps-cons}
 
@@ -36,54 +36,15 @@ unfolding steps_to_stop
 no_marks_no_stop w [] = refl
 no_marks_no_stop w (p ∷ ps) = rw (no-stop p w) (ap (λ zs. p ∷ zs) (no_marks_no_stop (step w p) ps))
 
--- steps that come to no stop, and others behind them
-steps-on : (ms : List Mark) (w : WorldState) (xs ys : List ℕ) → stopped_process ms w xs ≡ None → steps_to_stop ms w (xs ++ ys) ≡ xs ++ steps_to_stop ms (run w xs) ys
-unfolding steps_to_stop stopped_process run
-steps-on ms w [] ys is = refl
-steps-on ms w (p ∷ xs) ys is = by (comes_to_stop ms p w) refl (λ k. steps-on ms (step w p) xs ys k)
-  where
-    by : (b : Bool) → comes_to_stop ms p w ≡ b → (stopped_process ms (step w p) xs ≡ None → steps_to_stop ms (step w p) (xs ++ ys) ≡ xs ++ steps_to_stop ms (run (step w p) xs) ys)
-        → steps_to_stop ms w (p ∷ (xs ++ ys)) ≡ p ∷ (xs ++ steps_to_stop ms (run (step w p) xs) ys)
-    by true e more = let never : Some p ≡ None = (rw e at is) in cc
-    by false e more = rw e (ap (λ zs. p ∷ zs) (more (rw e at is)))
-
-stopped-on : (ms : List Mark) (w : WorldState) (xs ys : List ℕ) → stopped_process ms w xs ≡ None → stopped_process ms w (xs ++ ys) ≡ stopped_process ms (run w xs) ys
-unfolding stopped_process run
-stopped-on ms w [] ys is = refl
-stopped-on ms w (p ∷ xs) ys is = by (comes_to_stop ms p w) refl (λ k. stopped-on ms (step w p) xs ys k)
-  where
-    by : (b : Bool) → comes_to_stop ms p w ≡ b → (stopped_process ms (step w p) xs ≡ None → stopped_process ms (step w p) (xs ++ ys) ≡ stopped_process ms (run (step w p) xs) ys)
-        → stopped_process ms w (p ∷ (xs ++ ys)) ≡ stopped_process ms (run (step w p) xs) ys
-    by true e more = let never : Some p ≡ None = (rw e at is) in cc
-    by false e more = rw e (more (rw e at is))
-
--- all of them are taken
+-- where no step is a stop all are taken
 all-taken : (ms : List Mark) (w : WorldState) (xs : List ℕ) → stopped_process ms w xs ≡ None → steps_to_stop ms w xs ≡ xs
-unfolding steps_to_stop
-all-taken ms w xs is =
-    let none : steps_to_stop ms (run w xs) [] ≡ [] = refl in
-    ap (steps_to_stop ms w) (sym (append-nil xs)) ∙ steps-on ms w xs [] is ∙ ap (λ zs. xs ++ zs) none ∙ append-nil xs
-
--- steps that come to a stop, and others behind them
-steps-met : (ms : List Mark) (w : WorldState) (xs ys : List ℕ) (q : ℕ) → stopped_process ms w xs ≡ Some q → steps_to_stop ms w (xs ++ ys) ≡ steps_to_stop ms w xs
 unfolding steps_to_stop stopped_process
-steps-met ms w [] ys q is = cc
-steps-met ms w (p ∷ xs) ys q is = by (comes_to_stop ms p w) refl (λ k. steps-met ms (step w p) xs ys q k)
+all-taken ms w [] is = refl
+all-taken ms w (p ∷ xs) is = by (comes_to_stop ms p w) refl (λ k. all-taken ms (step w p) xs k)
   where
-    by : (b : Bool) → comes_to_stop ms p w ≡ b → (stopped_process ms (step w p) xs ≡ Some q → steps_to_stop ms (step w p) (xs ++ ys) ≡ steps_to_stop ms (step w p) xs)
-        → steps_to_stop ms w (p ∷ (xs ++ ys)) ≡ steps_to_stop ms w (p ∷ xs)
-    by true e more = rw e refl
+    by : (b : Bool) → comes_to_stop ms p w ≡ b → (stopped_process ms (step w p) xs ≡ None → steps_to_stop ms (step w p) xs ≡ xs) → steps_to_stop ms w (p ∷ xs) ≡ p ∷ xs
+    by true e more = let never : Some p ≡ None = (rw e at is) in cc
     by false e more = rw e (ap (λ zs. p ∷ zs) (more (rw e at is)))
-
-stopped-met : (ms : List Mark) (w : WorldState) (xs ys : List ℕ) (q : ℕ) → stopped_process ms w xs ≡ Some q → stopped_process ms w (xs ++ ys) ≡ Some q
-unfolding stopped_process
-stopped-met ms w [] ys q is = cc
-stopped-met ms w (p ∷ xs) ys q is = by (comes_to_stop ms p w) refl (λ k. stopped-met ms (step w p) xs ys q k)
-  where
-    by : (b : Bool) → comes_to_stop ms p w ≡ b → (stopped_process ms (step w p) xs ≡ Some q → stopped_process ms (step w p) (xs ++ ys) ≡ Some q)
-        → stopped_process ms w (p ∷ (xs ++ ys)) ≡ Some q
-    by true e more = rw e (rw e at is)
-    by false e more = rw e (more (rw e at is))
 
 -- steps of one process that come to a stop all have an effect
 all-act : (ms : List Mark) (p : ℕ) (w : WorldState) (n q : ℕ) → stopped_process ms w (replicate n p) ≡ Some q
@@ -114,13 +75,37 @@ after xs ys t = (xs ++ t.0, ys ++ t.1, t.2, t.3)
 after-both : (xs ys us vs : List ℕ) (t : Came) → after (xs ++ us) (ys ++ vs) t ≡ after xs ys (after us vs t)
 after-both xs ys us vs t = rw (append_assoc xs us t.0, append_assoc ys vs t.1) refl
 
-came-on : (ms : List Mark) (w : WorldState) (xs ys : List ℕ) → stopped_process ms w xs ≡ None → came ms w (xs ++ ys) ≡ after xs (effective w xs) (came ms (run w xs) ys)
-came-on ms w xs ys is =
-    let zs = steps_to_stop ms (run w xs) ys in
-    rw (steps-on ms w xs ys is, stopped-on ms w xs ys is, effective-append w xs zs, run-same w xs zs) refl
+-- a step that is no stop
+came-cons : (ms : List Mark) (w : WorldState) (p : ℕ) (ps : List ℕ) → comes_to_stop ms p w ≡ false → came ms w (p ∷ ps) ≡ after (p ∷ []) (effective w (p ∷ [])) (came ms (step w p) ps)
+unfolding steps_to_stop stopped_process run
+came-cons ms w p ps e =
+    let more = steps_to_stop ms (step w p) ps in
+    let as_came : List ℕ → Came = λ es. (p ∷ more, es, stopped_process ms (step w p) ps, run (step w p) more) in
+    rw e (ap as_came (effective-append w (p ∷ []) more))
 
-came-met : (ms : List Mark) (w : WorldState) (xs ys : List ℕ) (q : ℕ) → stopped_process ms w xs ≡ Some q → came ms w (xs ++ ys) ≡ came ms w xs
-came-met ms w xs ys q is = rw (steps-met ms w xs ys q is, stopped-met ms w xs ys q is, is) refl
+-- what steps come to that began with others, which came to this
+abbrev onward : List Mark → List ℕ → Option ℕ → Came → Came
+onward ms ys None t = after t.0 t.1 (came ms t.3 ys)
+onward ms ys (Some q) t = t
+
+onward-after : (ms : List Mark) (ys xs us : List ℕ) (o : Option ℕ) (t : Came) → after xs us (onward ms ys o t) ≡ onward ms ys o (after xs us t)
+onward-after ms ys xs us None t = sym (after-both xs us t.0 t.1 (came ms t.3 ys))
+onward-after ms ys xs us (Some q) t = refl
+
+came-append : (ms : List Mark) (w : WorldState) (xs ys : List ℕ) → came ms w (xs ++ ys) ≡ onward ms ys (stopped_process ms w xs) (came ms w xs)
+unfolding steps_to_stop stopped_process effective run
+came-append ms w [] ys = refl
+came-append ms w (p ∷ xs) ys = by (comes_to_stop ms p w) refl (came-append ms (step w p) xs ys)
+  where
+    by : (b : Bool) → comes_to_stop ms p w ≡ b → came ms (step w p) (xs ++ ys) ≡ onward ms ys (stopped_process ms (step w p) xs) (came ms (step w p) xs)
+        → came ms w (p ∷ (xs ++ ys)) ≡ onward ms ys (stopped_process ms w (p ∷ xs)) (came ms w (p ∷ xs))
+    by true e more = rw e refl
+    by false e more =
+        let first = effective w (p ∷ []) in
+        let stopped = stopped_process ms (step w p) xs in
+        let same : stopped_process ms w (p ∷ xs) ≡ stopped = rw e refl in
+        came-cons ms w p (xs ++ ys) e ∙ ap (after (p ∷ []) first) more ∙ onward-after ms ys (p ∷ []) first stopped (came ms (step w p) xs)
+        ∙ ap (onward ms ys stopped) (sym (came-cons ms w p xs e)) ∙ ap (λ o. onward ms ys o (came ms w (p ∷ xs))) (sym same)
 
 cut-steps : (ms : List Mark) (w : WorldState) (left rest : List Block) (b : Block) → left ≡ b ∷ rest → came ms w (steps_of left) ≡ came ms w (replicate b.count b.pid ++ steps_of rest)
 cut-steps ms w left rest b cut = ap (λ bs. came ms w (steps_of bs)) cut ∙ ap (came ms w) (steps-cons b rest)
@@ -134,12 +119,9 @@ pub block-on : (ms : List Mark) (w v : WorldState) (b : Block) (left rest : List
 block-on ms w v b left rest xs ys us vs e all cut none acted v-is us-is vs-is is =
     let steps = replicate b.count b.pid in
     let whole : steps_to_stop ms w steps ≡ steps = all-taken ms w steps none in
-    let some : vs ≡ ys ++ effective w steps = vs-is ∙ ap (λ zs. ys ++ zs) (acted ∙ ap (effective w) whole) in
-    let there : v ≡ run w steps = v-is ∙ ap (run w) whole in
-    rw (us-is, some, there)
-    (after-both xs ys steps (effective w steps) (came ms (run w steps) (steps_of rest))
-    ∙ ap (after xs ys) (sym (cut-steps ms w left rest b cut ∙ came-on ms w steps (steps_of rest) none))
-    ∙ is)
+    let here : came ms w (steps_of left) ≡ after steps (replicate e b.pid) (came ms v (steps_of rest)) =
+    cut-steps ms w left rest b cut ∙ came-append ms w steps (steps_of rest) ∙ rw (none, ← acted, ← v-is, whole) refl in
+    rw (us-is, vs-is) (after-both xs ys steps (replicate e b.pid) (came ms v (steps_of rest)) ∙ ap (after xs ys) (sym here) ∙ is)
 
 -- a block that comes to a stop
 pub block-met : (ms : List Mark) (w v : WorldState) (b : Block) (left rest : List Block) (xs ys us vs : List ℕ) (e : ℕ) (all : Came)
@@ -150,11 +132,9 @@ pub block-met : (ms : List Mark) (w v : WorldState) (b : Block) (left rest : Lis
 block-met ms w v b left rest xs ys us vs e all cut met acted v-is us-is vs-is is =
     let steps = replicate b.count b.pid in
     let whole : replicate e b.pid ≡ steps_to_stop ms w steps = acted ∙ sym (all-act ms b.pid w b.count b.pid met) in
-    let those : us ≡ xs ++ steps_to_stop ms w steps = us-is ∙ ap (λ zs. xs ++ zs) whole in
-    let some : vs ≡ ys ++ effective w (steps_to_stop ms w steps) = vs-is ∙ ap (λ zs. ys ++ zs) acted in
-    rw (those, some, v-is, sym met)
-    (ap (after xs ys) (sym (cut-steps ms w left rest b cut ∙ came-met ms w steps (steps_of rest) b.pid met))
-    ∙ is)
+    let here : came ms w (steps_of left) ≡ (replicate e b.pid, replicate e b.pid, Some b.pid, v) =
+    cut-steps ms w left rest b cut ∙ came-append ms w steps (steps_of rest) ∙ rw (met, ← acted, ← v-is, ← whole) refl in
+    rw (us-is, vs-is) (ap (after xs ys) (sym here) ∙ is)
 
 -- before the first block, and behind the last
 pub blocks-start : (ms : List Mark) (w : WorldState) (bs us vs : List Block) → us ≡ [] → vs ≡ [] → after (steps_of us) (steps_of vs) (came ms w (steps_of bs)) ≡ came ms w (steps_of bs)

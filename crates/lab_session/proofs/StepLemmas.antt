@@ -1,5 +1,6 @@
 -- Steps of a process, and which of them have an effect.
-use Rattle.std.proofs.Common.{◌≡◌, ℕ, zero, suc, ◌+◌, ◌++◌, List, [], ◌∷◌, Bool, true, false, replicate, slice_get, refl, sym, ap, ◌∙◌, arith}
+use Rattle.std.proofs.Common.{◌≡◌, ℕ, ◌+◌, ◌++◌, List, [], ◌∷◌, Bool, true, false, replicate, slice_get, refl, sym, ap, ◌∙◌, append_assoc}
+use Rattle.std.proofs.lemmas.List.{replicate_more}
 use Rattle.lab_sched.specs.Worlds.{WorldState, StepEffect, nothing, local_step, kernel_step, step_effect_in, step, after, run}
 use Rattle.lab_sched.specs.Held.{asked_by, told_in}
 use Rattle.lab_sched.proofs.Runs.{told_nothing, nothing_told}
@@ -25,10 +26,7 @@ stays w pid (kernel_step m c a) e = cc
 
 -- one more of the same at the front of the rest
 pub replicate-more : (n p : ℕ) (xs : List ℕ) → replicate (n + 1) p ++ xs ≡ replicate n p ++ p ∷ xs
-replicate-more zero p xs = refl
-replicate-more (suc n) p xs =
-    let next : suc n + 1 ≡ suc (n + 1) = omega arith in
-    rw next (ap (λ ys. p ∷ ys) (replicate-more n p xs))
+replicate-more n p xs = sym (ap (λ ys. ys ++ xs) (replicate_more n p)) ∙ append_assoc (replicate n p) (p ∷ []) xs
 
 pub run-same : (w : WorldState) (xs ys : List ℕ) → run w (xs ++ ys) ≡ run (run w xs) ys
 unfolding run

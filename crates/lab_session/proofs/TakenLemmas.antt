@@ -1,6 +1,7 @@
 -- Steps in a row as blocks.
 use Rattle.std.proofs.Common.{◌≡◌, ℕ, zero, suc, ◌+◌, ◌<◌, ◌==◌, ◌++◌, List, [], ◌∷◌, Bool, true, false, replicate, refl, sym, ap, ◌∙◌, arith, append-nil, append_assoc}
 use Rattle.std.specs.Prelude.{flat_map}
+use Rattle.std.proofs.lemmas.List.{replicate-append-replicate}
 use Rattle.std.proofs.lemmas.Bool.Decides.{nat_tests}
 use Rattle.lab_sched.specs.declared.schedule.block.Block.{Block}
 use Rattle.lab_sched.specs.Schedules.{block, before, steps_of}
@@ -10,8 +11,7 @@ use Rattle.lab_session.proofs.BlockLemmas.{steps-cons}
 
 -- steps of a process and more of them
 pub replicate-sum : (n m p : ℕ) (xs : List ℕ) → replicate n p ++ (replicate m p ++ xs) ≡ replicate (n + m) p ++ xs
-replicate-sum zero m p xs = let sum : m ≡ 0 + m = omega arith in ap (λ k. replicate k p ++ xs) sum
-replicate-sum (suc n) m p xs = let sum : suc n + m ≡ suc (n + m) = omega arith in rw sum (ap (λ ys. p ∷ ys) (replicate-sum n m p xs))
+replicate-sum n m p xs = sym (append_assoc (replicate n p) (replicate m p) xs) ∙ ap (λ ys. ys ++ xs) (replicate-append-replicate n m p)
 
 same-process : (p : ℕ) → (p == p) ≡ true
 same-process p = grind (arith, nat_tests)

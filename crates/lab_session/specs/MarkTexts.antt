@@ -36,12 +36,12 @@ marks_text ls w (m ∷ ms) = set_text ls w m ++ marks_text ls w ms
 
 -- the word that tells that a mark of this kind is taken off
 abbrev pub off_word : MarkKind → List ℕ
-off_word Break = codes "clear"
-off_word Watch = codes "unwatch"
+off_word Break = codes "clear "
+off_word Watch = codes "unwatch "
 
 -- a mark that is taken off
 abbrev pub off_text : List (Option Listing) → Mark → List ℕ
-off_text ls m = off_word m.kind ++ codes " " ++ mark_text ls m ++ codes "\n"
+off_text ls m = off_word m.kind ++ mark_text ls m ++ codes "\n"
 
 -- a watched word that has changed, and the word that is there now
 unfoldable pub change_line : List (Option Listing) → WorldState → Watched → List ℕ

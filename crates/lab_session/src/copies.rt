@@ -1,6 +1,5 @@
 //! Copies of worlds.
-ghost use Rattle.std.specs.Prelude.{◌≡◌, ◌≤◌, All, IfOk, length, map};
-ghost use Rattle.ipc_kernel.specs.Limits.{process_max};
+ghost use Rattle.std.specs.Prelude.{◌≡◌, IfOk};
 ghost use Rattle.lab_sched.specs.Held.{IsHeld, process_view};
 ghost use Rattle.lab_sched.specs.Worlds.{Waiting as WaitingSeen};
 
@@ -40,12 +39,9 @@ fn copy_of(alloc: Global, process: &Process) -> Result<Process, AllocError>
     }
 }
 
-/// Copies of the processes of a world.
-fn copies_of(alloc: Global, world: &World) -> Result<Vec<Process>, AllocError>
-    ensures same { IfOk result (λ copies. map process_view copies.items ≡ world.now.processes) }
-    ensures held { IfOk result (λ copies. All IsHeld copies.items) }
-    ensures some { 1 ≤ length world.now.processes }
-    ensures few { length world.now.processes ≤ process_max }
+/// A copy of a world.
+pub fn copy_of_world(alloc: Global, world: &World) -> Result<World, AllocError>
+    ensures same { IfOk result (λ copy. copy ≡ world.now) }
 {
     let count = world.count();
     let mut copies = Vec::with_capacity(alloc, count)?;
@@ -56,14 +52,6 @@ fn copies_of(alloc: Global, world: &World) -> Result<Vec<Process>, AllocError>
         let copy = copy_of(alloc, process)?;
         copies.push(copy)?;
     }
-    Ok(copies)
-}
-
-/// A copy of a world.
-pub fn copy_of_world(alloc: Global, world: &World) -> Result<World, AllocError>
-    ensures same { IfOk result (λ copy. copy ≡ world.now) }
-{
-    let copies = copies_of(alloc, world)?;
     let kernel = world.kernel().copy(alloc)?;
     // The processes of a world have one profile.
     let _ = world.profile();

@@ -1,6 +1,6 @@
 //! The texts of marks, and of watched words that have changed.
 ghost use Rattle.std.specs.Prelude.{◌≡◌, ◌++◌, Some, IfOk, OnOk, string_bytes};
-ghost use Rattle.lab_session.specs.MarkTexts.{mark_text, watched_text, set_text, marks_text, off_word, off_text, change_text, changes_text};
+ghost use Rattle.lab_session.specs.MarkTexts.{mark_text, watched_text, set_text, marks_text, off_text, changes_text};
 
 use crate::marks::{Mark, MarkKind};
 use crate::state::listing_in;
@@ -100,16 +100,6 @@ pub fn set_text(
     format!(in alloc; "{line}")
 }
 
-/// The word that tells that a mark of this kind is taken off.
-fn off_word(kind: MarkKind) -> &'static str
-    ensures word { result.now ≡ off_word kind }
-{
-    match kind {
-        MarkKind::Break => "clear",
-        MarkKind::Watch => "unwatch",
-    }
-}
-
 /// The line of a mark that is taken off, as `clear 0 x3007 LOOP`.
 pub fn off_text(
     alloc: Global,
@@ -118,9 +108,11 @@ pub fn off_text(
 ) -> Result<String, AllocError>
     ensures text { IfOk result (λ s. string_bytes s ≡ off_text listings.now mark) }
 {
-    let word = off_word(mark.kind);
-    let mark = Marked { listings, mark };
-    format!(in alloc; "{word} {mark}\n")
+    let shown = Marked { listings, mark };
+    match mark.kind {
+        MarkKind::Break => format!(in alloc; "clear {shown}\n"),
+        MarkKind::Watch => format!(in alloc; "unwatch {shown}\n"),
+    }
 }
 
 /// The lines of marks, in their order.
@@ -145,26 +137,9 @@ pub fn marks_text(
     Ok(text)
 }
 
-/// Adds the line of a watched word, where it has changed, as `watch 0 x3010 COUNT x0005 -> x0006`.
+/// Adds the lines of the watched words that have changed, each as
+/// `watch 0 x3010 COUNT x0005 -> x0006`.
 #[tactic(auto, unfolding(crate::specs::MarkTexts::change_line))]
-fn push_change(
-    text: &mut String,
-    listings: &[Option<Listing>],
-    world: &World,
-    watched: Watched,
-) -> Result<(), AllocError>
-    ensures text { OnOk result (string_bytes text.new
-        ≡ string_bytes text.old ++ change_text listings.now world.now watched) }
-{
-    if has_changed(world, watched) {
-        let seen = Seen { listings, watched };
-        let word = Hex(word_at(world, watched.mark));
-        write!(text, "{seen} -> {word}\n")?;
-    }
-    Ok(())
-}
-
-/// Adds the lines of the watched words that have changed.
 pub fn push_changes(
     text: &mut String,
     listings: &[Option<Listing>],
@@ -175,7 +150,13 @@ pub fn push_changes(
         ≡ string_bytes text.old ++ changes_text listings.now world.now watched.now) }
 {
     for word in watched {
-        push_change(text, listings, world, *word)?;
+        let watched = *word;
+        if !has_changed(world, watched) {
+            continue;
+        }
+        let seen = Seen { listings, watched };
+        let word = Hex(word_at(world, watched.mark));
+        write!(text, "{seen} -> {word}\n")?;
     }
     Ok(())
 }

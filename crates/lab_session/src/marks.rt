@@ -1,5 +1,5 @@
 //! Marks: addresses of processes that steps stop at, or whose words they watch.
-ghost use Rattle.std.specs.Prelude.{◌≡◌, IfOk, filter};
+ghost use Rattle.std.specs.Prelude.{◌≡◌, IfOk};
 ghost use Rattle.lab_session.specs.Marks.{rank, is_of, is_same, is_lower, is_before, has_mark, with_mark, without_mark, of_kind, break_at, is_at_break};
 
 use lab_sched::World;
@@ -65,36 +65,16 @@ pub fn has_mark(marks: &[Mark], mark: Mark) -> bool
     marks.iter().any(|it| is_same(*it, mark))
 }
 
-fn marks_before(alloc: Global, marks: &[Mark], mark: Mark) -> Result<Vec<Mark>, AllocError>
-    ensures marks { IfOk result
-        (λ found. found.items ≡ filter (λ it. is_before it mark) marks.now) }
-{
-    marks
-        .iter()
-        .copied()
-        .filter(|it| is_before(*it, mark))
-        .collect(alloc)
-}
-
-fn marks_behind(alloc: Global, marks: &[Mark], mark: Mark) -> Result<Vec<Mark>, AllocError>
-    ensures marks { IfOk result
-        (λ found. found.items ≡ filter (λ it. is_before mark it) marks.now) }
-{
-    marks
-        .iter()
-        .copied()
-        .filter(|it| is_before(mark, *it))
-        .collect(alloc)
-}
-
 /// These with a mark, in the order of kind, process and address.
 #[tactic(auto, using(crate::proofs::MarkLemmas::one_between))]
 pub fn with_mark(alloc: Global, marks: &[Mark], mark: Mark) -> Result<Vec<Mark>, AllocError>
     ensures marks { IfOk result (λ all. all.items ≡ with_mark marks.now mark) }
 {
-    let mut all = marks_before(alloc, marks, mark)?;
+    let others = marks.iter().copied();
+    let mut all: Vec<Mark> = others.filter(|it| is_before(*it, mark)).collect(alloc)?;
     all.push(mark)?;
-    let behind = marks_behind(alloc, marks, mark)?;
+    let others = marks.iter().copied();
+    let behind: Vec<Mark> = others.filter(|it| is_before(mark, *it)).collect(alloc)?;
     all.extend_from_slice(behind.as_slice())?;
     Ok(all)
 }

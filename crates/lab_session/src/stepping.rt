@@ -1,9 +1,8 @@
 //! Steps of a world, up to a stop, and which of them have an effect.
-ghost use Rattle.std.specs.Prelude.{◌≡◌, ◌||◌, ◌++◌, true, false, IfOk, OnOk, length, replicate, take};
+ghost use Rattle.std.specs.Prelude.{◌≡◌, ◌||◌, ◌++◌, IfOk, OnOk, length, replicate, take};
 ghost use Rattle.std.specs.List.{list_any};
 ghost use Rattle.lab_sched.specs.Worlds.{run};
 ghost use Rattle.lab_sched.specs.Schedules.{steps_of};
-ghost use Rattle.lab_sched.specs.declared.stepped.Stepped.TheVariants.{Same};
 ghost use Rattle.lab_session.specs.Marks.{is_at_break};
 ghost use Rattle.lab_session.specs.Watches.{has_changed};
 ghost use Rattle.lab_session.specs.Stops.{steps_to_stop, stopped_process};
@@ -14,14 +13,6 @@ use crate::marks::{Mark, is_at_break};
 use crate::watches::{Watched, is_any_changed, watched_words};
 use lab_sched::{Block, Stepped, World};
 use std::alloc::{AllocError, Global};
-
-/// Whether a step did nothing.
-fn is_same(stepped: Stepped) -> bool
-    ensures yes { result ≡ true → stepped ≡ Same }
-    ensures no { result ≡ false → stepped ≡ Same → ⊥ }
-{
-    matches!(stepped, Stepped::Same)
-}
 
 /// Whether process `pid` is at a break, or another word is at a watched address now.
 fn is_stopped(world: &World, marks: &[Mark], watched: &[Watched], pid: usize) -> bool
@@ -52,7 +43,7 @@ fn step_to_stop(
         let Ok(stepped) = world.step(pid) else {
             return Err(AllocError);
         };
-        if is_same(stepped) {
+        if let Stepped::Same = stepped {
             return Ok((i, false));
         }
         if is_stopped(world, marks, &watched, pid) {

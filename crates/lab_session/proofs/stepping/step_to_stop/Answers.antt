@@ -1,4 +1,4 @@
-use Rattle.std.proofs.Common.{rules, ◌||◌, sym, ap, ◌∙◌, ◌-◌, ◌+◌, ◌≡◌, replicate, false, true, arith}
+use Rattle.std.proofs.Common.{rules, ◌||◌, sym, ap, ◌∙◌, ◌-◌, ◌+◌, ◌≡◌, replicate, arith}
 use Rattle.lab_sched.specs.Held.{told_in}
 use Rattle.lab_sched.specs.declared.stepped.Stepped.TheVariants.{Same}
 use Rattle.std.specs.List.{list_any}
@@ -15,9 +15,9 @@ loop-i-init c =
     record { went = left-start c.args.marks.now c.args.pid c.args.world.now c.args.count; words = words }
 
 -- a step did nothing
-pub returns-then-is_same : goal.returns-then-is_same
-returns-then-is_same c =
-    let same = sym c.in-Ok.ensures.told ∙ c.is_same.ensures.yes c.if-is_same.true in
+pub returns-in-Same : goal.returns-in-Same
+returns-in-Same c =
+    let same = sym c.in-Ok.ensures.told ∙ c.in-Same.is in
     let all = left-rests c.args.marks.now c.args.pid c.loop-i.world c.loop-i.i (c.args.count - c.loop-i.i) _ same c.loop-i.invariant.went in
     record {
       steps = ap (λ t. t.0) all;
@@ -28,7 +28,7 @@ returns-then-is_same c =
 -- at a stop
 pub returns-then-is_stopped : goal.returns-then-is_stopped
 returns-then-is_stopped c =
-    let acts : (told_in c.loop-i.world c.args.pid ≡ Same → ⊥) = λ e. c.is_same.ensures.no c.if-is_same.false (c.in-Ok.ensures.told ∙ e) in
+    let acts : (told_in c.loop-i.world c.args.pid ≡ Same → ⊥) = λ e. c.in_default-stepped.not-Same (c.in-Ok.ensures.told ∙ e) in
     let told : c.is_stopped.result ≡ (is_at_break c.args.marks.now c.args.pid c.step.new.self || list_any (has_changed c.step.new.self) c.in_ok-watched.watched.items) = search rules in
     let met = stop-told c.args.marks.now c.args.pid c.loop-i.world _ _ _ c.in-Ok.ensures.world c.loop-i.invariant.words told ∙ c.if-is_stopped.true in
     let all = left-met c.args.marks.now c.args.pid c.loop-i.world c.loop-i.i c.args.count _ c.loop-i-test.true acts met c.loop-i.invariant.went in
@@ -40,7 +40,7 @@ returns-then-is_stopped c =
 
 pub loop-i-preserved : goal.loop-i-preserved
 loop-i-preserved c =
-    let acts : (told_in c.loop-i.world c.args.pid ≡ Same → ⊥) = λ e. c.is_same.ensures.no c.if-is_same.false (c.in-Ok.ensures.told ∙ e) in
+    let acts : (told_in c.loop-i.world c.args.pid ≡ Same → ⊥) = λ e. c.in_default-stepped.not-Same (c.in-Ok.ensures.told ∙ e) in
     let told : c.is_stopped.result ≡ (is_at_break c.args.marks.now c.args.pid c.step.new.self || list_any (has_changed c.step.new.self) c.in_ok-watched.watched.items) = search rules in
     let on = stop-told c.args.marks.now c.args.pid c.loop-i.world _ _ _ c.in-Ok.ensures.world c.loop-i.invariant.words told ∙ c.if-is_stopped.false in
     let next = c.loop-i.i + 1 in

@@ -1,6 +1,6 @@
 use Rattle.std.proofs.Common.{◌≡◌, All, map, take}
 use Rattle.lab_sched.specs.Held.{IsHeld, process_view}
-use Rattle.lab_session.proofs.copies.copies_of.Given as goal
+use Rattle.lab_session.proofs.copies.copy_of_world.Given as goal
 
 -- the copies so far are those of the first processes
 abbrev pub invariant-loop-pid : goal.invariant-loop-pid

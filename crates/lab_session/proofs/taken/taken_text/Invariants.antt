@@ -1,7 +1,7 @@
 use Rattle.std.proofs.Common.{◌≡◌, ◌++◌, drop, replicate, string_bytes}
 use Rattle.lab_sched.specs.Schedules.{steps_of}
 use Rattle.lab_session.specs.Taken.{blocks_text}
-use Rattle.lab_session.proofs.taken.push_blocks.Given as goal
+use Rattle.lab_session.proofs.taken.taken_text.Given as goal
 
 -- the text so far, and that of the steps that aren't written yet and of the blocks that are left
 abbrev pub invariant-loop-block : goal.invariant-loop-block

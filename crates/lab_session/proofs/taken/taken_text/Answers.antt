@@ -1,11 +1,10 @@
-use Rattle.std.proofs.Common.{rules, sym, ap, ◌∙◌, ◌≡◌, ◌==◌, ◌++◌, ◌+◌, ◌<◌, false, Result, Ok, Err, OnOk, [], drop, replicate, get_or, string_bytes, arith}
-use Rattle.std.proofs.lemmas.List.{drop_all}
+use Rattle.std.proofs.Common.{rules, sym, ap, ◌∙◌, ◌≡◌, ◌==◌, ◌++◌, ◌+◌, ◌<◌, false, [], drop, replicate, get_or, string_bytes, arith}
+use Rattle.std.proofs.lemmas.List.{drop_all, drop_more}
 use Rattle.lab_sched.specs.Schedules.{steps_of}
 use Rattle.lab_session.specs.Taken.{blocks_text}
-use Rattle.lab_session.proofs.BlockLemmas.{cut-block}
 use Rattle.lab_session.proofs.TakenLemmas.{same-all, same-run, other-run, no-run, last-run}
-use Rattle.lab_session.proofs.taken.push_blocks.Goals as goal
-use Rattle.lab_session.proofs.taken.push_blocks.Goals.{then-block-pid+in-Some, else-block-pid+then-block-gt0+in_ok-push_run, else-block-pid+else-block-gt0}
+use Rattle.lab_session.proofs.taken.taken_text.Goals as goal
+use Rattle.lab_session.proofs.taken.taken_text.Goals.{then-block-pid+in-Some, else-block-pid+then-block-gt0+in_ok-push_run, else-block-pid+else-block-gt0}
 
 pub loop-block-preserved : goal.loop-block-preserved
 loop-block-preserved c =
@@ -16,7 +15,7 @@ loop-block-preserved c =
     let text = string_bytes c.loop-block.text in
     let p = c.loop-block.pid in
     let n = c.loop-block.count in
-    let cut = cut-block bs i (record { pid = 0; count = 0 }) c.loop-block-test.true in
+    let cut = drop_more bs i (record { pid = 0; count = 0 }) c.loop-block-test.true in
     let before = ap (λ ys. text ++ blocks_text (replicate n p ++ steps_of ys)) (sym cut) ∙ c.loop-block.invariant in
     elim c.if-block-pid.branch [
       | then-block-pid+in-Some w ↦
@@ -35,11 +34,6 @@ loop-block-preserved c =
           same-all _ text _ n _ p rest (ap string_bytes w.text-is) w.count-is w.pid-is ∙ no-run text _ n p b rest none before
     ]
 
--- what follows where there is no error
-on-ok : {T E : Type 0} (P Q : Type 0) (r : Result T E) → (P → Q) → OnOk r P → OnOk r Q
-on-ok P Q (Ok v) f h = f h
-on-ok P Q (Err e) f h = tt
-
 pub returns : goal.returns
 returns c =
     let bs = c.args.blocks.now in
@@ -47,7 +41,6 @@ returns c =
     let text = string_bytes c.loop-block.text in
     let p = c.loop-block.pid in
     let n = c.loop-block.count in
-    record {
-      text = on-ok _ _ c.push_run-2.result (λ written. last-run text (string_bytes c.push_run-2.new.text) _ n p written
-          (ap (λ ys. text ++ blocks_text (replicate n p ++ steps_of ys)) (sym none) ∙ c.loop-block.invariant)) c.push_run-2.ensures.text;
-    }
+    let all = last-run text (string_bytes c.push_run-2.new.text) _ n p c.in_ok-push_run-2.ensures.text
+    (ap (λ ys. text ++ blocks_text (replicate n p ++ steps_of ys)) (sym none) ∙ c.loop-block.invariant) in
+    search (rules, all)
