@@ -1,5 +1,5 @@
 -- The steps that a session keeps lead to its world, and the way back undoes the last of them.
-use Rattle.std.proofs.Common.{◌≡◌, ℕ, ◌+◌, ◌-◌, ◌==◌, nat_lt, ◌++◌, List, [], ◌∷◌, Bool, true, false, Option, Some, None, Result, Ok, Err, length, take, replicate, refl, sym, ap, ◌∙◌, arith, if◌then◌else◌}
+use Rattle.std.proofs.Common.{◌≡◌, ℕ, ◌+◌, ◌-◌, ◌==◌, nat_lt, ◌++◌, List, [], ◌∷◌, Bool, true, false, Result, Ok, Err, length, take, replicate, refl, sym, ap, ◌∙◌, arith, if◌then◌else◌}
 use Rattle.std.specs.Prelude.{IfOk}
 use Rattle.std.proofs.lemmas.List.{length-append}
 use Rattle.std.proofs.Math.Seq.{take-append_seam}
@@ -9,17 +9,15 @@ use Rattle.lab_sched.specs.Schedules.{steps_of}
 use Rattle.lab_debug.specs.declared.command.Command.{Command}
 use Rattle.lab_debug.specs.declared.command.Command.TheVariants.{Step, Run, Play, Until, Back, Regs, Mem, Dis, Procs, Mqs, Sems, Fds, Out, Raw, Where, Code, Labels, Go, Set, Unset, Marks, Steps, Taken, Profile, Help, Quit}
 use Rattle.lab_debug.specs.declared.command.Refusal.{Refusal}
-use Rattle.lab_debug.specs.declared.command.Refusal.TheVariants.{NoProcess, NoMark}
+use Rattle.lab_debug.specs.declared.command.Refusal.TheVariants.{NoMark}
 use Rattle.lab_debug.specs.declared.fault.SessionFault.TheVariants.{TooManyLines, LineTooLong}
-use Rattle.lab_debug.specs.Commands.{words_of, command_of}
-use Rattle.lab_session.specs.Listings.{listing_of}
-use Rattle.lab_debug.specs.Labels.{LabelSeen, label_address, addressed, command_at, with_zero}
+use Rattle.lab_debug.specs.Commands.{words_of}
 use Rattle.lab_debug.specs.Lines.{lines, line_limit}
 use Rattle.lab_session.specs.Marks.{has_mark}
 use Rattle.lab_session.specs.Stops.{steps_to_stop, steps_until}
 use Rattle.lab_debug.specs.Script.{Effect, Script, before, script_of, script, line_count_limit}
 use Rattle.lab_session.specs.Sessions.{SessionState, with_steps, after_steps, effective, without_last, steps_before}
-use Rattle.lab_debug.specs.Effects.{refusal_effect, accepted_effect, is_there, are_there, reading_effect, placed_effect, located_effect, labelled_effect, label_effect, operands_effect, label_among, words_effect, line_effect}
+use Rattle.lab_debug.specs.Effects.{refusal_effect, accepted_effect, command_in, reading_effect, words_effect, line_effect}
 use Rattle.lab_debug.specs.Laws.{StepsLead, StepsLeadFirst, StepsLeadOn, BackUndoes, BackToTheStart}
 use Rattle.lab_session.proofs.StepLemmas.{stays, run-same, run-start, effective-append}
 
@@ -95,34 +93,12 @@ accepted s Help h = h
 accepted s Quit h = h
 
 carried : (s : SessionState) (r : Result Command Refusal) → StepsLead s → StepsLead (reading_effect s r).world
-carried s (Ok c) h = either (are_there s.world c) (accepted_effect s c) (refusal_effect NoProcess s) (accepted s c h) h
+carried s (Ok c) h = accepted s c h
 carried s (Err refusal) h = h
-
-placed : (s : SessionState) (o : Option Command) → StepsLead s → StepsLead (placed_effect s o).world
-placed s None h = h
-placed s (Some c) h = accepted s c h
-
-located : (s : SessionState) (c : Command) (r : Result ℕ Refusal) → StepsLead s → StepsLead (located_effect s c r).world
-located s c (Err refusal) h = h
-located s c (Ok a) h = placed s (command_at a c) h
-
-labelled : (s : SessionState) (c : Command) (l : LabelSeen) (o : Option ℕ) → StepsLead s → StepsLead (labelled_effect s c l o).world
-labelled s c l None h = h
-labelled s c l (Some pid) h =
-    let address = label_address (listing_of s.listings pid) l in
-    either (is_there s.world pid) (located_effect s c address) (refusal_effect NoProcess s) (located s c address h) h
-
-at-label : (s : SessionState) (l : LabelSeen) (r : Result Command Refusal) → StepsLead s → StepsLead (label_effect s l r).world
-at-label s l (Err refusal) h = h
-at-label s l (Ok c) h = labelled s c l (addressed c) h
-
-with-operands : (s : SessionState) (name : List ℕ) (ws : List (List ℕ)) (o : Option LabelSeen) → StepsLead s → StepsLead (operands_effect s name ws o).world
-with-operands s name ws None h = carried s (command_of name ws) h
-with-operands s name ws (Some l) h = at-label s l (command_of name (with_zero ws)) h
 
 with-words : (s : SessionState) (ws : List (List ℕ)) → StepsLead s → StepsLead (words_effect s ws).world
 with-words s [] h = h
-with-words s (name ∷ ws) h = with-operands s name ws (label_among s ws) h
+with-words s (name ∷ ws) h = carried s (command_in s name ws) h
 
 lead-behind : (s : SessionState) (line : List ℕ) → StepsLead s → StepsLead (line_effect s line).world
 unfolding line_effect

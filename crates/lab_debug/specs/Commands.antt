@@ -85,20 +85,27 @@ unfoldable pub is_named : List ℕ → List ℕ → Bool
 is_named name word = bytes_eq name word
 
 -- P: a process
+abbrev pub process_operand : List (List ℕ) → Option ℕ
+process_operand ws = option_and_then process_of (one_of ws)
+
+-- a command on a process
 abbrev pub of_process : (ℕ → Command) → List (List ℕ) → Option Command
-of_process make ws = option_and_then (λ w. option_map make (process_of w)) (one_of ws)
+of_process make ws = option_map make (process_operand ws)
 
 -- P, or --raw P: a process, whose output is shown so that it can be printed, or as it is
 abbrev pub out_of : List (List ℕ) → Option Command
 out_of (flag ∷ p ∷ []) = if is_named (codes "--raw") flag then option_map Raw (process_of p) else None
 out_of ws = of_process Out ws
 
+-- so many words from an address on, where they end within memory
+abbrev pub range_from : ℕ → ℕ → ℕ → Option Range
+range_from p a n = if nat_le (a + n) 65536 then Some (record { pid = p; address = a; count = n }) else None
+
 -- P ADDR N: a range of memory of a process
 abbrev pub range_of : List (List ℕ) → Option Range
 range_of ws =
-    option_and_then (λ w. option_and_then (λ p. option_and_then (λ a. option_and_then (λ n.
-    if nat_le (a + n) 65536 then Some (record { pid = p; address = a; count = n }) else None)
-    (number_within 1 256 w.2)) (address_of w.1)) (process_of w.0)) (three_of ws)
+    option_and_then (λ w. option_and_then (λ p. option_and_then (λ a.
+    option_and_then (range_from p a) (number_within 1 256 w.2)) (address_of w.1)) (process_of w.0)) (three_of ws)
 
 -- a command on a range of memory
 abbrev pub of_range : (Range → Command) → List (List ℕ) → Option Command
@@ -139,32 +146,19 @@ abbrev pub or_bad : Option Command → Result Command Refusal
 or_bad (Some command) = Ok command
 or_bad None = Err BadOperands
 
--- a command on watches, by its name and its operands
-unfoldable pub watching_command : List ℕ → List (List ℕ) → Result Command Refusal
-watching_command name ws =
-    if is_named (codes "watch") name then or_bad (of_mark Set Watch ws) else
-    if is_named (codes "unwatch") name then or_bad (of_mark Unset Watch ws) else
-    if is_named (codes "watches") name then or_bad (bare_of (Marks Watch) ws) else
-    Err UnknownCommand
-
--- a command on breaks or on the steps of the session, by its name and its operands
-unfoldable pub breaking_command : List ℕ → List (List ℕ) → Result Command Refusal
-breaking_command name ws =
+-- a command on marks or on the steps of the session, by its name and its operands
+unfoldable pub marking_command : List ℕ → List (List ℕ) → Result Command Refusal
+marking_command name ws =
     if is_named (codes "break") name then or_bad (of_mark Set Break ws) else
     if is_named (codes "clear") name then or_bad (of_mark Unset Break ws) else
     if is_named (codes "breaks") name then or_bad (bare_of (Marks Break) ws) else
+    if is_named (codes "watch") name then or_bad (of_mark Set Watch ws) else
+    if is_named (codes "unwatch") name then or_bad (of_mark Unset Watch ws) else
+    if is_named (codes "watches") name then or_bad (bare_of (Marks Watch) ws) else
     if is_named (codes "go") name then or_bad (go_of ws) else
     if is_named (codes "steps") name then or_bad (bare_of Steps ws) else
     if is_named (codes "schedule") name then or_bad (bare_of Taken ws) else
-    watching_command name ws
-
--- a command that shows where a process stands in its source, by its name and its operands
-unfoldable pub placing_command : List ℕ → List (List ℕ) → Result Command Refusal
-placing_command name ws =
-    if is_named (codes "where") name then or_bad (of_process Where ws) else
-    if is_named (codes "code") name then or_bad (of_range Code ws) else
-    if is_named (codes "labels") name then or_bad (of_process Labels ws) else
-    breaking_command name ws
+    Err UnknownCommand
 
 -- a command that only shows something, by its name and its operands
 unfoldable pub showing_command : List ℕ → List (List ℕ) → Result Command Refusal
@@ -179,7 +173,7 @@ showing_command name ws =
     if is_named (codes "out") name then or_bad (out_of ws) else
     if is_named (codes "profile") name then or_bad (bare_of Profile ws) else
     if is_named (codes "help") name then or_bad (bare_of Help ws) else
-    placing_command name ws
+    marking_command name ws
 
 -- a command without a schedule by its name and its operands
 unfoldable pub plain_command : List ℕ → List (List ℕ) → Result Command Refusal
@@ -188,6 +182,9 @@ plain_command name ws =
     if is_named (codes "until") name then or_bad (until_of ws) else
     if is_named (codes "back") name then or_bad (back_of ws) else
     if is_named (codes "quit") name then or_bad (bare_of Quit ws) else
+    if is_named (codes "where") name then or_bad (of_process Where ws) else
+    if is_named (codes "code") name then or_bad (of_range Code ws) else
+    if is_named (codes "labels") name then or_bad (of_process Labels ws) else
     showing_command name ws
 
 -- a command by its name and its operands

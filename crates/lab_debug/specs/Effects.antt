@@ -1,17 +1,18 @@
 -- What a line of a script does.
 use Rattle.std.specs.Prelude.{ℕ, Bool, true, false, if◌then◌else◌, nat_lt, Option, Some, None, Result, Ok, Err, List, [], ◌∷◌, ◌++◌, codes, length, replicate}
 use Rattle.std.specs.List.{list_all}
+use Rattle.std.specs.Option.{option_map_or}
 use Rattle.lab_sched.specs.Worlds.{WorldState, run}
 use Rattle.lab_sched.specs.Schedules.{steps_of}
 use Rattle.lab_debug.specs.declared.command.Command.{Command}
 use Rattle.lab_debug.specs.declared.command.Command.TheVariants.{Step, Run, Play, Until, Back, Regs, Mem, Dis, Procs, Mqs, Sems, Fds, Out, Raw, Where, Code, Labels, Go, Set, Unset, Marks, Steps, Taken, Profile, Help, Quit}
 use Rattle.lab_debug.specs.declared.command.Refusal.{Refusal}
 use Rattle.lab_debug.specs.declared.command.Refusal.TheVariants.{UnknownCommand, BadOperands, NoProcess, NoLabel, NoMark}
-use Rattle.lab_debug.specs.Commands.{words_of, command_of}
+use Rattle.lab_debug.specs.Commands.{words_of, or_bad, command_of}
 use Rattle.lab_debug.specs.Outputs.{raw_output}
 use Rattle.lab_places.specs.Placed.{listed, placed}
 use Rattle.lab_session.specs.Listings.{listing_of, has_labels}
-use Rattle.lab_debug.specs.Labels.{LabelSeen, label_address, addressed, command_at, second_label, with_zero}
+use Rattle.lab_debug.specs.Labels.{LabelSeen, label_address, addressed, named_process, command_at, second_label, with_zero}
 use Rattle.lab_session.specs.Places.{where_text, code_text, labels_text}
 use Rattle.lab_session.specs.declared.marks.Mark.{Mark}
 use Rattle.lab_session.specs.declared.marks.MarkKind.TheVariants.{Break, Watch}
@@ -121,77 +122,53 @@ is_there w pid = nat_lt pid (length w.processes)
 
 -- whether each process that a command names is there
 abbrev pub are_there : WorldState → Command → Bool
-are_there w (Step pid n) = is_there w pid
 are_there w (Run schedule) = list_all (λ b. is_there w b.pid) schedule
 are_there w (Play schedule) = list_all (λ b. is_there w b.pid) schedule
-are_there w (Until pid address n) = is_there w pid
-are_there w (Back n) = true
-are_there w (Go pid n) = is_there w pid
-are_there w (Set mark) = is_there w mark.pid
-are_there w (Unset mark) = is_there w mark.pid
-are_there w (Marks kind) = true
-are_there w Steps = true
-are_there w Taken = true
-are_there w (Regs pid) = is_there w pid
-are_there w (Mem range) = is_there w range.pid
-are_there w (Dis range) = is_there w range.pid
-are_there w Procs = true
-are_there w Mqs = true
-are_there w Sems = true
-are_there w (Fds pid) = is_there w pid
-are_there w (Out pid) = is_there w pid
-are_there w (Raw pid) = is_there w pid
-are_there w (Where pid) = is_there w pid
-are_there w (Code range) = is_there w range.pid
-are_there w (Labels pid) = is_there w pid
-are_there w Profile = true
-are_there w Help = true
-are_there w Quit = true
+are_there w command = option_map_or (is_there w) (named_process command) true
 
--- what a command does; it is refused where a process that it names isn't there
-abbrev pub command_effect : SessionState → Command → Effect SessionState
-command_effect s command = if are_there s.world command then accepted_effect s command else refusal_effect NoProcess s
+-- a command whose processes are there; it is refused where one isn't
+abbrev pub if_there : WorldState → Result Command Refusal → Result Command Refusal
+if_there w (Err refusal) = Err refusal
+if_there w (Ok command) = if are_there w command then Ok command else Err NoProcess
 
--- what a line does that was read as a command, or refused
-abbrev pub reading_effect : SessionState → Result Command Refusal → Effect SessionState
-reading_effect s (Ok command) = command_effect s command
-reading_effect s (Err refusal) = refusal_effect refusal s
+-- a command at the address that its label stands for, or the refusal of the label
+abbrev pub at_address : Command → Result ℕ Refusal → Result Command Refusal
+at_address command (Err refusal) = Err refusal
+at_address command (Ok a) = or_bad (command_at a command)
 
--- what a command does, or its refusal
-abbrev pub placed_effect : SessionState → Option Command → Effect SessionState
-placed_effect s None = refusal_effect BadOperands s
-placed_effect s (Some command) = accepted_effect s command
+-- a command with a label of this process as its address; other commands have none
+abbrev pub labelled : SessionState → LabelSeen → Command → Option ℕ → Result Command Refusal
+labelled s label command None = Err BadOperands
+labelled s label command (Some pid) =
+    if is_there s.world pid then at_address command (label_address (listing_of s.listings pid) label) else Err NoProcess
 
--- what a command does at the address that its label stands for, or the refusal of the label
-abbrev pub located_effect : SessionState → Command → Result ℕ Refusal → Effect SessionState
-located_effect s command (Err refusal) = refusal_effect refusal s
-located_effect s command (Ok a) = placed_effect s (command_at a command)
+-- a command that was read with the address 0 in the place of a label
+abbrev pub with_label : SessionState → LabelSeen → Result Command Refusal → Result Command Refusal
+with_label s label (Err refusal) = Err refusal
+with_label s label (Ok command) = labelled s label command (addressed command)
 
--- what a command does with a label of this process as its address; other commands have none
-abbrev pub labelled_effect : SessionState → Command → LabelSeen → Option ℕ → Effect SessionState
-labelled_effect s command label None = refusal_effect BadOperands s
-labelled_effect s command label (Some pid) =
-    if is_there s.world pid then located_effect s command (label_address (listing_of s.listings pid) label)
-    else refusal_effect NoProcess s
-
--- what a line does that was read with the address 0 in the place of a label
-abbrev pub label_effect : SessionState → LabelSeen → Result Command Refusal → Effect SessionState
-label_effect s label (Err refusal) = refusal_effect refusal s
-label_effect s label (Ok command) = labelled_effect s command label (addressed command)
-
--- what a command by its name and its operands does, where this label is one of them
-abbrev pub operands_effect : SessionState → List ℕ → List (List ℕ) → Option LabelSeen → Effect SessionState
-operands_effect s name ws None = reading_effect s (command_of name ws)
-operands_effect s name ws (Some label) = label_effect s label (command_of name (with_zero ws))
+-- a command by its name and its operands, where this label is one of them
+abbrev pub accepted_command : SessionState → List ℕ → List (List ℕ) → Option LabelSeen → Result Command Refusal
+accepted_command s name ws None = if_there s.world (command_of name ws)
+accepted_command s name ws (Some label) = with_label s label (command_of name (with_zero ws))
 
 -- the label among these operands, where labels are read
 abbrev pub label_among : SessionState → List (List ℕ) → Option LabelSeen
 label_among s ws = if has_labels s.listings then second_label ws else None
 
+-- the command that a name and its operands write
+abbrev pub command_in : SessionState → List ℕ → List (List ℕ) → Result Command Refusal
+command_in s name ws = accepted_command s name ws (label_among s ws)
+
+-- what a line does that was read as a command, or refused
+abbrev pub reading_effect : SessionState → Result Command Refusal → Effect SessionState
+reading_effect s (Ok command) = accepted_effect s command
+reading_effect s (Err refusal) = refusal_effect refusal s
+
 -- a line without words does nothing
 abbrev pub words_effect : SessionState → List (List ℕ) → Effect SessionState
 words_effect s [] = text_effect (λ v. []) s
-words_effect s (name ∷ ws) = operands_effect s name ws (label_among s ws)
+words_effect s (name ∷ ws) = reading_effect s (command_in s name ws)
 
 -- what a line does
 unfoldable pub line_effect : SessionState → List ℕ → Effect SessionState

@@ -7,8 +7,8 @@ use Rattle.lab_sched.specs.ScheduleTexts.{in_range}
 use Rattle.lab_sources.specs.Labels.{address_of}
 use Rattle.lab_sources.specs.declared.listing.Listing.{Listing}
 use Rattle.lab_debug.specs.declared.command.Command.{Command}
-use Rattle.lab_debug.specs.declared.command.Command.TheVariants.{Until, Mem, Dis, Code, Set, Unset}
-use Rattle.lab_session.specs.declared.places.Range.{Range}
+use Rattle.lab_debug.specs.declared.command.Command.TheVariants.{Step, Until, Regs, Mem, Dis, Fds, Out, Raw, Where, Code, Labels, Go, Set, Unset}
+use Rattle.lab_debug.specs.Commands.{range_from}
 use Rattle.lab_debug.specs.declared.command.Refusal.{Refusal}
 use Rattle.lab_debug.specs.declared.command.Refusal.TheVariants.{BadOperands, NoLabel}
 
@@ -70,19 +70,26 @@ addressed (Set mark) = Some mark.pid
 addressed (Unset mark) = Some mark.pid
 addressed command = None
 
--- a range that begins at an address, where it ends within memory
-abbrev pub range_at : ℕ → Range → Option Range
-range_at a range =
-    if nat_le (a + range.count) 65536 then Some (record { pid = range.pid; address = a; count = range.count }) else None
+-- the process that a command names, unless it has a schedule
+abbrev pub named_process : Command → Option ℕ
+named_process (Step pid n) = Some pid
+named_process (Go pid n) = Some pid
+named_process (Regs pid) = Some pid
+named_process (Fds pid) = Some pid
+named_process (Out pid) = Some pid
+named_process (Raw pid) = Some pid
+named_process (Where pid) = Some pid
+named_process (Labels pid) = Some pid
+named_process command = addressed command
 
 -- a command with this address in the place of its own, where its range ends within memory
 abbrev pub command_at : ℕ → Command → Option Command
 command_at a (Until pid address n) = Some (Until pid a n)
 command_at a (Set mark) = Some (Set (record { kind = mark.kind; pid = mark.pid; address = a }))
 command_at a (Unset mark) = Some (Unset (record { kind = mark.kind; pid = mark.pid; address = a }))
-command_at a (Mem range) = option_map Mem (range_at a range)
-command_at a (Dis range) = option_map Dis (range_at a range)
-command_at a (Code range) = option_map Code (range_at a range)
+command_at a (Mem range) = option_map Mem (range_from range.pid a range.count)
+command_at a (Dis range) = option_map Dis (range_from range.pid a range.count)
+command_at a (Code range) = option_map Code (range_from range.pid a range.count)
 command_at a command = None
 
 -- the label that stands as the second operand

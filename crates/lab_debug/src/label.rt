@@ -1,6 +1,6 @@
 //! Labels as addresses.
-ghost use Rattle.std.specs.Prelude.{◌≡◌, ◌<◌, ◌≤◌, length, map, option_map, position, IfOk, IfSome};
-ghost use Rattle.lab_debug.specs.Labels.{LabelSeen, is_sign, distance_of, named, label_in, moved, label_address, second_label, with_zero};
+ghost use Rattle.std.specs.Prelude.{◌≡◌, ◌<◌, length, map, option_map, position, IfOk, IfSome};
+ghost use Rattle.lab_debug.specs.Labels.{is_sign, distance_of, named, label_in, moved, label_address, second_label, with_zero};
 ghost use Rattle.lab_debug.specs.Private.LabelViews.{label_seen};
 ghost use Rattle.lab_session.specs.Listings.{listing_of};
 ghost use Rattle.lab_session.specs.Sessions.{state_of};
@@ -123,11 +123,10 @@ pub fn address_of(session: &Session, pid: usize, label: Label<'_>) -> Result<u16
     ensures address { result ≡ label_address (listing_of (state_of session.now).listings pid)
         (label_seen label.entry) }
 {
-    let Some(listing) = session.listing(pid) else {
-        return Err(Refusal::NoLabel);
-    };
-    let Some(address) = listing.source.address_of(label.name) else {
-        return Err(Refusal::NoLabel);
-    };
+    let listing = session.listing(pid).ok_or(Refusal::NoLabel)?;
+    let address = listing
+        .source
+        .address_of(label.name)
+        .ok_or(Refusal::NoLabel)?;
     moved(label.is_before, label.count, address).ok_or(Refusal::BadOperands)
 }

@@ -1,7 +1,7 @@
 //! The debugger: a session of commands over a world.
 #![tactic(auto)]
 
-mod breaking;
+mod accepting;
 mod command;
 mod effect;
 mod fault;
@@ -10,7 +10,7 @@ pub mod laws;
 mod lines;
 mod marking;
 mod operands;
-mod placing;
+mod reading;
 mod reply;
 mod script;
 mod showing;

@@ -1,7 +1,7 @@
 //! The lines of an input, taken one by one.
-ghost use Rattle.std.specs.Prelude.{◌≡◌, ℕ, List, ◌≤◌, [], ◌∷◌, ◌↔◌, None, Some, true, length, drop, take, IfOk, IfErr, OnOk, OnErr, IfSome, IsTrue};
+ghost use Rattle.std.specs.Prelude.{◌≡◌, ℕ, List, ◌≤◌, [], ◌↔◌, None, Some, length, drop, take, IfOk, IfErr, OnOk, OnErr, IfSome, IsTrue};
 ghost use Rattle.std.specs.Option.{option_map};
-ghost use Rattle.std.specs.Io.KnownBytes.{Consumes, Keeps, IsAtEnd, prepend_known};
+ghost use Rattle.std.specs.Io.KnownBytes.{Keeps, IsAtEnd, prepend_known};
 ghost use Rattle.lab_debug.specs.declared.lines.TheConstants.{CHUNK};
 ghost use Rattle.lab_debug.specs.Lines.{line_limit};
 ghost use Rattle.lab_debug.specs.Private.Reading.{TakesLine, TakesByte, Stops};
@@ -44,24 +44,7 @@ impl Pending {
         }
     }
 
-    /// Reads where nothing is left.
-    fn fill<R: Read>(&mut self, input: &mut Input<R>) -> Result<(), Failed>
-        ensures same { OnOk result (Keeps
-            (prepend_known self.old (R.remaining input.old.device))
-            (prepend_known self.new (R.remaining input.new.device))) }
-        ensures end { OnOk result (self.new ≡ [] → IsAtEnd (R.remaining input.new.device)) }
-        ensures err { OnErr result (IsTrue input.new.failed) }
-    {
-        if self.start == self.end {
-            self.start = 0;
-            self.end = 0;
-            let count = input.read(&mut self.bytes)?;
-            self.end = count;
-        }
-        Ok(())
-    }
-
-    /// Whether nothing more comes.
+    /// Whether nothing more comes. It reads where nothing is left.
     pub fn is_at_end<R: Read>(&mut self, input: &mut Input<R>) -> Result<bool, Failed>
         ensures same { OnOk result (Keeps
             (prepend_known self.old (R.remaining input.old.device))
@@ -70,8 +53,13 @@ impl Pending {
         ensures known { IfOk result (λ end. IsTrue end → IsAtEnd (R.remaining input.new.device)) }
         ensures err { OnErr result (IsTrue input.new.failed) }
     {
-        self.fill(input)?;
-        Ok(self.start == self.end)
+        if self.start < self.end {
+            return Ok(false);
+        }
+        self.start = 0;
+        self.end = 0;
+        self.end = input.read(&mut self.bytes)?;
+        Ok(self.end == 0)
     }
 
     /// The next byte, or none at the end.

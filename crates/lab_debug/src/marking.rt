@@ -1,5 +1,5 @@
 //! What the commands do that set marks, and those that step up to one.
-ghost use Rattle.std.specs.Prelude.{◌≡◌, ◌++◌, IfOk, OnOk};
+ghost use Rattle.std.specs.Prelude.{◌≡◌, ◌++◌, false, IfOk};
 ghost use Rattle.lab_sched.specs.Schedules.{steps_of};
 ghost use Rattle.lab_session.specs.Sessions.{state_of};
 ghost use Rattle.lab_session.specs.MarkTexts.{changes_text};
@@ -20,8 +20,7 @@ pub fn set(alloc: Global, session: &mut Session, mark: Mark) -> Result<Reply, Al
         ≡ set_effect (state_of session.old) mark) }
 {
     session.set_mark(alloc, mark)?;
-    let text = set_text(alloc, session.listings(), session.world(), mark)?;
-    Ok(said(text))
+    Ok(said(set_text(alloc, session.listings(), session.world(), mark)?))
 }
 
 /// Takes a mark off, or refuses it where there is none.
@@ -31,26 +30,27 @@ pub fn unset(alloc: Global, session: &mut Session, mark: Mark) -> Result<Reply, 
 {
     if has_mark(session.marks(), mark) {
         session.clear_mark(alloc, mark)?;
-        let text = off_text(alloc, session.listings(), mark)?;
-        Ok(said(text))
+        Ok(said(off_text(alloc, session.listings(), mark)?))
     } else {
         refuse(alloc, Refusal::NoMark(mark.kind))
     }
 }
 
-/// Adds the lines of watched words that have changed.
-fn push_watched(
+/// The reply of a line that writes bytes, and behind them the lines of watched words that have changed.
+fn with_changes(
     alloc: Global,
-    text: &mut Vec<u8>,
     session: &Session,
+    mut text: Vec<u8>,
     watched: &[Watched],
-) -> Result<(), AllocError>
-    ensures text { OnOk result (text.new.items ≡ text.old.items ++ changes_text
+) -> Result<Reply, AllocError>
+    ensures text { IfOk result (λ r. r.text.items ≡ text.items ++ changes_text
         (state_of session.now).listings (state_of session.now).world watched.now) }
+    ensures ends { IfOk result (λ r. r.ends ≡ false) }
 {
     let mut changes = String::new(alloc);
     push_changes(&mut changes, session.listings(), session.world(), watched)?;
-    text.extend_from_slice(changes.as_bytes())
+    text.extend_from_slice(changes.as_bytes())?;
+    Ok(written(text))
 }
 
 /// Takes at most so many steps of a process, up to a stop.
@@ -61,9 +61,8 @@ pub fn go(alloc: Global, session: &mut Session, pid: usize, count: u32) -> Resul
 {
     let watched = session.watched_words(alloc)?;
     session.play(alloc, &[Block { pid, count }])?;
-    let mut text = standing(alloc, session, pid)?;
-    push_watched(alloc, &mut text, session, &watched)?;
-    Ok(written(text))
+    let text = standing(alloc, session, pid)?;
+    with_changes(alloc, session, text, &watched)
 }
 
 /// Takes the steps of a schedule up to a stop.
@@ -74,7 +73,6 @@ pub fn play(alloc: Global, session: &mut Session, schedule: &Schedule) -> Result
     let watched = session.watched_words(alloc)?;
     let (taken, stopped) = session.play(alloc, schedule.blocks())?;
     let report = play_text(alloc, session.world(), taken, schedule.total(), stopped)?;
-    let mut text = placed_by(alloc, session.listings(), &report)?;
-    push_watched(alloc, &mut text, session, &watched)?;
-    Ok(written(text))
+    let text = placed_by(alloc, session.listings(), &report)?;
+    with_changes(alloc, session, text, &watched)
 }

@@ -1,21 +1,18 @@
 //! The commands that show something and change nothing.
-ghost use Rattle.std.specs.Prelude.{◌≡◌, None, true, false, length, IfOk, IfSome, string_bytes};
-ghost use Rattle.lab_session.specs.Sessions.{state_of, effective};
-ghost use Rattle.lab_session.specs.Taken.{taken_text};
-ghost use Rattle.lab_session.specs.Marks.{of_kind};
-ghost use Rattle.lab_session.specs.MarkTexts.{marks_text};
+ghost use Rattle.std.specs.Prelude.{◌≡◌, None, true, IfOk, IfSome, string_bytes};
+ghost use Rattle.lab_session.specs.Sessions.{state_of};
 ghost use Rattle.lab_places.specs.Placed.{listed, placed};
-ghost use Rattle.lab_texts.specs.Texts.{status_text, procs_text};
+ghost use Rattle.lab_texts.specs.Texts.{status_text};
 ghost use Rattle.lab_debug.specs.Effects.{steps_text, shown_effect, accepted_effect};
 ghost use Rattle.lab_debug.specs.Outputs.{raw_output};
-ghost use Rattle.lab_debug.specs.Private.Changes.{changes, shows_world};
+ghost use Rattle.lab_debug.specs.Private.Changes.{changes};
 ghost use Rattle.lab_debug.specs.Private.Ranges.{IsCommand};
 
 use crate::command::Command;
 use lab_places::placed_by;
 use lab_sched::World;
 use lab_session::{
-    MarkKind, Session, code_text, labels_text, marks_text, step_count, taken_text, where_text,
+    Session, code_text, labels_text, marks_text, step_count, taken_text, where_text,
 };
 use lab_texts::{
     dis_text, fds_text, mem_text, mqs_text, out_text, procs_text, profile_text, regs_text,
@@ -28,33 +25,6 @@ pub fn steps_text(alloc: Global, count: u64) -> Result<String, AllocError>
     ensures text { IfOk result (λ s. string_bytes s ≡ steps_text count) }
 {
     format!(in alloc; "steps {count}\n")
-}
-
-/// The marks of a kind.
-fn marks_shown(alloc: Global, session: &Session, kind: MarkKind) -> Result<String, AllocError>
-    ensures text { IfOk result (λ s. string_bytes s ≡ marks_text (state_of session.now).listings
-        (state_of session.now).world (of_kind kind (state_of session.now).marks)) }
-{
-    let marks = session.marks_of(alloc, kind)?;
-    marks_text(alloc, session.listings(), session.world(), &marks)
-}
-
-/// How many steps of a session had an effect.
-fn count_shown(alloc: Global, session: &Session) -> Result<String, AllocError>
-    ensures text { IfOk result (λ s. string_bytes s ≡ steps_text
-        (length (effective (state_of session.now).start (state_of session.now).steps))) }
-{
-    let blocks = session.effective(alloc)?;
-    steps_text(alloc, step_count(&blocks)?)
-}
-
-/// The schedule of these steps.
-fn steps_shown(alloc: Global, session: &Session) -> Result<String, AllocError>
-    ensures text { IfOk result (λ s. string_bytes s
-        ≡ taken_text (effective (state_of session.now).start (state_of session.now).steps)) }
-{
-    let blocks = session.effective(alloc)?;
-    taken_text(alloc, blocks.as_slice())
 }
 
 /// The bytes that a process has written, and a line feed where a line is left open.
@@ -80,43 +50,6 @@ pub fn standing(alloc: Global, session: &Session, pid: usize) -> Result<Vec<u8>,
     placed_by(alloc, session.listings(), &text)
 }
 
-/// Each status line, with where its process stands in its source.
-fn procs_shown(alloc: Global, session: &Session) -> Result<Vec<u8>, AllocError>
-    ensures text { IfOk result (λ text. text.items ≡ placed
-        (listed (state_of session.now).listings) (procs_text (state_of session.now).world)) }
-{
-    let text = procs_text(alloc, session.world())?;
-    placed_by(alloc, session.listings(), &text)
-}
-
-/// What a command writes that shows the world alone, without the session.
-fn world_shown(
-    alloc: Global,
-    session: &Session,
-    command: &Command,
-) -> Result<Option<Vec<u8>>, AllocError>
-    requires ranges { IsCommand command.now }
-    ensures shown { IfOk result (λ found. IfSome found (λ text.
-        accepted_effect (state_of session.now) command.now
-        ≡ shown_effect text.items (state_of session.now))) }
-    ensures none { IfOk result (λ found. found ≡ None → shows_world command.now ≡ false) }
-{
-    let world = session.world();
-    let text = match command {
-        Command::Regs { pid } => regs_text(alloc, world, *pid),
-        Command::Mem(range) => mem_text(alloc, world, range.pid, range.address, range.count),
-        Command::Dis(range) => dis_text(alloc, world, range.pid, range.address, range.count),
-        Command::Mqs => mqs_text(alloc, world),
-        Command::Sems => sems_text(alloc, world),
-        Command::Fds { pid } => fds_text(alloc, world, *pid),
-        Command::Out { pid } => out_text(alloc, world, *pid),
-        Command::Raw { pid } => return Ok(Some(raw_output(alloc, world, *pid)?)),
-        Command::Profile => profile_text(alloc, world),
-        _ => return Ok(None),
-    };
-    Ok(Some(text?.into_bytes()))
-}
-
 /// What a command writes that changes nothing, whose processes are there.
 pub fn shown(
     alloc: Global,
@@ -129,18 +62,32 @@ pub fn shown(
         ≡ shown_effect text.items (state_of session.now))) }
     ensures none { IfOk result (λ found. found ≡ None → changes command.now ≡ true) }
 {
+    let world = session.world();
     let text = match command {
-        Command::Marks(kind) => marks_shown(alloc, session, *kind),
-        Command::Steps => count_shown(alloc, session),
-        Command::Taken => steps_shown(alloc, session),
-        Command::Procs => return Ok(Some(procs_shown(alloc, session)?)),
-        Command::Where { pid } => where_text(alloc, session.world(), *pid, session.listing(*pid)),
-        Command::Code(range) => {
-            code_text(alloc, session.world(), session.listing(range.pid), *range)
+        Command::Marks(kind) => {
+            let marks = session.marks_of(alloc, *kind)?;
+            marks_text(alloc, session.listings(), world, &marks)
         }
-        Command::Labels { pid } => labels_text(alloc, session.listing(*pid)),
+        Command::Steps => steps_text(alloc, step_count(&session.effective(alloc)?)?),
+        Command::Taken => taken_text(alloc, &session.effective(alloc)?),
+        Command::Regs(pid) => regs_text(alloc, world, *pid),
+        Command::Mem(range) => mem_text(alloc, world, range.pid, range.address, range.count),
+        Command::Dis(range) => dis_text(alloc, world, range.pid, range.address, range.count),
+        Command::Procs => {
+            let text = procs_text(alloc, world)?;
+            return Ok(Some(placed_by(alloc, session.listings(), &text)?));
+        }
+        Command::Mqs => mqs_text(alloc, world),
+        Command::Sems => sems_text(alloc, world),
+        Command::Fds(pid) => fds_text(alloc, world, *pid),
+        Command::Out(pid) => out_text(alloc, world, *pid),
+        Command::Raw(pid) => return Ok(Some(raw_output(alloc, world, *pid)?)),
+        Command::Where(pid) => where_text(alloc, world, *pid, session.listing(*pid)),
+        Command::Code(range) => code_text(alloc, world, session.listing(range.pid), *range),
+        Command::Labels(pid) => labels_text(alloc, session.listing(*pid)),
+        Command::Profile => profile_text(alloc, world),
         Command::Help => String::from_str(alloc, session.help()),
-        _ => return world_shown(alloc, session, command),
+        _ => return Ok(None),
     };
     Ok(Some(text?.into_bytes()))
 }
