@@ -17,16 +17,13 @@ abbrev pub can_do : ℕ → ℕ → Option Descriptor → Bool
 can_do place other None = false
 can_do place other (Some d) = (d.place == place) && not (d.access == other)
 
--- whether process p has a queue open other than by one access alone
-abbrev pub has_queue : KernelState → ℕ → ℕ → ℕ → Bool
-has_queue k p place other = any_below open_max (λ d. can_do place other (descriptor_of k.processes p d))
+-- whether process p could serve a call on an object by what it has open under a number: the queue to send or to receive, or the
+-- semaphore
+abbrev pub serves_by : KernelState → ℕ → ℕ → Service → ℕ → Bool
+serves_by k p place MqReceive d = can_do place 0 (descriptor_of k.processes p d)
+serves_by k p place MqSend d = can_do place 1 (descriptor_of k.processes p d)
+serves_by k p place other slot = slot_refers place (slot_of k.processes p slot)
 
--- whether process p has a semaphore open
-abbrev pub has_semaphore : KernelState → ℕ → ℕ → Bool
-has_semaphore k p place = any_below open_max (λ s. slot_refers place (slot_of k.processes p s))
-
--- whether process p could serve a call on an object: it has the queue open to send or to receive, or the semaphore
+-- whether process p could serve a call on an object
 abbrev pub has_open : KernelState → ℕ → Service → ℕ → Bool
-has_open k place MqReceive p = has_queue k p place 0
-has_open k place MqSend p = has_queue k p place 1
-has_open k place s p = has_semaphore k p place
+has_open k place s p = any_below open_max (serves_by k p place s)

@@ -2,7 +2,6 @@
 ghost use Rattle.std.specs.Prelude.{◌≡◌, ◌<◌, ◌++◌, Some, OnOk, IfOk, length, string_bytes};
 ghost use Rattle.lab_sched.specs.Held.{process_view};
 ghost use Rattle.lab_sched.specs.Worlds.{machine_of};
-ghost use Rattle.ipc_traps.specs.declared.service.Service.TheVariants.{MqSend, MqReceive};
 ghost use Rattle.lab_told.specs.Answers.{wants_attributes};
 ghost use Rattle.lab_told.specs.Calls.{attributes_asked, mq_open_arguments, sem_open_arguments, flags_asked, further_arguments, arguments, object_called, place_of, sent_words};
 
@@ -75,8 +74,7 @@ fn push_mq_open(text: &mut String, process: &Process) -> Result<(), AllocError>
         return Ok(());
     }
     let sizes = SizesAt(process, register(process, 2));
-    write!(text, ", {sizes}")?;
-    Ok(())
+    write!(text, ", {sizes}")
 }
 
 #[tactic(auto, unfolding(crate::specs::Calls::sem_open_arguments))]
@@ -92,35 +90,7 @@ fn push_sem_open(text: &mut String, process: &Process) -> Result<(), AllocError>
         return Ok(());
     }
     let value = register(process, 2);
-    write!(text, ", {value}")?;
-    Ok(())
-}
-
-/// Adds what stands behind the descriptor of mq_send.
-#[tactic(auto, unfolding(crate::specs::Calls::further_arguments))]
-fn push_sent(text: &mut String, process: &Process) -> Result<(), AllocError>
-    ensures text { OnOk result (string_bytes text.new ≡ string_bytes text.old
-        ++ further_arguments (machine_of (process_view process.now)) MqSend) }
-{
-    let len = register(process, 2);
-    let priority = register(process, 3);
-    text.push_str(", ")?;
-    push_buffer(text, process, register(process, 1), len)?;
-    write!(text, ", {len}, {priority}")?;
-    Ok(())
-}
-
-/// Adds what stands behind the descriptor of mq_receive.
-#[tactic(auto, unfolding(crate::specs::Calls::further_arguments))]
-fn push_received(text: &mut String, process: &Process) -> Result<(), AllocError>
-    ensures text { OnOk result (string_bytes text.new ≡ string_bytes text.old
-        ++ further_arguments (machine_of (process_view process.now)) MqReceive) }
-{
-    let address = Hex(register(process, 1));
-    let len = register(process, 2);
-    let priority = Pointer(register(process, 3));
-    write!(text, ", {address}, {len}, {priority}")?;
-    Ok(())
+    write!(text, ", {value}")
 }
 
 /// Adds what stands behind the descriptor or the slot.
@@ -130,18 +100,27 @@ fn push_further(text: &mut String, process: &Process, service: Service) -> Resul
         ++ further_arguments (machine_of (process_view process.now)) service) }
 {
     match service {
-        Service::MqSend => push_sent(text, process),
-        Service::MqReceive => push_received(text, process),
+        Service::MqSend => {
+            let len = register(process, 2);
+            let priority = register(process, 3);
+            text.push_str(", ")?;
+            push_buffer(text, process, register(process, 1), len)?;
+            write!(text, ", {len}, {priority}")
+        }
+        Service::MqReceive => {
+            let address = Hex(register(process, 1));
+            let len = register(process, 2);
+            let priority = Pointer(register(process, 3));
+            write!(text, ", {address}, {len}, {priority}")
+        }
         Service::MqGetattr | Service::SemGetvalue => {
             let address = Hex(register(process, 1));
-            write!(text, ", {address}")?;
-            Ok(())
+            write!(text, ", {address}")
         }
         Service::MqSetattr => {
             let flags = FlagsAt(process, register(process, 1));
             let old = Pointer(register(process, 2));
-            write!(text, ", {flags}, {old}")?;
-            Ok(())
+            write!(text, ", {flags}, {old}")
         }
         _ => Ok(()),
     }

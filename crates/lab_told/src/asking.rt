@@ -1,8 +1,10 @@
 //! What a trace looks at before a step.
 ghost use Rattle.std.specs.Prelude.{◌≡◌, ◌<◌, IfOk, length, slice_get};
+ghost use Rattle.std.specs.Option.{option_map};
 ghost use Rattle.lab_sched.specs.Held.{process_view};
 ghost use Rattle.lab_sched.specs.Worlds.{machine_of};
 ghost use Rattle.lab_told.specs.Questions.{question, before_in};
+ghost use Rattle.lab_told.specs.Services.{service_at};
 
 use crate::arguments::{arguments_of, object_called, place_of, sent_words, wants_attributes};
 use crate::service::service_at;
@@ -44,19 +46,22 @@ pub struct Observed {
     pub asking: Option<Asking>,
 }
 
-/// The call that process `pid` is about to make.
+/// The call that process `pid` is about to make, if it makes one.
 fn asking_of(
     alloc: Global,
     kernel: &Kernel,
     pid: usize,
     process: &Process,
-    service: Service,
-) -> Result<Asking, AllocError>
+) -> Result<Option<Asking>, AllocError>
     requires process { pid < length kernel.now.processes }
     ensures question { IfOk result (λ a. a
-        ≡ question kernel.now pid (machine_of (process_view process.now)) service) }
+        ≡ option_map (question kernel.now pid (machine_of (process_view process.now)))
+        (service_at (machine_of (process_view process.now)))) }
 {
-    Ok(Asking {
+    let Some(service) = service_at(process) else {
+        return Ok(None);
+    };
+    Ok(Some(Asking {
         service,
         arguments: arguments_of(alloc, kernel, pid, process, service)?,
         object: object_called(alloc, kernel, pid, process, service)?,
@@ -64,7 +69,7 @@ fn asking_of(
         sent: sent_words(alloc, process, service)?,
         priority: register(process, 3),
         wants_attributes: wants_attributes(process, service),
-    })
+    }))
 }
 
 /// Process `pid` of a world before its step.
@@ -81,15 +86,11 @@ pub fn observe(alloc: Global, world: &World, pid: usize) -> Result<Observed, All
             asking: None,
         });
     };
-    let asking = match service_at(process) {
-        Some(service) => Some(asking_of(alloc, world.kernel(), pid, process, service)?),
-        None => None,
-    };
     let pc = process.machine().pc();
     Ok(Observed {
         pc,
         word: process.machine().word(pc),
         written: process.machine().output().len(),
-        asking,
+        asking: asking_of(alloc, world.kernel(), pid, process)?,
     })
 }

@@ -7,7 +7,6 @@ mod arguments;
 mod asking;
 mod attributes;
 mod flags;
-mod givers;
 mod handles;
 pub mod laws;
 mod message;

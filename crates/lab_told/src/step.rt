@@ -1,5 +1,5 @@
 //! One step of a trace.
-ghost use Rattle.std.specs.Prelude.{◌≡◌, ◌<◌, ◌≤◌, IfOk, OnOk, ℕ, length};
+ghost use Rattle.std.specs.Prelude.{◌≡◌, ◌<◌, ◌≤◌, IfOk, OnOk, length};
 ghost use Rattle.lab_sched.specs.Worlds.{step};
 ghost use Rattle.lab_told.specs.Scenes.{scene_at, told, next_tally};
 ghost use Rattle.lab_told.specs.declared.told.Told.TheVariants.{Nothing};
@@ -7,29 +7,11 @@ ghost use Rattle.lab_told.specs.declared.told.Told.TheVariants.{Nothing};
 use crate::asking::observe;
 use crate::tally::Tally;
 use crate::told::{Told, told_by};
-use lab_sched::{Stepped, World};
+use lab_sched::World;
 use std::alloc::{AllocError, Global};
 
-/// Takes a step of process `pid` and tells what it did; the tally is that before it.
-#[tactic(auto, unfolding(crate::specs::Scenes::told))]
-fn tell(alloc: Global, world: &mut World, tally: &Tally, pid: usize) -> Result<Told, AllocError>
-    requires process { pid < length world.old.processes }
-    ensures told { (number : ℕ) → IfOk result (λ t. t
-        ≡ told (scene_at number world.old tally.now) pid) }
-    ensures world { OnOk result (world.new ≡ step world.old pid) }
-{
-    let before = observe(alloc, world, pid)?;
-    let Ok(stepped) = world.step(pid) else {
-        return Err(AllocError);
-    };
-    if matches!(stepped, Stepped::Same) {
-        Ok(Told::Nothing)
-    } else {
-        told_by(world, tally, pid, before, stepped)
-    }
-}
-
 /// Takes step number `number`, of process `pid`, and tells what it did; the tally keeps it.
+#[tactic(auto, unfolding(crate::specs::Scenes::told))]
 pub fn trace_step(
     alloc: Global,
     world: &mut World,
@@ -43,7 +25,11 @@ pub fn trace_step(
     ensures tally { OnOk result (tally.new
         ≡ next_tally (scene_at number world.old tally.old) pid) }
 {
-    let told = tell(alloc, world, tally, pid)?;
+    let before = observe(alloc, world, pid)?;
+    let Ok(stepped) = world.step(pid) else {
+        return Err(AllocError);
+    };
+    let told = told_by(world, tally, pid, before, stepped)?;
     tally.keep(world.kernel(), number, pid, &told)?;
     Ok(told)
 }

@@ -1,16 +1,17 @@
 //! What a trace keeps of each process beside the world.
 ghost use Rattle.std.specs.Prelude.{◌≡◌, IfOk, OnOk, slice_set};
-ghost use Rattle.lab_told.specs.Givers.{giver_at};
+ghost use Rattle.lab_told.specs.Answers.{act_done};
+ghost use Rattle.lab_told.specs.Givers.{giver_at, givers_after};
 ghost use Rattle.lab_told.specs.Origins.{first};
 ghost use Rattle.lab_told.specs.Units.{units_of, balance};
 ghost use Rattle.lab_told.specs.Tallies.{new_tally, account_of, waits_from, tally_after};
 
 use crate::answers::Outcome;
-use crate::givers::keep_givers;
 use crate::origins::{Origin, keep_origins};
 use crate::told::{Act, Told};
 use crate::units::{UnitCount, keep_units, units_of};
 use ipc_kernel::{Kernel, OBJECT_PLACES};
+use ipc_traps::Service;
 use std::alloc::{AllocError, Global};
 use std::marker::Model;
 
@@ -68,6 +69,17 @@ fn set(accounts: &mut Vec<Account>, pid: usize, account: Account)
 {
     if let Some(kept) = accounts.get_mut(pid) {
         *kept = account;
+    }
+}
+
+/// Keeps what a process gave by what it did in step `number`.
+fn keep_givers(givers: &mut Vec<Option<u32>>, number: u32, act: &Act)
+    ensures kept { givers.new.items ≡ givers_after number (act_done act.now) givers.old.items }
+{
+    if let Some((Service::SemPost | Service::MqReceive, place)) = act.done() {
+        if let Some(step) = givers.get_mut(place as usize) {
+            *step = Some(number);
+        }
     }
 }
 

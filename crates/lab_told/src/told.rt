@@ -1,12 +1,14 @@
 //! What a step did.
-ghost use Rattle.std.specs.Prelude.{◌≡◌, ◌<◌, IfOk, length, slice_get, drop};
+ghost use Rattle.std.specs.Prelude.{◌≡◌, ◌<◌, if◌then◌else◌, IfOk, length, slice_get, drop};
 ghost use Rattle.lab_sched.specs.Held.{process_view};
 ghost use Rattle.lab_sched.specs.Worlds.{machine_of};
 ghost use Rattle.lab_told.specs.Answers.{act_done, call_done};
 ghost use Rattle.lab_told.specs.Givers.{giver_by};
 ghost use Rattle.lab_told.specs.Origins.{origin_by};
 ghost use Rattle.lab_told.specs.Events.{place_by, level_by, call_by, wrote, told_with, told_by};
+ghost use Rattle.lab_told.specs.Scenes.{has_effect};
 ghost use Rattle.lab_told.specs.Tallies.{account_of};
+ghost use Rattle.lab_told.specs.declared.told.Told.TheVariants.{Nothing};
 
 use crate::answers::{Outcome, outcome_of, result_of, wanted_of};
 use crate::asking::{Asking, Observed};
@@ -232,8 +234,7 @@ fn act_by(
     }
 }
 
-/// What a trace tells of a step of process `pid` with an effect, by what the step told, the world after it and the tally
-/// before it.
+/// What a trace tells of a step of process `pid`, by what the step told, the world after it and the tally before it.
 pub fn told_by(
     world: &World,
     tally: &Tally,
@@ -242,10 +243,14 @@ pub fn told_by(
     stepped: Stepped,
 ) -> Result<Told, AllocError>
     requires process { pid < length world.now.processes }
-    ensures told { IfOk result (λ t. t
-        ≡ told_by world.now.kernel tally.now pid before stepped
-        (slice_get world.now.processes pid)) }
+    ensures told { IfOk result (λ t. t ≡ (if has_effect stepped
+        then told_by world.now.kernel tally.now pid before stepped
+        (slice_get world.now.processes pid)
+        else Nothing)) }
 {
+    if matches!(stepped, Stepped::Same) {
+        return Ok(Told::Nothing);
+    }
     let (pc, word) = (before.pc, before.word);
     let local = tally.account(pid).local;
     match act_by(world, tally, pid, before, stepped)? {
