@@ -1,5 +1,5 @@
 //! Books: the kernel that processes share, with the history of their calls.
-ghost use Rattle.std.specs.Prelude.{◌≡◌, ◌<◌, ◌≤◌, ◌↔◌, [], length, Some, None, is_some, IfOk, OnOk, OnErr, IsTrue, true, false};
+ghost use Rattle.std.specs.Prelude.{◌≡◌, ◌<◌, ◌≤◌, ◌↔◌, [], length, Some, None, IfOk, OnOk, OnErr, IsTrue, true, false};
 ghost use Rattle.std.specs.Option.{option_copied};
 ghost use Rattle.ipc_kernel.specs.Limits.{process_max};
 ghost use Rattle.ipc_kernel.specs.Kernel.{empty_kernel};
@@ -73,12 +73,6 @@ pub(crate) fn clone_of(call: &Call) -> Result<Call, AllocError>
     ensures equal { IfOk result (λ copy. copy ≡ call.now) }
 {
     call.clone()
-}
-
-fn set_pending(waiting: &mut Option<Call>, pending: Option<Call>)
-    ensures pending { waiting.new ≡ pending }
-{
-    *waiting = pending;
 }
 
 #[derive(Drop)]
@@ -168,26 +162,13 @@ impl Book {
         self.waiting[pid].as_ref()
     }
 
-    fn is_waiting(&self, pid: usize) -> bool
-        requires process { pid < self.now.count }
-        ensures waits { is_some (waits self.now.history pid) ≡ result }
-    {
-        self.waits(pid).is_some()
-    }
-
     /// Whether there is such a process, and it may make this call: one that waits may make the call
     /// that it waits for again, and no other.
     pub fn fits(&self, pid: usize, call: &Call) -> bool
         ensures fits { IsTrue result
             ↔ ((pid < self.now.count) × MayCall (waits self.now.history pid) call.now) }
     {
-        if pid >= self.count() {
-            return false;
-        }
-        match self.waits(pid) {
-            None => true,
-            Some(waits) => waits == call,
-        }
+        pid < self.count() && self.waits(pid).is_none_or(|waits| waits == call)
     }
 
     /// Whether the call that a process waits for would be answered now without a wait.
@@ -197,10 +178,8 @@ impl Book {
             → result ≡ is_done (answer (kernel_of self.now) pid c).0 }
         ensures none { waits self.now.history pid ≡ None → result ≡ false }
     {
-        match self.waits(pid) {
-            None => false,
-            Some(call) => self.kernel.can_go(pid, call),
-        }
+        self.waits(pid)
+            .is_some_and(|call| self.kernel.can_go(pid, call))
     }
 
     /// Answers a call of a process, and adds its entry to the history. Where the process waits for
@@ -218,7 +197,7 @@ impl Book {
         ensures count { self.new.count ≡ self.old.count }
         ensures err { OnErr result (self.new ≡ self.old) }
     {
-        let waited = self.is_waiting(pid);
+        let waited = self.waits(pid).is_some();
         self.history.reserve(1)?;
         let Answered {
             answer,
@@ -228,7 +207,7 @@ impl Book {
         if !has_entry(waited, &answer) {
             return Ok(answer);
         }
-        set_pending(&mut self.waiting[pid], pending);
+        self.waiting[pid] = pending;
         self.history.push_reserved(entry);
         Ok(answer)
     }

@@ -101,41 +101,13 @@ fn merge_workers(
     }
 }
 
-/// The report of a world that a schedule with this history led to, once all has gone on that has
+/// The report of a run whose workers brought back these results, once all has gone on that has
 /// steps left.
-fn report_from(
-    mut world: World,
-    mut schedule: Schedule,
-    mut history: Vec<Entry>,
-    mut left: Vec<u32>,
-) -> Result<Report, RunFault>
-    requires len { length left.items ≡ length world.processes }
-    requires room { total_of schedule + sum left.items ≤ most_steps }
-    ensures execution { IfOk result (λ r. (start : WorldState)
-        → IsExecution start (steps_of schedule) world history.items → IsReportFrom start r) }
-    ensures finished { IfOk result (λ r. (limit : ℕ)
-        → MakeLimit limit left.items (steps_of schedule)
-        → IsFinished r.world (steps_of r.schedule) limit) }
-    ensures verdict { IfOk result (λ r. IsVerdict r.world r.verdict) }
-{
-    let refused = world.settle(&mut left, &mut schedule, &mut history);
-    if refused != 0 {
-        return Err(RunFault::NoMemory);
-    }
-    let verdict = world.verdict();
-    Ok(Report {
-        world,
-        schedule,
-        history,
-        verdict,
-    })
-}
-
 fn report_of_workers(
     alloc: Global,
     workers: Vec<WorkerResult>,
     kernel: Kernel,
-    history: Vec<Entry>,
+    mut history: Vec<Entry>,
     limit: u32,
 ) -> Result<Report, RunFault>
     requires legal { IsLegal (empty_kernel (length kernel.processes)) history.items }
@@ -155,37 +127,18 @@ fn report_of_workers(
     if kernel.count() != workers.len() {
         return Err(RunFault::Unvouched);
     }
-    let (schedule, left) = merge_workers(alloc, &workers, &history)?;
-    let world = World::join(ends(alloc, workers)?, kernel);
-    report_from(world, schedule, history, left)
-}
-
-fn run_starts<R: Threads + Wait + Sync, G: Gate>(
-    rt: &R,
-    alloc: Global,
-    starts: Vec<Process>,
-    limit: u32,
-    gate: &G,
-) -> Result<Report, RunFault>
-    requires starts { AreStarts starts.items }
-    ensures execution { IfOk result (λ r. IsReportFrom (initial_world starts.items) r) }
-    ensures legal { IfOk result
-        (λ r. IsLegal (empty_kernel (length starts.items)) r.history.items) }
-    ensures kernel { IfOk result
-        (λ r. r.world.kernel ≡ replay (empty_kernel (length starts.items)) r.history.items) }
-    ensures finished { IfOk result (λ r. IsFinished r.world (steps_of r.schedule) limit) }
-    ensures verdict { IfOk result (λ r. IsVerdict r.world r.verdict) }
-{
-    let monitor = Monitor::new(alloc, Book::new(alloc, starts.len())?)?;
-    let crew = Crew {
-        rt,
-        alloc,
-        monitor: &monitor,
-        gate,
-    };
-    let workers = run_workers(crew, starts, limit)?;
-    let (kernel, history) = monitor.into_book().into_parts();
-    report_of_workers(alloc, workers, kernel, history, limit)
+    let (mut schedule, mut left) = merge_workers(alloc, &workers, &history)?;
+    let mut world = World::join(ends(alloc, workers)?, kernel);
+    if world.settle(&mut left, &mut schedule, &mut history) != 0 {
+        return Err(RunFault::NoMemory);
+    }
+    let verdict = world.verdict();
+    Ok(Report {
+        world,
+        schedule,
+        history,
+        verdict,
+    })
 }
 
 /// Runs each process of a laboratory on a thread of its own, for at most `limit` steps, over one
@@ -211,5 +164,15 @@ pub fn run_threads<R: Threads + Wait + Sync, G: Gate>(
     ensures finished { IfOk result (λ r. IsFinished r.world (steps_of r.schedule) limit) }
     ensures verdict { IfOk result (λ r. IsVerdict r.world r.verdict) }
 {
-    run_starts(rt, alloc, fresh.processes(), limit, gate)
+    let starts = fresh.processes();
+    let monitor = Monitor::new(alloc, Book::new(alloc, starts.len())?)?;
+    let crew = Crew {
+        rt,
+        alloc,
+        monitor: &monitor,
+        gate,
+    };
+    let workers = run_workers(crew, starts, limit)?;
+    let (kernel, history) = monitor.into_book().into_parts();
+    report_of_workers(alloc, workers, kernel, history, limit)
 }

@@ -33,23 +33,19 @@ impl CommonStart {
     /// some may not get a processor soon.
     pub(crate) fn meet<R: Wait>(&self, rt: &R) {
         self.arrive();
-        self.gather(rt);
+        for _ in rt.forever() {
+            let there = self.there.load(Ordering::SeqCst);
+            if there >= self.count {
+                break;
+            }
+            self.there.park(rt, (there & 0xffff_ffff) as u32);
+        }
         self.awake.fetch_add(1, Ordering::SeqCst);
         for _ in 0..MOST_LOOKS {
             if self.awake.load(Ordering::SeqCst) >= self.count {
                 return;
             }
             spin_loop();
-        }
-    }
-
-    fn gather<R: Wait>(&self, rt: &R) {
-        for _ in rt.forever() {
-            let there = self.there.load(Ordering::SeqCst);
-            if there >= self.count {
-                return;
-            }
-            self.there.park(rt, (there & 0xffff_ffff) as u32);
         }
     }
 

@@ -66,8 +66,18 @@ fn advance<R: Wait, G: Gate>(
         write_local(context, log, taken);
         return Continuation::GoesOn;
     }
+    if log.trace.reserve().is_err() {
+        return Continuation::Stops;
+    }
     match progress {
-        Progress::Stopped(Want::Trap(vector)) => step_trap(context, process, vector, log),
+        Progress::Stopped(Want::Trap(vector)) => match ask_call(context.alloc, process, vector) {
+            Ok(Asked::Kernel(call)) => make_call(context, process, vector, call, log),
+            Ok(Asked::Refused(_)) => {
+                write_local(context, log, 1);
+                Continuation::GoesOn
+            }
+            Err(_) => Continuation::Stops,
+        },
         Progress::Stopped(Want::End(how)) => step_end(context, process, how, log),
         Progress::Short | Progress::Moved => Continuation::Stops,
     }
@@ -82,13 +92,11 @@ fn step_end<R: Wait, G: Gate>(
     requires stands { StandsBefore (process_view process.old) (End how) }
     requires held { IsHeld process.old }
     requires some { 0 < log.old.left }
+    requires room { vec_len log.old.trace.calls < vec_capacity log.old.trace.calls }
     ensures alone { LeadsOn log.old (process_view process.old) log.new (process_view process.new) }
     ensures held { IsHeld process.new }
     ensures allowed { allowance log.new ≡ allowance log.old }
 {
-    if log.reserve().is_err() {
-        return Continuation::Stops;
-    }
     match context.call(&Call::Exit, false, &mut log.calls) {
         CallOutcome::Answered(reply) => {
             end_process(process, how);
@@ -98,33 +106,6 @@ fn step_end<R: Wait, G: Gate>(
         CallOutcome::NoMemory => Continuation::Stops,
         CallOutcome::Rejected | CallOutcome::Blocked { .. } | CallOutcome::AnsweredAfterWait(_) =>
             Continuation::Misfits,
-    }
-}
-
-fn step_trap<R: Wait, G: Gate>(
-    context: &WorkerContext<'_, R, G>,
-    process: &mut Process,
-    vector: u8,
-    log: &mut WorkerLog,
-) -> Continuation
-    requires stands { StandsBefore (process_view process.old) (Trap vector) }
-    requires held { IsHeld process.old }
-    requires some { 0 < log.old.left }
-    requires few { allowance log.old < 2 ^ 32 }
-    ensures alone { LeadsOn log.old (process_view process.old) log.new (process_view process.new) }
-    ensures held { IsHeld process.new }
-    ensures allowed { allowance log.new ≡ allowance log.old }
-{
-    if log.reserve().is_err() {
-        return Continuation::Stops;
-    }
-    match ask_call(context.alloc, process, vector) {
-        Ok(Asked::Kernel(call)) => make_call(context, process, vector, call, log),
-        Ok(Asked::Refused(_)) => {
-            write_local(context, log, 1);
-            Continuation::GoesOn
-        }
-        Err(_) => Continuation::Stops,
     }
 }
 
@@ -181,10 +162,11 @@ fn make_call<R: Wait, G: Gate>(
     }
 }
 
-/// Steps a process until it has ended, waits for good, has taken `limit` steps or was refused
-/// memory, or its call doesn't fit the book.
-fn run<R: Wait, G: Gate>(
-    context: &WorkerContext<'_, R, G>,
+/// The work of a thread: when all workers are there it steps its process until this has ended, waits
+/// for good, has taken `limit` steps or was refused memory, or its call doesn't fit the book, and then
+/// tells the others that it has stopped.
+pub(crate) fn work<R: Wait, G: Gate>(
+    context: WorkerContext<'_, R, G>,
     start: Process,
     limit: u32,
 ) -> WorkerResult
@@ -196,16 +178,18 @@ fn run<R: Wait, G: Gate>(
         left: limit,
         calls: 0,
     };
+    context.monitor.meet(context.rt);
     let mut went = Continuation::GoesOn;
     for _ in context.rt.forever() {
         if log.left == 0 || went != Continuation::GoesOn {
             break;
         }
         went = match process {
-            Process::Running(_) => advance(context, &mut process, &mut log),
+            Process::Running(_) => advance(&context, &mut process, &mut log),
             Process::Waiting(..) | Process::Ended(_) => break,
         };
     }
+    context.monitor.stop(context.rt);
     let WorkerLog { trace, left, .. } = log;
     WorkerResult {
         process,
@@ -213,19 +197,4 @@ fn run<R: Wait, G: Gate>(
         left,
         fits: went != Continuation::Misfits,
     }
-}
-
-/// The work of a thread: when all workers are there it steps its process, and then tells the
-/// others that it has stopped.
-pub(crate) fn work<R: Wait, G: Gate>(
-    context: WorkerContext<'_, R, G>,
-    start: Process,
-    limit: u32,
-) -> WorkerResult
-    ensures result { IsWorkerResult limit start result }
-{
-    context.monitor.meet(context.rt);
-    let result = run(&context, start, limit);
-    context.monitor.stop(context.rt);
-    result
 }

@@ -1,12 +1,11 @@
 //! What a worker writes down.
-ghost use Rattle.std.specs.Prelude.{◌≡◌, ◌+◌, ◌<◌, ◌≤◌, ◌^◌, OnOk, vec_len, vec_capacity};
+ghost use Rattle.std.specs.Prelude.{◌≡◌, ◌+◌, ◌<◌, ◌≤◌, ◌^◌, vec_len, vec_capacity};
 ghost use Rattle.lab_sched.specs.Worlds.{Process};
 ghost use Rattle.lab_sched.specs.LocalRun.{AreLocal, TakesAnswer};
 ghost use Rattle.lab_threads.specs.Private.WorkerLogs.{LeadsOn, allowance};
 
 use ipc_kernel::{Answer, Call};
 use lab_sched::Trace;
-use std::alloc::AllocError;
 
 /// The trace of a worker's process, how many steps it may still take, and how many calls it has
 /// come to.
@@ -18,17 +17,6 @@ pub(crate) struct WorkerLog {
 }
 
 impl WorkerLog {
-    /// Makes room for two calls.
-    pub(crate) fn reserve(&mut self) -> Result<(), AllocError>
-        ensures room { OnOk result
-            (vec_len self.new.trace.calls + 2 ≤ vec_capacity self.new.trace.calls) }
-        ensures alone { (x : Process) → LeadsOn self.old x self.new x }
-        ensures allowed { allowance self.new ≡ allowance self.old }
-        ensures left { self.new.left ≡ self.old.left }
-    {
-        self.trace.reserve()
-    }
-
     /// Whether the next local step is the first since the last call.
     pub(crate) fn is_at_call(&self) -> bool {
         self.trace.after == 0

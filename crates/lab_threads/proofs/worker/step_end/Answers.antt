@@ -6,4 +6,4 @@ pub returns-in-Answered-clause-alone : goal.returns-in-Answered-clause-alone
 returns-in-Answered-clause-alone g c s before =
     let x = process_view c.args.process.now in
     let y = process_view c.end_process.new.process in
-    c.add_call.ensures.alone x y (told_end x y c.args.how c.in-Answered.reply c.requires.stands c.end_process.ensures.ended) s (c.reserve.ensures.alone x s before)
+    c.add_call.ensures.alone x y (told_end x y c.args.how c.in-Answered.reply c.requires.stands c.end_process.ensures.ended) s before

@@ -2,7 +2,7 @@ use Rattle.std.proofs.Common.{◌≡◌}
 use Rattle.lab_sched.specs.LocalRun.{IsLocalRun}
 use Rattle.lab_sched.specs.Held.{process_view, IsHeld}
 use Rattle.lab_threads.specs.Private.WorkerLogs.{allowance}
-use Rattle.lab_threads.proofs.worker.run.Given as goal
+use Rattle.lab_threads.proofs.worker.work.Given as goal
 
 abbrev pub invariant-loop : goal.invariant-loop
 invariant-loop g l = record {
