@@ -1,18 +1,14 @@
 -- Addresses of four digits at most.
-use Rattle.std.proofs.Common.{◌≡◌, ℕ, ◌<◌, ◌≤◌, Bool, true, false, ◌&&◌, List, [], ◌∷◌, Option, Some, None, length, min, nat_lt, nat_le, refl, ap, sym, subst, ◌∙◌, arith}
+use Rattle.std.proofs.Common.{◌≡◌, ℕ, ◌<◌, ◌≤◌, Bool, true, false, List, [], ◌∷◌, Option, Some, None, length, min, nat_lt, nat_le, refl, ap, sym, subst, ◌∙◌, arith}
 use Rattle.std.specs.Option.{option_map}
 use Rattle.std.specs.List.{list_all}
 use Rattle.std.specs.Char.{digit_value}
 use Rattle.std.specs.Str.Parse.{digits_value, AllDigits}
+use Rattle.std.proofs.lemmas.Bool.{and_parts}
 use Rattle.std.proofs.lemmas.Bool.Decides.{nat_tests}
 use Rattle.std.proofs.lemmas.Int.Digits.{digits_value-lt}
 use Rattle.lc3_word.specs.Numbers.{unsigned_number}
 use Rattle.lab_conditions.specs.Written.{hexadecimal_in}
-
-both : (a b : Bool) → (a && b) ≡ true → (a ≡ true) × (b ≡ true)
-both true true h = (refl, refl)
-both true false h = absurd (cc)
-both false b h = absurd (cc)
 
 less : (a b : ℕ) → nat_lt a b ≡ true → a < b
 less a b h = grind (arith, nat_tests)
@@ -20,7 +16,7 @@ less a b h = grind (arith, nat_tests)
 all_digits : (cs : List ℕ) → list_all (λ c. nat_lt (digit_value c) 16) cs ≡ true → AllDigits 16 cs
 all_digits [] h = tt
 all_digits (c ∷ cs) h =
-    let two = both (nat_lt (digit_value c) 16) (list_all (λ c. nat_lt (digit_value c) 16) cs) h in
+    let two = and_parts (nat_lt (digit_value c) 16) (list_all (λ c. nat_lt (digit_value c) 16) cs) h in
     (less (digit_value c) 16 two.0, all_digits cs two.1)
 
 value_small : (ds : List ℕ) → length ds ≤ 4 → AllDigits 16 ds → digits_value 16 ds < 65536

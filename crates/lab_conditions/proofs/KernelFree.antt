@@ -1,6 +1,7 @@
 -- Conditions that hold over any kernel.
-use Rattle.std.proofs.Common.{ℕ, ◌≡◌, ◌≤◌, ◌||◌, Bool, true, false, List, [], ◌∷◌, All, refl, ◌∙◌, arith}
+use Rattle.std.proofs.Common.{ℕ, ◌≡◌, ◌≤◌, true, false, List, [], ◌∷◌, All, refl, ◌∙◌, arith}
 use Rattle.std.specs.List.{list_any}
+use Rattle.std.proofs.lemmas.Bool.{or_parts}
 use Rattle.std.proofs.lemmas.List.Elements.{All-nil, All-cons}
 use Rattle.ipc_kernel.specs.Kernel.{KernelState}
 use Rattle.lab_sched.specs.Worlds.{Process}
@@ -36,15 +37,10 @@ part_over_any (Queue name r x) free = let clash : true ≡ false = free in absur
 part_over_any (Of p x) free = λ k j ps h. (h.0, h.1, so_over_any x free j k p h.0 ∙ h.2)
 part_over_any (MoreThan x n) free = λ k j ps h. let few = no_fewer x (so_over_any x free) k j ps in omega (arith, h, few)
 
--- where neither is so
-neither : (a b : Bool) → (a || b) ≡ false → (a ≡ false) × (b ≡ false)
-neither true b none = let clash : true ≡ false = none in absurd (cc)
-neither false b none = (refl, none)
-
 parts_over_any : (parts : List Part) → list_any part_needs_kernel parts ≡ false → All PartHoldsOverAny parts
 parts_over_any [] none = All-nil PartHoldsOverAny
 parts_over_any (part ∷ parts) none =
-    let both = neither (part_needs_kernel part) (list_any part_needs_kernel parts) none in
+    let both = or_parts (part_needs_kernel part) (list_any part_needs_kernel parts) none in
     All-cons PartHoldsOverAny part parts (part_over_any part both.0) (parts_over_any parts both.1)
 
 -- a condition holds over any kernel where none of its parts needs one

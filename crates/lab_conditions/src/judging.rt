@@ -87,10 +87,7 @@ impl Part {
     fn names_only(&self, count: usize) -> bool
         ensures only { IsTrue result ↔ NamesOnly count self.now }
     {
-        match self {
-            Part::Of { process, .. } => *process < count,
-            Part::Semaphore { .. } | Part::Queue { .. } | Part::MoreThan { .. } => true,
-        }
+        !matches!(self, Part::Of { process, .. } if *process >= count)
     }
 
     fn needs_kernel(&self) -> bool

@@ -1,6 +1,5 @@
 //! Messages in queues, and processes that receive them.
 ghost use Rattle.std.specs.Prelude.{◌≡◌, ◌<◌, ◌^◌, IfOk};
-ghost use Rattle.ipc_kernel.specs.Answer.{is_receive};
 ghost use Rattle.ipc_kernel.specs.Limits.{object_places};
 ghost use Rattle.ipc_kernel.specs.Places.{place_at};
 ghost use Rattle.lab_sched.specs.Held.{process_view};
@@ -33,23 +32,17 @@ pub fn messages_in(kernel: &Kernel) -> usize
     count
 }
 
-fn is_receive(call: &Call) -> bool
-    ensures value { result ≡ is_receive call.now }
-{
-    matches!(call, Call::MqReceive { .. })
-}
-
 /// Whether a process is about to receive a message, or waits for one. An error is want of memory.
 pub fn is_receiving(alloc: Global, process: &Process) -> Result<bool, AllocError>
     ensures value { IfOk result
         (λ receiving. receiving ≡ is_receiving (process_view process.now)) }
 {
     match process {
-        Process::Running(running) => match call_next(alloc, running)? {
-            Some(call) => Ok(is_receive(&call)),
-            None => Ok(false),
-        },
-        Process::Waiting(_, call) => Ok(is_receive(call)),
+        Process::Running(running) => Ok(matches!(
+            call_next(alloc, running)?,
+            Some(Call::MqReceive { .. })
+        )),
+        Process::Waiting(_, call) => Ok(matches!(call, Call::MqReceive { .. })),
         Process::Ended(_) => Ok(false),
     }
 }

@@ -24,24 +24,22 @@ fn is_semaphore_in(kernel: &Kernel, place: u8, name: &Name, relation: Relation, 
     requires within { place < object_places }
     ensures is { IsTrue result ↔ IsSemaphoreIn kernel.now place name.now relation value }
 {
-    match kernel.semaphore_at(place) {
-        Some((Some(other), held)) => {
-            name == other && relation.compares(usize::from(held), usize::from(value))
-        }
-        _ => false,
-    }
+    matches!(
+        kernel.semaphore_at(place),
+        Some((Some(other), held))
+            if name == other && relation.compares(usize::from(held), usize::from(value))
+    )
 }
 
 fn is_queue_in(kernel: &Kernel, place: u8, name: &Name, relation: Relation, value: u16) -> bool
     requires within { place < object_places }
     ensures is { IsTrue result ↔ IsQueueIn kernel.now place name.now relation value }
 {
-    match kernel.queue_at(place) {
-        Some((Some(other), queue)) => {
-            name == other && relation.compares(usize::from(queue.attr().2), usize::from(value))
-        }
-        _ => false,
-    }
+    matches!(
+        kernel.queue_at(place),
+        Some((Some(other), queue))
+            if name == other && relation.compares(usize::from(queue.attr().2), usize::from(value))
+    )
 }
 
 pub(crate) fn has_semaphore(kernel: &Kernel, name: &Name, relation: Relation, value: u16) -> bool

@@ -1,7 +1,7 @@
 //! Steps by which a call is refused.
 ghost use Rattle.std.specs.Prelude.{◌≡◌};
 ghost use Rattle.lab_conditions.specs.Conditions.{option_any};
-ghost use Rattle.lab_conditions.specs.Refusals.{error_replied, error_told, is_error, is_process, is_refused};
+ghost use Rattle.lab_conditions.specs.Refusals.{error_told, is_error, is_process, is_refused};
 
 use ipc_kernel::Reply;
 use ipc_names::Errno;
@@ -16,28 +16,13 @@ pub struct Refusal {
     pub error: Option<Errno>,
 }
 
-fn error_replied(reply: &Reply) -> Option<u16>
-    ensures number { result ≡ error_replied reply.now }
-{
-    match reply {
-        Reply::Plain(word) => {
-            if *word >= 0x8000 {
-                Some(word.wrapping_neg())
-            } else {
-                None
-            }
-        }
-        Reply::Message { .. } | Reply::Attr(_) | Reply::Value(_) => None,
-    }
-}
-
 fn error_told(stepped: &Stepped) -> Option<u16>
     ensures number { result ≡ error_told stepped.now }
 {
     match stepped {
         Stepped::Refused(error) => Some(error.number()),
-        Stepped::Called(reply) => error_replied(reply),
-        Stepped::Moved | Stepped::Waits | Stepped::Same => None,
+        Stepped::Called(Reply::Plain(word)) if *word >= 0x8000 => Some(word.wrapping_neg()),
+        Stepped::Called(_) | Stepped::Moved | Stepped::Waits | Stepped::Same => None,
     }
 }
 
@@ -65,9 +50,6 @@ impl Refusal {
     pub fn is_refused(&self, stepped: &Stepped) -> bool
         ensures value { result ≡ is_refused self.now stepped.now }
     {
-        match error_told(stepped) {
-            Some(number) => is_error(self.error, number),
-            None => false,
-        }
+        error_told(stepped).is_some_and(|number| is_error(self.error, number))
     }
 }

@@ -54,10 +54,9 @@ fn is_blocked(
         (λ blocked. blocked ≡ is_blocked kernel.now pid (process_view process.now)) }
 {
     match process {
-        Process::Running(running) => match call_next(alloc, running)? {
-            Some(call) => Ok(must_wait(kernel, pid, &call)),
-            None => Ok(false),
-        },
+        Process::Running(running) => {
+            Ok(call_next(alloc, running)?.is_some_and(|call| must_wait(kernel, pid, &call)))
+        }
         Process::Waiting(_, call) => Ok(must_wait(kernel, pid, call)),
         Process::Ended(_) => Ok(false),
     }
@@ -66,10 +65,7 @@ fn is_blocked(
 fn has_crashed(process: &Process) -> bool
     ensures value { result ≡ has_crashed (process_view process.now) }
 {
-    match process {
-        Process::Ended(ended) => !matches!(ended.how(), How::Halt),
-        Process::Running(_) | Process::Waiting(_, _) => false,
-    }
+    matches!(process, Process::Ended(ended) if !matches!(ended.how(), How::Halt))
 }
 
 fn stands_from(alloc: Global, first: u16, last: u16, process: &Process) -> Result<bool, AllocError>

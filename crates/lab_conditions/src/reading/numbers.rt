@@ -10,20 +10,14 @@ use lc3_word::unsigned;
 pub(crate) fn number_in(word: &str) -> Option<u16>
     ensures value { result ≡ number_in word.now }
 {
-    let number = unsigned(10, word.as_bytes())?;
-    if number <= 65_535 {
-        Some(number as u16)
-    } else {
-        None
-    }
+    u16::try_from(unsigned(10, word.as_bytes())?).ok()
 }
 
 #[tactic(auto, unfolding(crate::specs::Written::process_in))]
 pub(crate) fn process_in(word: &str) -> Option<usize>
     ensures value { result ≡ process_in word.now }
 {
-    let number = unsigned(10, word.as_bytes())?;
-    Some(number as usize)
+    Some(unsigned(10, word.as_bytes())? as usize)
 }
 
 /// One to four hexadecimal digits.
@@ -53,11 +47,7 @@ fn address_in(word: &[u8]) -> Option<u16>
 fn from_to(first: u16, last: u16) -> Option<State>
     ensures value { result ≡ from_to first last }
 {
-    if first <= last {
-        Some(State::At { first, last })
-    } else {
-        None
-    }
+    (first <= last).then_some(State::At { first, last })
 }
 
 fn dash(word: &[u8]) -> Option<usize>

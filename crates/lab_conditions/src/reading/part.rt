@@ -35,10 +35,7 @@ fn name_in(alloc: Global, word: &str) -> Result<Option<Name>, AllocError>
     for byte in word.as_bytes() {
         words.push(u16::from(*byte))?;
     }
-    match Name::read(alloc, &words)? {
-        Ok(name) => Ok(Some(name)),
-        Err(_) => Ok(None),
-    }
+    Ok(Name::read(alloc, &words)?.ok())
 }
 
 #[derive(Drop)]
@@ -59,10 +56,7 @@ fn read_compared(alloc: Global, words: &[&str]) -> Result<Option<Compared>, Allo
     let Some(name) = name_in(alloc, name)? else {
         return Ok(None);
     };
-    let Some(relation) = relation_in(sign) else {
-        return Ok(None);
-    };
-    let Some(value) = number_in(number) else {
+    let (Some(relation), Some(value)) = (relation_in(sign), number_in(number)) else {
         return Ok(None);
     };
     Ok(Some(Compared {
@@ -81,8 +75,7 @@ fn read_place<'a, 'b>(words: &'a [&'b str]) -> Option<Front<'a, 'b>>
         ≡ place_in (map (λ word. word.now) words.now) }
 {
     let (word, rest) = words.split_first()?;
-    let state = range_in(word)?;
-    Some((state, rest))
+    Some((range_in(word)?, rest))
 }
 
 /// `blocked`, `ended`, `crashed`, `at A` or `at A-B`
@@ -111,11 +104,7 @@ fn read_state_of(process: usize, words: &[&str]) -> Option<Part>
         ≡ option_and_then (state_of process) (state_in (map (λ word. word.now) words.now)) }
 {
     let (state, rest) = read_state(words)?;
-    if rest.is_empty() {
-        Some(Part::Of { process, state })
-    } else {
-        None
-    }
+    rest.is_empty().then_some(Part::Of { process, state })
 }
 
 /// A state of some process, or behind it `> N`
@@ -126,57 +115,12 @@ fn read_state_of_some(words: &[&str]) -> Option<Part>
     let (state, rest) = read_state(words)?;
     match rest {
         [] => Some(Part::MoreThan { state, number: 0 }),
-        [sign, number] => {
-            if !is_word(">", sign) {
-                return None;
-            }
-            let number = number_in(number)?;
-            Some(Part::MoreThan { state, number })
-        }
+        [sign, number] if is_word(">", sign) => Some(Part::MoreThan {
+            state,
+            number: number_in(number)?,
+        }),
         _ => None,
     }
-}
-
-fn read_semaphore(alloc: Global, words: &[&str]) -> Result<Option<Part>, AllocError>
-    ensures value { IfOk result (λ part. part ≡ option_map (λ x. Semaphore x.0 x.1 x.2)
-        (compared_in (map (λ word. word.now) words.now))) }
-{
-    let Some(
-        Compared {
-            name,
-            relation,
-            value,
-        },
-    ) = read_compared(alloc, words)?
-    else {
-        return Ok(None);
-    };
-    Ok(Some(Part::Semaphore {
-        name,
-        relation,
-        value,
-    }))
-}
-
-fn read_queue(alloc: Global, words: &[&str]) -> Result<Option<Part>, AllocError>
-    ensures value { IfOk result (λ part. part ≡ option_map (λ x. Queue x.0 x.1 x.2)
-        (compared_in (map (λ word. word.now) words.now))) }
-{
-    let Some(
-        Compared {
-            name,
-            relation,
-            value,
-        },
-    ) = read_compared(alloc, words)?
-    else {
-        return Ok(None);
-    };
-    Ok(Some(Part::Queue {
-        name,
-        relation,
-        value,
-    }))
 }
 
 fn read_processes(words: &[&str]) -> Option<Part>
@@ -197,10 +141,26 @@ pub(crate) fn read_part(alloc: Global, words: &[&str]) -> Result<Option<Part>, A
         return Ok(None);
     };
     if is_word("sem", word) {
-        return read_semaphore(alloc, rest);
+        return Ok(read_compared(alloc, rest)?.map(|Compared {
+            name,
+            relation,
+            value,
+        }| Part::Semaphore {
+            name,
+            relation,
+            value,
+        }));
     }
     if is_word("mq", word) {
-        return read_queue(alloc, rest);
+        return Ok(read_compared(alloc, rest)?.map(|Compared {
+            name,
+            relation,
+            value,
+        }| Part::Queue {
+            name,
+            relation,
+            value,
+        }));
     }
     Ok(read_processes(words))
 }

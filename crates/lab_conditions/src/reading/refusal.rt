@@ -13,19 +13,8 @@ fn refused_in(words: &[&str]) -> Option<Option<Errno>>
     ensures value { result ≡ refused_in (map (λ word. word.now) words.now) }
 {
     match words {
-        [word] => {
-            if !is_word("refused", word) {
-                return None;
-            }
-            Some(None)
-        }
-        [word, name] => {
-            if !is_word("refused", word) {
-                return None;
-            }
-            let error = error_named(name)?;
-            Some(Some(error))
-        }
+        [word] if is_word("refused", word) => Some(None),
+        [word, name] if is_word("refused", word) => Some(Some(error_named(name)?)),
         _ => None,
     }
 }
@@ -37,13 +26,7 @@ pub(crate) fn refusal_in(words: &[&str]) -> Option<(Option<usize>, Option<Errno>
 {
     let (word, rest) = words.split_first()?;
     match process_in(word) {
-        Some(process) => {
-            let error = refused_in(rest)?;
-            Some((Some(process), error))
-        }
-        None => {
-            let error = refused_in(words)?;
-            Some((None, error))
-        }
+        Some(process) => Some((Some(process), refused_in(rest)?)),
+        None => Some((None, refused_in(words)?)),
     }
 }
