@@ -2,7 +2,6 @@
 use Rattle.std.proofs.Common.{ℕ, true, All, ◌≡◌, slice_get, List, Option, Some, None, refl, sym, ap, subst, ◌∙◌, length, map}
 use Rattle.ipc_kernel.specs.Kernel.{KernelState, empty_kernel}
 use Rattle.lab_sched.specs.declared.process.Process.{Process as Kept}
-use Rattle.lab_sched.specs.declared.process.Process.TheVariants as kept
 use Rattle.std.proofs.lemmas.List.Elements.{All-weaker}
 use Rattle.ipc_kernel.specs.Alike.{IsConsistent}
 use Rattle.ipc_store.proofs.Consistents.{consistent_empty}
@@ -10,7 +9,7 @@ use Rattle.ipc_kernel.specs.Operands.{are_named}
 use Rattle.ipc_store.proofs.CommutingCalls.{start_named}
 use Rattle.lab_sched.specs.Worlds.{WorldState}
 use Rattle.lab_sched.specs.Verdicts.{IsRunning}
-use Rattle.lab_sched.proofs.WorldLemmas.{fresh_world}
+use Rattle.lab_sched.proofs.WorldLemmas.{fresh_world, runs_held}
 use Rattle.lab_sched.specs.Held.{process_view, IsHeld, IsWorld}
 use Rattle.lab_sched.specs.Starts.{AreStarts, initial_world, Runs}
 use Rattle.lab_worlds.specs.Unwaiting.{unwaiting, AskAgain}
@@ -54,11 +53,6 @@ starts_ask ps qs k same starts = running_ask (record { processes = map process_v
 -- the kernel of a laboratory before its first step is consistent
 pub fresh_consistent : (w : WorldState) (n : ℕ) → w.kernel ≡ empty_kernel n → IsConsistent w.kernel
 fresh_consistent w n is = subst IsConsistent (sym is) (consistent_empty n)
-
-runs_held : (k : Kept) → Runs k → IsHeld k
-runs_held (kept.Running m) h = tt
-runs_held (kept.Waiting m c) h = absurd h
-runs_held (kept.Ended e) h = absurd h
 
 -- and asks for nothing else than what it waits for
 pub starts_held : (ps qs : List Kept) → qs ≡ ps → AreStarts ps → All IsHeld qs

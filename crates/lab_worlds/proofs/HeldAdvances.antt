@@ -22,7 +22,7 @@ use Rattle.lab_worlds.proofs.AlikeWorlds.{effect_alike, kernel_alike, same_effec
 use Rattle.lab_worlds.proofs.AfterLocalSteps.{stays, ahead_moves, ahead_of_ahead, same_by_gets}
 use Rattle.lab_worlds.specs.Walked.{waiting}
 use Rattle.lab_worlds.proofs.FewestCalls.{calls_in, waiting_goes, waiting_still}
-use Rattle.lab_worlds.proofs.UnwaitingWorlds.{tells, same_step, none_goes, unwaiting_at, still_unwaiting, goes_unwaiting, asks_on}
+use Rattle.lab_worlds.proofs.UnwaitingWorlds.{effect_at, tells, same_step, none_goes, unwaiting_at, still_unwaiting, goes_unwaiting, asks_on}
 
 -- a step of the same kind leaves a process in the same state, whatever the rest of the world
 pub same_after : (w v : WorldState) (p : ℕ) (s : Process) (t : StepEffect) → slice_get w.processes p ≡ Some s → slice_get v.processes p ≡ Some s
@@ -75,51 +75,58 @@ pub record AreLevels (start : WorldState) (V : ℕ → WorldState → Type 0) : 
   pub begins : HasAdvance (V 0) (unwaiting start)
   pub goes_on : (n : ℕ) (v : WorldState) (p : ℕ) → V n v → GoesOn (step_effect_in v p) → HasAdvance (V (n + 1)) (step v p)
 
--- a step that goes on, from a world whose advance a level has
-goes_advance : (start : WorldState) (V : ℕ → WorldState → Type 0) → AreLevels start V → (n : ℕ) (w : WorldState) (p : ℕ) → IsConsistent w.kernel → GoesOn (step_effect_in w p) → HasAdvance (V n) w
-    → HasAdvance (V (n + calls_in p (step_effect_in w p))) (step w p)
-goes_advance start V levels n w p consistent goes has = by (slice_get w.processes p) (slice_get v.processes p) refl refl (h.processes p)
+-- a process that stands in a world and in its advance takes the same step
+pub same_in_advance : (w v : WorldState) (p : ℕ) (s : Process) → IsConsistent w.kernel → IsAdvance w v → slice_get w.processes p ≡ Some s → slice_get v.processes p ≡ Some s
+    → step_effect_in v p ≡ step_effect_in w p
+same_in_advance w v p s consistent h a b = effect_alike w.kernel v.kernel p (slice_get v.processes p) consistent h.kernel ∙ ap (λ o. step_effect w.kernel p o) (b ∙ sym a)
+
+-- a step by which a process goes on is local and keeps the advance, or is a call that is made in the advance, too
+abbrev pub StaysOrSteps : WorldState → WorldState → ℕ → Type 0
+StaysOrSteps w v p =
+    ((q : Machine) × (step_effect_in w p ≡ local_step q) × IsAdvance (step w p) v)
+    ⊎ ((calls_in p (step_effect_in w p) ≡ 1) × (step_effect_in v p ≡ step_effect_in w p) × ((u : WorldState) → IsAdvance (step v p) u → IsAdvance (step w p) u))
+
+pub stays_or_steps : (w v : WorldState) (p : ℕ) → IsConsistent w.kernel → IsAdvance w v → GoesOn (step_effect_in w p) → StaysOrSteps w v p
+stays_or_steps w v p consistent h goes = by (slice_get w.processes p) (slice_get v.processes p) refl refl (h.processes p)
   where
-    v : WorldState
-    v = has.0
-
-    h : IsAdvance w v
-    h = has.2
-
-    effect_at : (o : Option Process) → slice_get w.processes p ≡ o → step_effect_in w p ≡ step_effect w.kernel p o
-    effect_at o a = ap (λ x. step_effect w.kernel p x) a
-
-    -- a process at a call makes the same step in both worlds
-    at_call : (s : Process) → slice_get w.processes p ≡ Some s → slice_get v.processes p ≡ Some s → calls_in p (step_effect_in w p) ≡ 1 → HasAdvance (V (n + calls_in p (step_effect_in w p))) (step w p)
+    at_call : (s : Process) → slice_get w.processes p ≡ Some s → slice_get v.processes p ≡ Some s → calls_in p (step_effect_in w p) ≡ 1 → StaysOrSteps w v p
     at_call s a b one =
-        let same : step_effect_in v p ≡ step_effect_in w p = effect_alike w.kernel v.kernel p (slice_get v.processes p) consistent h.kernel ∙ ap (λ o. step_effect w.kernel p o) (b ∙ sym a) in
-        let next = levels.goes_on n v p has.1 (subst GoesOn (sym same) goes) in
-        let there = subst (λ t. IsAdvance (after v p t) next.0) same next.2 in
-        subst (λ k. HasAdvance (V (n + k)) (step w p)) (sym one) (next.0, next.1, both_step w v next.0 p s (step_effect_in w p) a b consistent h there)
+        let same = same_in_advance w v p s consistent h a b in
+        inr (one, same, λ u next. both_step w v u p s (step_effect_in w p) a b consistent h (subst (λ t. IsAdvance (after v p t) u) same next))
 
-    running : (m : Machine) (u : Process) (a : NextAction) → next_action m ≡ a → slice_get w.processes p ≡ Some (Running m) → slice_get v.processes p ≡ Some u → IsAhead (Running m) u
-        → HasAdvance (V (n + calls_in p (step_effect_in w p))) (step w p)
+    running : (m : Machine) (u : Process) (a : NextAction) → next_action m ≡ a → slice_get w.processes p ≡ Some (Running m) → slice_get v.processes p ≡ Some u → IsAhead (Running m) u → StaysOrSteps w v p
     running m u (moves q) e a b i =
         let is : step_effect_in w p ≡ local_step q = effect_local w p m q a e in
-        let none : calls_in p (step_effect_in w p) ≡ 0 = ap (calls_in p) is in
-        let number : n ≡ n + calls_in p (step_effect_in w p) = omega (arith, none) in
         let here : step w p ≡ after w p (local_step q) = ap (λ t. after w p t) is in
-        subst (λ k. HasAdvance (V k) (step w p)) number (v, has.1, subst (λ x. IsAdvance x v) (sym here) (local_keeps w v p m q u a b e h i))
+        inl (q, is, subst (λ x. IsAdvance x v) (sym here) (local_keeps w v p m q u a b e h i))
     running m u (calls c) e a b i =
-        at_call (Running m) a (b ∙ ap (λ x. Some x) (stays (Running m) u (c, e) i)) (ap (calls_in p) (effect_at (Some (Running m)) a ∙ ap (first_try w.kernel p m) e))
+        at_call (Running m) a (b ∙ ap (λ x. Some x) (stays (Running m) u (c, e) i)) (ap (calls_in p) (effect_at w p (Some (Running m)) a ∙ ap (first_try w.kernel p m) e))
 
     again : (m : Machine) (c : Call) (x : Answer) → GoesOn (retry m c x) → calls_in p (retry m c x) ≡ 1
     again m c Wait h = absurd h
     again m c (Done r) h = refl
 
-    by : (a b : Option Process) → slice_get w.processes p ≡ a → slice_get v.processes p ≡ b → Both IsAhead a b → HasAdvance (V (n + calls_in p (step_effect_in w p))) (step w p)
-    by None b a c i = absurd (subst GoesOn (effect_at None a) goes)
+    by : (a b : Option Process) → slice_get w.processes p ≡ a → slice_get v.processes p ≡ b → Both IsAhead a b → StaysOrSteps w v p
+    by None b a c i = absurd (subst GoesOn (effect_at w p None a) goes)
     by (Some s) None a b i = absurd i
     by (Some (Running m)) (Some u) a b i = running m u (next_action m) refl a b i
     by (Some (Waiting m c)) (Some u) a b i =
-        let is = effect_at (Some (Waiting m c)) a in
+        let is = effect_at w p (Some (Waiting m c)) a in
         at_call (Waiting m c) a (b ∙ ap (λ x. Some x) (stays (Waiting m c) u tt i)) (ap (calls_in p) is ∙ again m c (answer w.kernel p c).0 (subst GoesOn is goes))
-    by (Some (Ended e)) b a c i = absurd (subst GoesOn (effect_at (Some (Ended e)) a) goes)
+    by (Some (Ended e)) b a c i = absurd (subst GoesOn (effect_at w p (Some (Ended e)) a) goes)
+
+-- a step that goes on, from a world whose advance a level has
+goes_advance : (start : WorldState) (V : ℕ → WorldState → Type 0) → AreLevels start V → (n : ℕ) (w : WorldState) (p : ℕ) → IsConsistent w.kernel → GoesOn (step_effect_in w p) → HasAdvance (V n) w
+    → HasAdvance (V (n + calls_in p (step_effect_in w p))) (step w p)
+goes_advance start V levels n w p consistent goes has = elim (stays_or_steps w has.0 p consistent has.2 goes) [
+  | inl local ↦
+      let none : calls_in p (step_effect_in w p) ≡ 0 = ap (calls_in p) local.1 in
+      let number : n ≡ n + calls_in p (step_effect_in w p) = omega (arith, none) in
+      subst (λ k. HasAdvance (V k) (step w p)) number (has.0, has.1, local.2)
+  | inr call ↦
+      let next = levels.goes_on n has.0 p has.1 (subst GoesOn (sym call.1) goes) in
+      subst (λ k. HasAdvance (V (n + k)) (step w p)) (sym call.0) (next.0, next.1, call.2 next.0 next.2)
+]
 
 -- a level has the advance of the world, but for who waits; its number, and one for each process that waits, are k at most
 record IsWithin (V : ℕ → WorldState → Type 0) (w : WorldState) (k : ℕ) : Type 0 where

@@ -70,7 +70,7 @@ none_here k p (Ended e) asks h = h
 unwaiting_effect : (w : WorldState) (p : ℕ) (o : Option Process) → slice_get w.processes p ≡ o → step_effect_in (unwaiting w) p ≡ step_effect w.kernel p (option_map before_wait o)
 unwaiting_effect w p o a = ap (λ x. step_effect w.kernel p x) (unwaiting_at w p o a)
 
-effect_at : (w : WorldState) (p : ℕ) (o : Option Process) → slice_get w.processes p ≡ o → step_effect_in w p ≡ step_effect w.kernel p o
+pub effect_at : (w : WorldState) (p : ℕ) (o : Option Process) → slice_get w.processes p ≡ o → step_effect_in w p ≡ step_effect w.kernel p o
 effect_at w p o a = ap (λ x. step_effect w.kernel p x) a
 
 pub same_step : (w : WorldState) (p : ℕ) → AskAgain w → GoesOn (step_effect_in w p) → step_effect_in (unwaiting w) p ≡ step_effect_in w p

@@ -1,5 +1,5 @@
 //! Worlds that are compared.
-ghost use Rattle.std.specs.Prelude.{◌≡◌, IsTrue, IfOk, slice_get};
+ghost use Rattle.std.specs.Prelude.{◌≡◌, IsTrue, IfOk};
 ghost use Rattle.lab_sched.specs.Held.{process_view};
 ghost use Rattle.lab_sched.specs.Stepping.{before_wait};
 ghost use Rattle.lab_worlds.specs.Calls.{AreAlike};
@@ -20,16 +20,6 @@ pub fn copy_before_wait(alloc: Global, process: &Process) -> Result<Process, All
     })
 }
 
-fn is_same_in(world: &World, other: &World, pid: usize) -> bool
-    ensures same { IsTrue result
-        → slice_get other.now.processes pid ≡ slice_get world.now.processes pid }
-{
-    match (world.process(pid), other.process(pid)) {
-        (Some(process), Some(other)) => process.is_same(other),
-        _ => false,
-    }
-}
-
 /// Whether worlds have the same processes, over kernels that are alike.
 pub fn are_alike(world: &World, other: &World) -> bool
     ensures alike { IsTrue result → AreAlike world.now other.now }
@@ -38,7 +28,10 @@ pub fn are_alike(world: &World, other: &World) -> bool
         return false;
     }
     for pid in 0..world.count() {
-        if !is_same_in(world, other, pid) {
+        let (Some(one), Some(two)) = (world.process(pid), other.process(pid)) else {
+            return false;
+        };
+        if !one.is_same(two) {
             return false;
         }
     }

@@ -38,11 +38,6 @@ impl Gathering {
         }
     }
 
-    fn is_known(&self, walker: &RandomWalker, digest: u64) -> bool {
-        self.digests.iter().zip(&self.ends).any(|(known, end)| *known == digest
-            && walker.is_at(&end.world))
-    }
-
     fn add(
         &mut self,
         alloc: Global,
@@ -54,7 +49,9 @@ impl Gathering {
             → AreEnds (initial_world processes.now) self.new.ends.items }
     {
         let digest = walker.digest();
-        if self.is_known(walker, digest) {
+        if self.digests.iter().zip(&self.ends).any(|(known, end)| *known == digest
+            && walker.is_at(&end.world))
+        {
             return Ok(());
         }
         walker.finish()?;

@@ -1,8 +1,7 @@
 //! Random walks through the interleavings, in place of every one of them.
-ghost use Rattle.std.specs.Prelude.{◌≡◌, None, false, IfOk, OnOk};
+ghost use Rattle.std.specs.Prelude.{◌≡◌, None, false, IfOk};
 ghost use Rattle.lab_sched.specs.Starts.{AreStarts, initial_world};
 ghost use Rattle.lab_worlds.specs.Ends.{IsEnd, AreEnds};
-ghost use Rattle.lab_worlds.specs.Walked.{KeepsStart};
 
 use crate::ends::{End, end_of};
 use crate::exploration::Exploration;
@@ -21,17 +20,6 @@ pub struct Walks {
     pub seed: u32,
 }
 
-impl Walk {
-    fn go_along(&mut self, schedule: &Schedule) -> Result<(), ExploreFault>
-        ensures walk { OnOk result (KeepsStart self.old self.new) }
-    {
-        for block in schedule.blocks() {
-            self.go_on(block.pid, block.count)?;
-        }
-        Ok(())
-    }
-}
-
 pub(crate) fn end_along(
     alloc: Global,
     processes: &[Process],
@@ -41,7 +29,9 @@ pub(crate) fn end_along(
     ensures end { IfOk result (λ e. IsEnd (initial_world processes.now) e) }
 {
     let mut walk = Walk::start(alloc, processes)?;
-    walk.go_along(schedule)?;
+    for block in schedule.blocks() {
+        walk.go_on(block.pid, block.count)?;
+    }
     end_of(walk)
 }
 
@@ -71,23 +61,13 @@ pub fn walk_randomly<O: Observer>(
         Err(ExploreFault::NoMemory) => true,
         Err(fault) => return Err(fault),
     };
-    Ok(gathering.found(alloc, refused))
-}
-
-impl Gathering {
-    fn found(self, alloc: Global, refused: bool) -> Exploration
-        ensures ends { result.ends ≡ self.ends }
-        ensures open { result.complete ≡ false }
-        ensures none { result.lasso ≡ None }
-    {
-        Exploration {
-            ends: self.ends,
-            reached: Vec::new(alloc),
-            lasso: None,
-            fair: false,
-            worlds: self.begun,
-            complete: false,
-            refused,
-        }
-    }
+    Ok(Exploration {
+        ends: gathering.ends,
+        reached: Vec::new(alloc),
+        lasso: None,
+        fair: false,
+        worlds: gathering.begun,
+        complete: false,
+        refused,
+    })
 }

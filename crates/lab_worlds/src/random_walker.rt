@@ -22,14 +22,6 @@ pub struct RandomWalker {
     pub schedule: Schedule,
 }
 
-fn has_step(process: &Process, kernel: &Kernel, pid: usize) -> bool {
-    match process {
-        Process::Running(_) => true,
-        Process::Waiting(_, call) => pid < kernel.count() && kernel.can_go(pid, call),
-        Process::Ended(_) => false,
-    }
-}
-
 /// Takes the local steps of a process that runs, up to its next call; with how many, if it may take
 /// so many.
 fn come_to_call(
@@ -81,7 +73,14 @@ impl RandomWalker {
     fn movable(&self, alloc: Global) -> Result<Vec<usize>, AllocError> {
         let mut movable = Vec::new(alloc);
         for (pid, process) in self.processes.iter().enumerate() {
-            if has_step(process, &self.kernel, pid) {
+            let has_step = match process {
+                Process::Running(_) => true,
+                Process::Waiting(_, call) => {
+                    pid < self.kernel.count() && self.kernel.can_go(pid, call)
+                }
+                Process::Ended(_) => false,
+            };
+            if has_step {
                 movable.push(pid)?;
             }
         }

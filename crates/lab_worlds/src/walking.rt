@@ -37,15 +37,6 @@ pub(crate) fn copies(alloc: Global, processes: &[Process]) -> Result<Vec<Process
     Ok(copies)
 }
 
-fn world_of(alloc: Global, processes: &[Process]) -> Result<World, ExploreFault>
-    requires starts { AreStarts processes.now }
-    ensures world { IfOk result (λ w. w ≡ initial_world processes.now) }
-{
-    let kernel = Kernel::new(alloc, processes.len())?;
-    let copies = copies(alloc, processes)?;
-    Ok(World::join(copies, kernel))
-}
-
 fn changes(stepped: &Stepped) -> bool
     ensures effective { IsTrue result → stepped.now ≡ Same → ⊥ }
     ensures same { result ≡ false → stepped.now ≡ Same }
@@ -81,7 +72,9 @@ impl Walk {
         requires starts { AreStarts processes.now }
         ensures walk { IfOk result (λ w. IsWalk (initial_world processes.now) w) }
     {
-        Ok(Walk::at(alloc, world_of(alloc, processes)?))
+        let kernel = Kernel::new(alloc, processes.len())?;
+        let copies = copies(alloc, processes)?;
+        Ok(Walk::at(alloc, World::join(copies, kernel)))
     }
 
     /// Takes a step, which must be effective; with what is told of it.
@@ -235,10 +228,6 @@ impl Walk {
         Ok(())
     }
 
-    fn has_ended(&self, pid: usize) -> bool {
-        matches!(self.world.process(pid), Some(Process::Ended(_)))
-    }
-
     /// Takes the steps that are left of each process, and behind them the one by which it begins to wait,
     /// if it hasn't ended.
     pub fn go_to_rest(&mut self, local: &[u32]) -> Result<(), ExploreFault>
@@ -246,7 +235,7 @@ impl Walk {
     {
         for (pid, count) in local.iter().enumerate() {
             self.go_on(pid, *count)?;
-            if !self.has_ended(pid) {
+            if !matches!(self.world.process(pid), Some(Process::Ended(_))) {
                 self.go(pid)?;
             }
         }

@@ -1,5 +1,5 @@
 use Rattle.lab_worlds.proofs.Beginnings.{copies_world}
-use Rattle.lab_worlds.proofs.walking.world_of.Goals as goal
+use Rattle.lab_worlds.proofs.walking.Walk.start.Goals as goal
 
 pub join-requires : goal.join-requires
 join-requires c = record {
