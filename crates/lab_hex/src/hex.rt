@@ -1,6 +1,5 @@
 //! Hexadecimal words as text.
-ghost use Rattle.std.specs.Prelude.{◌≡◌, ◌≢◌, ◌≤◌, Ok, Err, length, map, IfOk, IfErr};
-ghost use Rattle.lc3_word.specs.Numbers.{unsigned_number};
+ghost use Rattle.std.specs.Prelude.{◌≡◌, ◌≢◌, Ok, Err, map, IfOk, IfErr};
 ghost use Rattle.lab_hex.specs.Hex.{digits_of, number_of, numbers_of, segment_of, image_of};
 
 use crate::fault::CliFault;
@@ -39,16 +38,8 @@ fn read_numbers(alloc: Global, words: &[&[u8]]) -> Result<Vec<u16>, CliFault>
     Ok(numbers)
 }
 
-#[tactic(auto, using(crate::proofs::HexLemmas::short_number))]
-fn short_number(digits: &[u8]) -> Option<u16>
-    requires short { length digits.now ≤ 4 }
-    ensures value { result ≡ unsigned_number 16 digits.now }
-{
-    let number = unsigned(16, digits)?;
-    Some(number as u16)
-}
-
 /// The number of one to four hexadecimal digits after an optional `x`.
+#[tactic(auto, using(crate::proofs::HexLemmas::short_number))]
 fn read_number(word: &[u8]) -> Option<u16>
     ensures value { result ≡ number_of word.now }
 {
@@ -56,7 +47,8 @@ fn read_number(word: &[u8]) -> Option<u16>
     if digits.len() > 4 {
         return None;
     }
-    short_number(digits)
+    let number = unsigned(16, digits)?;
+    Some(number as u16)
 }
 
 fn after_mark(word: &[u8]) -> &[u8]
