@@ -3,30 +3,29 @@ use Rattle.std.proofs.Common.{◌≡◌, ℕ, zero, suc, ◌+◌, ◌<◌, Bool,
 use Rattle.std.specs.Prelude.{bytes_eq, string_bytes, String, cond}
 use Rattle.std.specs.List.{list_any}
 use Rattle.std.specs.HashSet.{HashSet, contains_text}
-use Rattle.std.proofs.lemmas.List.{take_more, map-append}
-use Rattle.std.proofs.lemmas.List.Folds.{list_any_none, list_any-append}
+use Rattle.std.proofs.Math.Bool.{or-true, or-false}
+use Rattle.std.proofs.lemmas.List.Folds.{list_any_none, list_any_more}
 use Rattle.std.proofs.lemmas.Slice.Eq.{bytes_eq-Decides}
 use Rattle.lc3_spelling.specs.Edits.{near_edits, IsNearest}
 use Rattle.lc3_warnings.specs.Labels.{bare_operations, is_near}
 use Rattle.lc3_warnings.specs.Private.Names.{is_among}
 
-or-false : (a : Bool) → (a || false) ≡ a
-or-false true = refl
-or-false false = refl
+-- whether something is found among what is shown of elements
+pub list_any_map : {X Y : Type 0} (p : Y → Bool) (f : X → Y) (xs : List X) → list_any p (map f xs) ≡ list_any (λ x. p (f x)) xs
+list_any_map p f [] = refl
+list_any_map p f (x ∷ xs) = ap (λ b. p (f x) || b) (list_any_map p f xs)
 
 -- one element more in which something may be found
 pub any-more : {X Y : Type 0} (p : Y → Bool) (f : X → Y) (xs : List X) (i : ℕ) (d x : X) → i < length xs → x ≡ get_or xs i d
     → list_any p (map f (take (i + 1) xs)) ≡ (list_any p (map f (take i xs)) || p (f x))
 any-more p f xs i d x h is =
-    ap (λ ys. list_any p (map f ys)) (take_more xs i d h ∙ ap (λ y. take i xs ++ y ∷ []) (sym is))
-    ∙ ap (list_any p) (map-append f (take i xs) (x ∷ []))
-    ∙ list_any-append p (map f (take i xs)) (f x ∷ [])
-    ∙ ap (λ b. list_any p (map f (take i xs)) || b) (or-false (p (f x)))
+    list_any_map p f (take (i + 1) xs) ∙ list_any_more (λ y. p (f y)) xs i d h
+    ∙ ap (λ b. b || p (f (get_or xs i d))) (sym (list_any_map p f (take i xs)))
+    ∙ ap (λ y. list_any p (map f (take i xs)) || p (f y)) (sym is)
 
 -- what labels contain, by the words that are kept
 pub among-kept : {Z : Type 0} (name : List ℕ) (ks : List (String Z)) → list_any (λ k. bytes_eq name (string_bytes k)) ks ≡ is_among (map string_bytes ks) name
-among-kept name [] = refl
-among-kept name (k ∷ ks) = ap (λ b. bytes_eq name (string_bytes k) || b) (among-kept name ks)
+among-kept name ks = sym (list_any_map (bytes_eq name) string_bytes ks)
 
 bytes_eq-sym : (a b : List ℕ) (x y : Bool) → bytes_eq a b ≡ x → bytes_eq b a ≡ y → x ≡ y
 bytes_eq-sym a b true true h k = refl
@@ -35,10 +34,8 @@ bytes_eq-sym a b true false h k = sym ((bytes_eq-Decides b a).1 (sym ((bytes_eq-
 bytes_eq-sym a b false true h k = sym h ∙ (bytes_eq-Decides a b).1 (sym ((bytes_eq-Decides b a).0 k))
 
 cond-or : (a b : Bool) → cond a true b ≡ (b || a)
-cond-or true true = refl
-cond-or true false = refl
-cond-or false true = refl
-cond-or false false = refl
+cond-or true b = sym (or-true b)
+cond-or false b = sym (or-false b)
 
 -- what labels contain with one more
 pub among-more : {Z S : Type 0} (name word : List ℕ) (old new : HashSet (String Z) S) → contains_text new word ≡ cond (bytes_eq name word) true (contains_text old word)
@@ -51,16 +48,10 @@ among-more name word old new e =
 some_any : {X : Type 0} (t : X → List ℕ) (w : List ℕ) (names : List X) (i least : ℕ) → option_map (λ n. near_edits w (t n)) (slice_get names i) ≡ Some (Some least)
     → list_any (λ n. is_some (near_edits w (t n))) names ≡ true
 some_any t w [] i least e = absurd (cc)
-some_any t w (n ∷ names) zero least e = by_first (near_edits w (t n)) (list_any (λ m. is_some (near_edits w (t m))) names) e
-  where
-    by_first : (o : Option ℕ) (b : Bool) → Some o ≡ Some (Some least) → (is_some o || b) ≡ true
-    by_first None b h = absurd (cc)
-    by_first (Some x) b h = refl
+some_any t w (n ∷ names) zero least e =
+    let near : near_edits w (t n) ≡ Some least = cc e in
+    ap (λ o. is_some o || list_any (λ m. is_some (near_edits w (t m))) names) near
 some_any t w (n ∷ names) (suc i) least e = ap (λ b. is_some (near_edits w (t n)) || b) (some_any t w names i least e) ∙ or-true (is_some (near_edits w (t n)))
-  where
-    or-true : (a : Bool) → (a || true) ≡ true
-    or-true true = refl
-    or-true false = refl
 
 -- whether a nearest name is found, by the names
 pub near_any : {X : Type 0} (t : X → List ℕ) (w : List ℕ) (names : List X) (found : Option ℕ) → IsNearest t w names found

@@ -1,4 +1,3 @@
 -- Definitions that only contracts inside the crate cite.
 pub mod Names
-pub mod Parts
 pub mod Settings

@@ -1,5 +1,5 @@
 -- The names and the texts of warnings.
-use Rattle.std.specs.Prelude.{ℕ, ℤ, List, ◌++◌, codes}
+use Rattle.std.specs.Prelude.{ℕ, List, ◌++◌, codes}
 use Rattle.std.specs.Fmt.{decimal}
 use Rattle.lc3_word.specs.Words.{number_text, hexadecimal_text}
 use Rattle.lc3_table.specs.declared.operation.Form.{Form}
@@ -30,73 +30,23 @@ field_text form.Target = codes "a number from -256 to 255"
 field_text form.FarTarget = codes "a number from -1,024 to 1,023"
 field_text f = codes "a number"
 
--- a word that is taken as a number
-unfoldable pub taken_text : List ℕ → ℤ → List ℕ
-taken_text word value = word ++ codes " is taken as " ++ number_text value
-
--- the numbers that stand here
-unfoldable pub here_text : List ℕ → List ℕ
-here_text field = codes "; here stands " ++ field
-
--- a word that is taken as a number, where these numbers stand
-unfoldable pub wraps_text : List ℕ → ℤ → List ℕ → List ℕ
-wraps_text word value field = taken_text word value ++ here_text field
-
--- execution that goes on into data
-abbrev pub into_data_text : ℕ → List ℕ
-into_data_text n = codes "execution goes on into the data of line " ++ decimal n ++ codes "; is a HALT missing?"
-
--- lines behind `.END`
-abbrev pub after_end_text : ℕ → List ℕ
-after_end_text n = codes "nothing behind the .END of line " ++ decimal n ++ codes " is read"
-
--- a word that is read as a label and was meant as an operation
-unfoldable pub misspelt_text : List ℕ → List ℕ
-misspelt_text word = word ++ codes " is read as a label"
-
--- a label that no line names
-unfoldable pub unused_text : List ℕ → List ℕ
-unused_text word = codes "no line names the label " ++ word
-
--- an operation in a line that has written R7
-unfoldable pub lost_text : List ℕ → ℕ → List ℕ
-lost_text word n = word ++ codes " in line " ++ decimal n ++ codes " has written R7, so this goes back behind it; store R7 before it and load it again"
-
--- an address as it is shown
-unfoldable pub address_text : ℕ → List ℕ
-address_text n = hexadecimal_text n
-
--- a decimal number that is an address
-unfoldable pub names_text : List ℕ → List ℕ
-names_text word = word ++ codes " is decimal, the address "
-
--- the same digits in hexadecimal
-unfoldable pub meant_text : ℕ → List ℕ
-meant_text n = codes "; did you mean x" ++ decimal n ++ codes "?"
-
--- a decimal number that was meant in hexadecimal
-unfoldable pub decimal_text : List ℕ → ℕ → List ℕ
-decimal_text word n = names_text word ++ address_text n ++ meant_text n
-
--- an operation in a line that has left the codes as they were
-unfoldable pub stale_text : List ℕ → ℕ → List ℕ
-stale_text word n = word ++ codes " in line " ++ decimal n ++ codes " sets no condition codes, so this reads those from before it; ADD R0,R0,#0 between them sets them by R0"
-
--- an operation before a line that prints a string
-unfoldable pub loaded_text : List ℕ → ℕ → List ℕ
-loaded_text word n = word ++ codes " loads a word into R0, and line " ++ decimal n ++ codes " prints the string at the address in R0; LEA loads the address of a string"
-
 -- the text of a warning about a word
 abbrev pub warning_text : Kind → List ℕ → List ℕ
-warning_text (kind.Wraps f value) word = wraps_text word value (field_text f)
+warning_text (kind.Wraps f value) word = word ++ codes " is taken as " ++ number_text value ++ codes "; here stands " ++ field_text f
 warning_text kind.UnknownTrap word = codes "this trap ends the process as badtrap; the traps are x20 to x25, x40 to x46 and x50 to x56"
-warning_text (kind.DecimalOrigin n) word = decimal_text word n
-warning_text kind.Misspelt word = misspelt_text word
-warning_text kind.UnusedLabel word = unused_text word
+warning_text (kind.DecimalOrigin n) word =
+    word ++ codes " is decimal, the address " ++ hexadecimal_text n ++ codes "; did you mean x" ++ decimal n ++ codes "?"
+warning_text kind.Misspelt word = word ++ codes " is read as a label"
+warning_text kind.UnusedLabel word = codes "no line names the label " ++ word
 warning_text kind.StartsInData word = codes "execution begins here, and this is data"
-warning_text (kind.RunsIntoData n) word = into_data_text n
+warning_text (kind.RunsIntoData n) word = codes "execution goes on into the data of line " ++ decimal n ++ codes "; is a HALT missing?"
 warning_text kind.RunsPastEnd word = codes "execution goes on behind this last word; is a HALT missing?"
-warning_text (kind.LostReturn n) word = lost_text word n
-warning_text (kind.StaleCodes n) word = stale_text word n
-warning_text (kind.LoadedString n) word = loaded_text word n
-warning_text (kind.AfterEnd n) word = after_end_text n
+warning_text (kind.LostReturn n) word =
+    word ++ codes " in line " ++ decimal n ++ codes " has written R7, so this goes back behind it; store R7 before it and load it again"
+warning_text (kind.StaleCodes n) word =
+    word ++ codes " in line " ++ decimal n
+    ++ codes " sets no condition codes, so this reads those from before it; ADD R0,R0,#0 between them sets them by R0"
+warning_text (kind.LoadedString n) word =
+    word ++ codes " loads a word into R0, and line " ++ decimal n
+    ++ codes " prints the string at the address in R0; LEA loads the address of a string"
+warning_text (kind.AfterEnd n) word = codes "nothing behind the .END of line " ++ decimal n ++ codes " is read"

@@ -20,10 +20,7 @@ pub struct Around {
 pub fn starts_in_data(around: Around) -> Option<Kind>
     ensures value { result ≡ starts_in_data around }
 {
-    match (around.previous, around.here) {
-        (None, Some(Flow::Data)) => Some(Kind::StartsInData),
-        _ => None,
-    }
+    matches!((around.previous, around.here), (None, Some(Flow::Data))).then_some(Kind::StartsInData)
 }
 
 /// Whether execution goes on behind this line into data.
@@ -31,16 +28,9 @@ pub fn runs_into_data(around: Around) -> Option<Kind>
     ensures value { result ≡ runs_into_data around }
 {
     match (around.here, around.next) {
-        (
-            Some(Flow::GoesOn),
-            Some(
-                Next {
-                    line,
-                    flow: Flow::Data,
-                    ..
-                },
-            ),
-        ) => Some(Kind::RunsIntoData { next: line }),
+        (Some(Flow::GoesOn), Some(next)) if matches!(next.flow, Flow::Data) => {
+            Some(Kind::RunsIntoData { next: next.line })
+        }
         _ => None,
     }
 }
@@ -49,8 +39,5 @@ pub fn runs_into_data(around: Around) -> Option<Kind>
 pub fn runs_past_end(around: Around) -> Option<Kind>
     ensures value { result ≡ runs_past_end around }
 {
-    match (around.here, around.next) {
-        (Some(Flow::GoesOn), None) => Some(Kind::RunsPastEnd),
-        _ => None,
-    }
+    matches!((around.here, around.next), (Some(Flow::GoesOn), None)).then_some(Kind::RunsPastEnd)
 }

@@ -31,10 +31,7 @@ pub struct Next {
 pub fn is_call(vector: i64) -> bool
     ensures value { result ≡ is_call vector }
 {
-    match u8::try_from(vector) {
-        Ok(vector) => is_kernel_vector(vector),
-        Err(_) => false,
-    }
+    u8::try_from(vector).is_ok_and(|vector| is_kernel_vector(vector))
 }
 
 pub fn is_known_trap(vector: i64) -> bool

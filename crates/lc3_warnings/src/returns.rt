@@ -15,10 +15,7 @@ use lc3_table::{Operation, Profile};
 fn is_r7(operand: &Operand) -> bool
     ensures value { result ≡ is_r7 (seen_operand operand.now) }
 {
-    match operand {
-        Operand::Register(register) => register.number() == 7,
-        _ => false,
-    }
+    matches!(operand, Operand::Register(register) if register.number() == 7)
 }
 
 fn any_r7(operands: &[Operand]) -> bool
@@ -35,10 +32,7 @@ fn any_r7(operands: &[Operand]) -> bool
 fn has_r7(line: &Line) -> bool
     ensures value { result ≡ has_r7 (seen_line line.now) }
 {
-    match line {
-        Line::Operates { operands, .. } => any_r7(operands),
-        _ => false,
-    }
+    matches!(line, Line::Operates { operands, .. } if any_r7(operands))
 }
 
 /// Whether an operation puts the address behind it into R7.
@@ -60,10 +54,7 @@ fn writes_r7(profile: Profile, operation: Operation) -> bool
 fn line_writes_r7(profile: Profile, line: &Line) -> bool
     ensures value { result ≡ line_writes_r7 profile (seen_line line.now) }
 {
-    match line {
-        Line::Operates { operation, .. } => writes_r7(profile, *operation),
-        _ => false,
-    }
+    matches!(line, Line::Operates { operation, .. } if writes_r7(profile, *operation))
 }
 
 fn ends_subroutine(line: &Line) -> bool
