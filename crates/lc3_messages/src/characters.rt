@@ -35,17 +35,6 @@ impl fmt::Display for Excerpt<'_> {
     }
 }
 
-/// A character by its number, as `U+00E9`.
-#[derive(Clone, Copy)]
-pub(crate) struct Number(pub char);
-
-impl fmt::Display for Number {
-    fn fmt<W: fmt::Write>(&self, f: &mut fmt::Formatter<W>) -> fmt::Result {
-        let number = u32::from(self.0);
-        write!(f, "U+{number:04X}")
-    }
-}
-
 /// A number with commas at the thousands; it is less than a million in magnitude.
 #[derive(Clone, Copy)]
 pub(crate) struct Grouped(pub i64);

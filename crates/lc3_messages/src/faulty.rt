@@ -1,6 +1,6 @@
 //! Which token of a line has its fault.
 use crate::parts::{Part, operation_number};
-use lc3_asm::{LineError, Operand, Token, fault_in, token_operand, token_operation};
+use lc3_asm::{LineError, Operand, fault_in, token_operand, token_operation};
 use lc3_table::{Fault, Form};
 use std::alloc::{AllocError, Global};
 
@@ -10,16 +10,6 @@ use std::alloc::{AllocError, Global};
 pub(crate) struct Faulty {
     pub number: usize,
     pub forms: &'static [Form],
-}
-
-/// Whether an operand of this form is one to which such a fault belongs.
-fn has_fault(alloc: Global, form: Form, token: Token<'_>, kind: Fault) -> Result<bool, AllocError> {
-    match token_operand(alloc, form, token) {
-        Ok(Operand::Label(_)) => Ok(matches!(kind, Fault::Undefined | Fault::OffsetRange)),
-        Ok(_) => Ok(false),
-        Err(LineError::Fault(found)) => Ok(found == kind),
-        Err(LineError::Memory) => Err(AllocError),
-    }
 }
 
 /// The leftmost operand with such a fault, or where there are too few or too many the operation.
@@ -33,7 +23,13 @@ fn faulty_operand(alloc: Global, parts: &[Part<'_>], kind: Fault) -> Result<Faul
     let operands = parts.get(first..).unwrap_or(&[]);
     if forms.len() == operands.len() {
         for (i, part) in operands.iter().enumerate() {
-            if has_fault(alloc, forms[i], part.token, kind)? {
+            let has_fault = match token_operand(alloc, forms[i], part.token) {
+                Ok(Operand::Label(_)) => matches!(kind, Fault::Undefined | Fault::OffsetRange),
+                Ok(_) => false,
+                Err(LineError::Fault(found)) => found == kind,
+                Err(LineError::Memory) => return Err(AllocError),
+            };
+            if has_fault {
                 return Ok(Faulty {
                     number: first.saturating_add(i),
                     forms: &forms[i..i + 1],

@@ -1,5 +1,5 @@
 //! The labels of a text: those that its lines define, those that faulty lines mean, and those behind its `.END`.
-use crate::words::{name_meant, upper};
+use crate::words::upper;
 use indexmap::IndexMap;
 use lc3_asm::{
     LineFault, Reader, Token, first_token, is_label, printable, token_operation, without_colon,
@@ -7,67 +7,41 @@ use lc3_asm::{
 use lc3_table::{Fault, Operation};
 use std::alloc::{AllocError, Global};
 
-/// The labels of a text in upper case, each with the number of its line, from 1.
+/// Labels in upper case, each with the number of a line, from 1.
+pub(crate) type LabelLines = IndexMap<String, usize>;
+
+/// The labels of a text.
 #[derive(Drop)]
 pub(crate) struct Labels {
     /// The lines that define them, in their order.
-    pub definitions: IndexMap<String, usize>,
+    pub definitions: LabelLines,
     /// Faulty lines that may define them.
-    pub meant: IndexMap<String, usize>,
+    pub meant: LabelLines,
     /// The first lines behind `.END` that begin with them.
-    pub behind: IndexMap<String, usize>,
+    pub behind: LabelLines,
 }
 
-impl Labels {
-    /// The first of the nearest names that lines define to a word, if one is near.
-    pub fn name_meant(&self, alloc: Global, word: &str) -> Result<Option<&str>, AllocError> {
-        let names: Vec<&str> = self
-            .definitions
-            .keys()
-            .map(|name| name.as_str())
-            .collect(alloc)?;
-        name_meant(alloc, word, &names)
-    }
+/// The line of a label, in small or capital letters.
+pub(crate) fn line_of(
+    alloc: Global,
+    labels: &LabelLines,
+    name: &str,
+) -> Result<Option<usize>, AllocError> {
+    let name = upper(alloc, name.as_bytes())?;
+    Ok(labels.get(name.as_str()).copied())
 }
 
-/// Adds a label, unless it is there.
+/// Adds a name, if it is a label and isn't there.
 fn define(
     alloc: Global,
-    labels: &mut IndexMap<String, usize>,
+    labels: &mut LabelLines,
     name: &[u8],
     line: usize,
 ) -> Result<(), AllocError> {
-    labels.entry(upper(alloc, name)?)?.or_insert(line);
-    Ok(())
-}
-
-/// Adds the label with which a line begins.
-fn define_first(
-    alloc: Global,
-    labels: &mut IndexMap<String, usize>,
-    bytes: &[u8],
-    line: usize,
-) -> Result<(), AllocError> {
-    match first_token(bytes) {
-        Some((Token::Word(word), _)) if is_label(without_colon(word)) => {
-            define(alloc, labels, without_colon(word), line)
-        }
-        _ => Ok(()),
+    if is_label(name) {
+        labels.entry(upper(alloc, name)?)?.or_insert(line);
     }
-}
-
-fn begins_with_operation(bytes: &[u8]) -> bool {
-    let operation = first_token(bytes).and_then(|(token, _)| token_operation(token));
-    !matches!(operation, None | Some(Operation::Origin))
-}
-
-/// The letters, digits and `_` at the front of a word.
-fn label_front(word: &[u8]) -> &[u8] {
-    let length = word
-        .iter()
-        .take_while(|byte| byte.is_ascii_alphanumeric() || **byte == b'_')
-        .count();
-    word.get(..length).unwrap_or(&[])
+    Ok(())
 }
 
 /// Adds the label with which a line begins that is faulty for another reason.
@@ -82,14 +56,20 @@ fn define_faulty(
         return Ok(());
     };
     let name = without_colon(first);
-    if is_label(name) && begins_with_operation(rest) {
+    let operation = first_token(rest).and_then(|(token, _)| token_operation(token));
+    if is_label(name) && !matches!(operation, None | Some(Operation::Origin)) {
         return define(alloc, &mut labels.definitions, name, line);
     }
-    let front = label_front(first);
-    if is_label(front) {
-        define(alloc, &mut labels.meant, front, line)?;
-    }
-    Ok(())
+    let length = first
+        .iter()
+        .take_while(|byte| byte.is_ascii_alphanumeric() || **byte == b'_')
+        .count();
+    define(
+        alloc,
+        &mut labels.meant,
+        first.get(..length).unwrap_or(&[]),
+        line,
+    )
 }
 
 /// The fault of reading that a line has, from 1.
@@ -111,15 +91,17 @@ pub(crate) fn labels_of(
     for (i, line) in lines.iter().enumerate() {
         let number = i.saturating_add(1);
         let bytes = line.as_bytes();
-        match fault_at(reader.faults(), number) {
-            _ if reader.lines().len() <= i => {
-                define_first(alloc, &mut labels.behind, bytes, number)
+        let begun = match fault_at(reader.faults(), number) {
+            _ if reader.lines().len() <= i => &mut labels.behind,
+            None | Some(Fault::DuplicateLabel) => &mut labels.definitions,
+            Some(_) => {
+                define_faulty(alloc, &mut labels, bytes, number)?;
+                continue;
             }
-            None | Some(Fault::DuplicateLabel) => {
-                define_first(alloc, &mut labels.definitions, bytes, number)
-            }
-            Some(_) => define_faulty(alloc, &mut labels, bytes, number),
-        }?;
+        };
+        if let Some((Token::Word(word), _)) = first_token(bytes) {
+            define(alloc, begun, without_colon(word), number)?;
+        }
     }
     Ok(labels)
 }

@@ -4,7 +4,6 @@
 mod characters;
 mod faulty;
 mod labels;
-mod lines;
 mod message;
 mod operands;
 mod operations;
@@ -12,6 +11,7 @@ mod parts;
 mod plain;
 mod references;
 mod report;
+mod source;
 mod strings;
 mod texts;
 mod told;

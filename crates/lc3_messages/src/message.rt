@@ -1,95 +1,77 @@
-//! A message and its place.
-ghost use Rattle.std.specs.Prelude.{◌≡◌, ◌<◌, ◌≤◌, IfSome, length};
+//! A message as it is written.
+ghost use Rattle.std.specs.Prelude.{◌<◌, ◌≤◌, length};
 
-use lc3_table::Fault;
+use crate::characters::picture;
+use crate::parts::{Remark, Span};
+use crate::told::{Finding, What};
 use std::fmt;
+use std::fmt::Write;
 
-/// A part of a line that isn't empty, by the places of its bytes.
+/// The most characters of a line that is written below its message.
+const LENGTH: usize = 200;
+
+/// A line as it is shown, and below it a `^` for each character of a part that isn't empty.
 #[derive(Clone, Copy)]
-pub(crate) struct Span {
-    /// The place of its first byte in the line, from 0.
-    pub start: usize,
-    /// The place behind its last byte.
-    pub end: usize,
+struct Marked<'a> {
+    line: &'a str,
+    mark: Span,
+    ghost within: { (mark.start < mark.end) × (mark.end ≤ length line.now) },
 }
 
-impl Span {
-    /// What stands there in a line.
-    pub fn text_in(self, line: &str) -> &str {
-        line.get(self.start..self.end).unwrap_or("")
-    }
-}
-
-/// What a message is about.
-#[derive(Clone, Copy)]
-pub(crate) enum Kind {
-    /// A fault, for which the source is refused.
-    Fault(Fault),
-    /// Bytes that are no text.
-    NotUtf8,
-    /// A warning, by its name.
-    Warning(&'static str),
-}
-
-impl Kind {
-    /// What it is called: an error, where the source is refused for it.
-    pub fn sort(self) -> &'static str {
-        match self {
-            Kind::Warning(_) => "warning",
-            _ => "error",
-        }
-    }
-}
-
-impl fmt::Display for Kind {
+impl fmt::Display for Marked<'_> {
     fn fmt<W: fmt::Write>(&self, f: &mut fmt::Formatter<W>) -> fmt::Result {
-        match *self {
-            Kind::Fault(fault) => write!(f, "{fault:?}"),
-            Kind::NotUtf8 => write!(f, "NotUtf8"),
-            Kind::Warning(name) => write!(f, "{name}"),
+        let Span { start, end } = self.mark;
+        for character in self.line.chars() {
+            f.write_char(picture(character))?;
         }
+        f.write_char('\n')?;
+        for character in self.line.get(..start).unwrap_or("").chars() {
+            f.write_char(if character == '\t' { '\t' } else { ' ' })?;
+        }
+        for _ in self.line.get(start..end).unwrap_or("").chars() {
+            f.write_char('^')?;
+        }
+        f.write_char('\n')
     }
 }
 
-/// What is said of a place in a line.
-#[derive(Drop)]
-pub(crate) struct Remark {
-    /// What it is about, if there is a part to mark.
-    pub mark: Option<Span>,
-    pub text: String,
+/// What is said of a finding in this file and this line.
+#[derive(Clone, Copy)]
+pub(crate) struct Message<'a> {
+    pub file: &'a str,
+    pub line: &'a str,
+    pub finding: Finding,
+    pub remark: &'a Remark,
 }
 
-/// What is said of a place of a source.
-#[derive(Drop)]
-pub(crate) struct Message {
-    /// The line, from 1.
-    pub line: usize,
-    /// The place of its first character in the line, from 1, in characters.
-    pub column: usize,
-    /// What of the line it is about, if there is a part to mark.
-    pub mark: Option<Span>,
-    pub kind: Kind,
-    pub text: String,
-}
-
-/// The message about a place of the line with this number, from 1. What is marked lies within the line.
-pub(crate) fn message_on(line: &str, number: usize, kind: Kind, remark: Remark) -> Message
-    ensures line { result.line ≡ number }
-    ensures kind { result.kind ≡ kind }
-    ensures mark { IfSome result.mark
-        (λ span. (span.start < span.end) × (span.end ≤ length line.now)) }
-{
-    let mark = match remark.mark {
-        Some(mark) if mark.start < mark.end && mark.end <= line.len() => Some(mark),
-        _ => None,
-    };
-    let start = mark.map_or(0, |mark| mark.start);
-    let before = line.get(..start).unwrap_or("").chars().count();
-    Message {
-        line: number,
-        column: before.saturating_add(1),
-        mark,
-        kind,
-        text: remark.text,
+impl fmt::Display for Message<'_> {
+    fn fmt<W: fmt::Write>(&self, f: &mut fmt::Formatter<W>) -> fmt::Result {
+        let (file, line, number, mark) = (
+            self.file,
+            self.line,
+            self.finding.line,
+            self.remark.mark,
+        );
+        let before = line.get(..mark.start).unwrap_or("").chars().count();
+        let column = before.saturating_add(1);
+        let text = self.remark.text.as_str();
+        match self.finding.what {
+            What::Fault(fault) => write!(
+                f,
+                "{file}:{number}:{column}: error: {text} [{fault:?}]\n"
+            ),
+            What::Warning(kind) => {
+                write!(
+                    f,
+                    "{file}:{number}:{column}: warning: {text} [{}]\n",
+                    kind.name()
+                )
+            }
+        }?;
+        let is_short = line.chars().nth(LENGTH).is_none();
+        if is_short && mark.start < mark.end && mark.end <= line.len() {
+            write!(f, "{}", Marked { line, mark })?;
+        }
+        Ok(())
     }
 }

@@ -1,7 +1,7 @@
 //! Operands that can't stand where they do.
 use crate::characters::Excerpt;
 use crate::parts::operation_number;
-use crate::texts::Place;
+use crate::source::Place;
 use crate::words::{NO_LABEL_BUT_OPERATION, is_operation, is_register, number_meant, said_of};
 use lc3_asm::is_label;
 use lc3_table::Form;
@@ -38,27 +38,22 @@ impl fmt::Display for Count {
 }
 
 /// What an operation takes, and how many operands stand here.
-fn counts_text(
-    alloc: Global,
-    word: &str,
-    taken: usize,
-    given: usize,
-) -> Result<String, AllocError> {
-    let (shown, takes, stand) = (Excerpt(word), Count(taken, "no"), Count(given, "none"));
-    let s = if taken == 1 { "" } else { "s" };
-    let are = if given > 1 { "are" } else { "is" };
-    format!(in alloc; "{shown} takes {takes} operand{s}, here {are} {stand}")
-}
-
-fn other_count(alloc: Global, place: Place<'_>) -> Result<String, AllocError> {
+fn other_count(place: Place<'_>) -> Result<String, AllocError> {
     let word = place.part.word;
     let second = place.parts.get(1);
     if place.at == 0 && second.is_some_and(|second| second.is_operation()) {
-        return said_of(alloc, word, NO_LABEL_BUT_OPERATION);
+        return said_of(place.source.alloc, word, NO_LABEL_BUT_OPERATION);
     }
     let taken = place.forms.len();
     let given = place.parts.len().saturating_sub(place.at.saturating_add(1));
-    let mut text = counts_text(alloc, word, taken, given)?;
+    let s = if taken == 1 { "" } else { "s" };
+    let are = if given > 1 { "are" } else { "is" };
+    let mut text = format!(in place.source.alloc;
+        "{} takes {} operand{s}, here {are} {}",
+        Excerpt(word),
+        Count(taken, "no"),
+        Count(given, "none")
+    )?;
     for (i, form) in place.forms.iter().enumerate() {
         text.push_str(if i == 0 { ": " } else { "; " })?;
         text.push_str(form_text(*form))?;
@@ -70,14 +65,16 @@ fn other_count(alloc: Global, place: Place<'_>) -> Result<String, AllocError> {
 }
 
 fn misplaced(alloc: Global, word: &str, said: &str, form: Form) -> Result<String, AllocError> {
-    let shown = Excerpt(word);
-    let stands = form_text(form);
-    format!(in alloc; "{shown}{said}; here stands {stands}")
+    format!(in alloc; "{}{said}; here stands {}", Excerpt(word), form_text(form))
 }
 
-/// What an operand of another sort than this form is called, and what is wrong with it.
-fn other_sort(form: Form, word: &str) -> (&str, &'static str) {
-    if form == Form::Characters {
+pub(crate) fn bad_operands(place: Place<'_>) -> Result<String, AllocError> {
+    if place.at == operation_number(place.parts) {
+        return other_count(place);
+    }
+    let word = place.part.word;
+    let form = place.form();
+    let (name, said) = if form == Form::Characters {
         (word, " is no string")
     } else if word.starts_with('"') {
         ("a string", " can't stand here")
@@ -85,19 +82,12 @@ fn other_sort(form: Form, word: &str) -> (&str, &'static str) {
         ("a register", " can't stand here")
     } else {
         (word, " is no register")
-    }
+    };
+    misplaced(place.source.alloc, name, said, form)
 }
 
-pub(crate) fn bad_operands(alloc: Global, place: Place<'_>) -> Result<String, AllocError> {
-    if place.at == operation_number(place.parts) {
-        return other_count(alloc, place);
-    }
-    let form = place.form();
-    let (name, said) = other_sort(form, place.part.word);
-    misplaced(alloc, name, said, form)
-}
-
-pub(crate) fn bad_number(alloc: Global, place: Place<'_>) -> Result<String, AllocError> {
+pub(crate) fn bad_number(place: Place<'_>) -> Result<String, AllocError> {
+    let alloc = place.source.alloc;
     let word = place.part.word;
     let form = place.form();
     let takes_label = form.takes_label();
@@ -105,19 +95,15 @@ pub(crate) fn bad_number(alloc: Global, place: Place<'_>) -> Result<String, Allo
     if takes_label && is_operation(bytes) {
         return said_of(alloc, word, NO_LABEL_BUT_OPERATION);
     }
-    if is_label(bytes) {
-        return misplaced(
-            alloc,
-            word,
-            " is no number, and a label can't stand here",
-            form,
+    let said = if is_label(bytes) {
+        " is no number, and a label can't stand here"
+    } else if let Some(number) = number_meant(alloc, word)? {
+        return format!(in alloc;
+            "{} is no number; did you mean {}?",
+            Excerpt(word),
+            Excerpt(&number)
         );
-    }
-    if let Some(number) = number_meant(alloc, word)? {
-        let (shown, number) = (Excerpt(word), Excerpt(&number));
-        return format!(in alloc; "{shown} is no number; did you mean {number}?");
-    }
-    let said = if takes_label {
+    } else if takes_label {
         " is no number and no label"
     } else {
         " is no number"
@@ -125,14 +111,16 @@ pub(crate) fn bad_number(alloc: Global, place: Place<'_>) -> Result<String, Allo
     misplaced(alloc, word, said, form)
 }
 
-pub(crate) fn range(alloc: Global, place: Place<'_>) -> Result<String, AllocError> {
-    let shown = Excerpt(place.part.word);
+pub(crate) fn range(place: Place<'_>) -> Result<String, AllocError> {
     let form = place.form();
-    let stands = form_text(form);
     let hint = if matches!(form, Form::Target | Form::FarTarget) {
         "; a number here is the offset itself, not an address"
     } else {
         ""
     };
-    format!(in alloc; "the number {shown} is out of range; here stands {stands}{hint}")
+    format!(in place.source.alloc;
+        "the number {} is out of range; here stands {}{hint}",
+        Excerpt(place.part.word),
+        form_text(form)
+    )
 }

@@ -1,7 +1,23 @@
 //! The tokens of a line with their places.
-use crate::message::{Remark, Span};
 use lc3_asm::{Token, first_token, token_operation, without_separators};
 use std::alloc::{AllocError, Global};
+
+/// A part of a line, by the places of its bytes.
+#[derive(Clone, Copy)]
+pub(crate) struct Span {
+    /// The place of its first byte in the line, from 0.
+    pub start: usize,
+    /// The place behind its last byte.
+    pub end: usize,
+}
+
+/// What is said of a part of a line.
+#[derive(Drop)]
+pub(crate) struct Remark {
+    /// The part that is marked, if it isn't empty.
+    pub mark: Span,
+    pub text: String,
+}
 
 /// A token of a line, where it stands and as what it is written.
 #[derive(Clone, Copy)]
@@ -18,11 +34,18 @@ impl Part<'_> {
 
     pub fn remark(&self, text: String) -> Remark {
         Remark {
-            mark: Some(self.span),
+            mark: self.span,
             text,
         }
     }
 }
+
+/// What stands in the place of a token where a line has none.
+pub(crate) const NOTHING: Part<'static> = Part {
+    token: Token::Unclosed,
+    span: Span { start: 0, end: 0 },
+    word: "",
+};
 
 pub(crate) fn parts_of(alloc: Global, line: &str) -> Result<Vec<Part<'_>>, AllocError> {
     let mut parts = Vec::new(alloc);
@@ -32,7 +55,7 @@ pub(crate) fn parts_of(alloc: Global, line: &str) -> Result<Vec<Part<'_>>, Alloc
             start: line.len().saturating_sub(rest.len()),
             end: line.len().saturating_sub(after.len()),
         };
-        let word = span.text_in(line);
+        let word = line.get(span.start..span.end).unwrap_or("");
         parts.push(Part { token, span, word })?;
         rest = without_separators(after);
     }

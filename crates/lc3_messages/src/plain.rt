@@ -1,13 +1,19 @@
 //! Characters that can't stand in a word.
-use crate::characters::{Number, is_typographic_quote};
-use crate::message::{Remark, Span};
-use crate::texts::Place;
-use std::alloc::{AllocError, Global};
+use crate::characters::is_typographic_quote;
+use crate::parts::{Remark, Span};
+use crate::source::Place;
+use std::alloc::AllocError;
 
-/// What is said of a character that can't stand in a word, before its number and behind it.
-fn around_number(character: char, is_first: bool) -> (&'static str, &'static str) {
-    match character {
-        '\u{FEFF}' if is_first => (
+pub(crate) fn bad_token(place: Place<'_>) -> Result<Remark, AllocError> {
+    let (at, character) = place
+        .part
+        .word
+        .char_indices()
+        .find(|(_, character)| !matches!(*character, '!'..='~'))
+        .unwrap_or((0, ' '));
+    let start = place.part.span.start.saturating_add(at);
+    let (before, behind) = match character {
+        '\u{FEFF}' if place.number == 1 && start == 0 => (
             "the file begins with a byte order mark, ",
             "; save it as UTF-8 without one",
         ),
@@ -24,24 +30,12 @@ fn around_number(character: char, is_first: bool) -> (&'static str, &'static str
             "the character ",
             " can't stand in a word; words have characters from x21 to x7E",
         ),
-    }
-}
-
-pub(crate) fn bad_token(alloc: Global, place: Place<'_>) -> Result<Remark, AllocError> {
-    let (at, character) = place
-        .part
-        .word
-        .char_indices()
-        .find(|(_, character)| !matches!(*character, '!'..='~'))
-        .unwrap_or((0, ' '));
-    let start = place.part.span.start.saturating_add(at);
-    let (before, behind) = around_number(character, place.number == 1 && start == 0);
-    let shown = Number(character);
+    };
     Ok(Remark {
-        mark: Some(Span {
+        mark: Span {
             start,
             end: start.saturating_add(character.len_utf8()),
-        }),
-        text: format!(in alloc; "{before}{shown}{behind}")?,
+        },
+        text: format!(in place.source.alloc; "{before}U+{:04X}{behind}", u32::from(character))?,
     })
 }

@@ -1,18 +1,14 @@
 //! All messages about a source, as they are written.
 ghost use Rattle.std.specs.Prelude.{◌≡◌, ◌↔◌, ◌-◌, length, map, IfOk, IsTrue, IsUtf8};
-ghost use Rattle.lc3_asm.specs.Faults.{reading};
 ghost use Rattle.lc3_warnings.specs.Warnings.{is_accepted};
 ghost use Rattle.lc3_messages.specs.Counts.{told_warnings};
 ghost use Rattle.lc3_messages.specs.Private.Told.{error_count};
 
-use crate::characters::picture;
-use crate::labels::labels_of;
-use crate::lines::{end_of, lines_of};
-use crate::message::{Kind, Message, Span, message_on};
-use crate::texts::{Source, line_at, remark};
+use crate::message::Message;
+use crate::source::{Source, source_of};
+use crate::texts::remark;
 use crate::told::{Finding, What, error_count, findings};
 use crate::warned::warning_remark;
-use lc3_asm::{faults_of, reading};
 use lc3_table::Profile;
 use std::alloc::{AllocError, Global};
 use std::fmt;
@@ -20,9 +16,6 @@ use std::fmt::Write;
 
 /// The most messages of a source that are written.
 const MOST: usize = 100;
-
-/// The most characters of a line that is written below its message.
-const LENGTH: usize = 200;
 
 /// What is asked about the warnings of a source.
 #[derive(Clone, Copy)]
@@ -40,47 +33,6 @@ pub struct Report {
     pub text: String,
     pub errors: usize,
     pub warnings: usize,
-}
-
-/// A line as it is shown, and below it a `^` for each character of a part.
-#[derive(Clone, Copy)]
-struct Marked<'a>(&'a str, Span);
-
-impl fmt::Display for Marked<'_> {
-    fn fmt<W: fmt::Write>(&self, f: &mut fmt::Formatter<W>) -> fmt::Result {
-        let Marked(line, mark) = *self;
-        for character in line.chars() {
-            f.write_char(picture(character))?;
-        }
-        f.write_char('\n')?;
-        for character in line.get(..mark.start).unwrap_or("").chars() {
-            f.write_char(if character == '\t' { '\t' } else { ' ' })?;
-        }
-        for _ in mark.text_in(line).chars() {
-            f.write_char('^')?;
-        }
-        f.write_char('\n')
-    }
-}
-
-/// A message as it is written, about this file and this line.
-#[derive(Clone, Copy)]
-struct Written<'a>(&'a str, &'a str, &'a Message);
-
-impl fmt::Display for Written<'_> {
-    fn fmt<W: fmt::Write>(&self, f: &mut fmt::Formatter<W>) -> fmt::Result {
-        let Written(file, line, message) = *self;
-        let (number, column, kind) = (message.line, message.column, message.kind);
-        let (sort, told) = (kind.sort(), message.text.as_str());
-        write!(f, "{file}:{number}:{column}: {sort}: {told} [{kind}]\n")?;
-        match message.mark {
-            Some(mark) if line.chars().nth(LENGTH).is_none() => {
-                let marked = Marked(line, mark);
-                write!(f, "{marked}")
-            }
-            _ => Ok(()),
-        }
-    }
 }
 
 /// How many there are of this name, if there are any.
@@ -124,62 +76,29 @@ fn counted(
     })
 }
 
-fn message_of<'a>(
-    alloc: Global,
-    source: &Source<'a>,
-    line: &'a str,
-    finding: Finding,
-) -> Result<Message, AllocError> {
-    let (kind, remark) = match finding.what {
-        What::Fault(fault) => (
-            Kind::Fault(fault),
-            remark(alloc, source, finding.line, fault)?,
-        ),
-        What::Warning(warning) => (
-            Kind::Warning(warning.name()),
-            warning_remark(alloc, source, line, warning)?,
-        ),
-    };
-    Ok(message_on(line, finding.line, kind, remark))
-}
-
-fn report_of(
-    alloc: Global,
-    file: &str,
-    source: &Source<'_>,
-    findings: &[Finding],
-) -> Result<Report, AllocError>
+fn report_of(file: &str, source: &Source<'_>, findings: &[Finding]) -> Result<Report, AllocError>
     ensures errors { IfOk result (λ r. r.errors ≡ error_count findings.now) }
     ensures warnings { IfOk result (λ r.
         r.warnings ≡ length findings.now - error_count findings.now) }
 {
     let errors = error_count(findings);
     let warnings = findings.len().saturating_sub(errors);
-    let mut text = String::new(alloc);
+    let mut text = String::new(source.alloc);
     for finding in findings.iter().take(MOST) {
-        let line = line_at(source, finding.line);
-        let message = message_of(alloc, source, line, *finding)?;
-        let written = Written(file, line, &message);
-        write!(text, "{written}")?;
+        let line = source.line(finding.line);
+        let remark = match finding.what {
+            What::Fault(fault) => remark(source, finding.line, fault),
+            What::Warning(warning) => warning_remark(source, line, warning),
+        }?;
+        let message = Message {
+            file,
+            line,
+            finding: *finding,
+            remark: &remark,
+        };
+        write!(text, "{message}")?;
     }
     counted(text, file, errors, warnings)
-}
-
-fn source_report(
-    alloc: Global,
-    file: &str,
-    content: &str,
-    source: &Source<'_>,
-    wish: Wish<'_>,
-) -> Result<Report, AllocError>
-    requires read { source.now.reader.now ≡ reading content.now }
-    ensures errors { IfOk result (λ r. (r.errors ≡ 0) ↔ IsTrue (is_accepted content.now)) }
-    ensures warnings { IfOk result (λ r. r.warnings ≡ length (told_warnings wish.entry.profile
-        (map (λ name. name.now) wish.entry.allowed.now) content.now)) }
-{
-    let faults = faults_of(alloc, source.lines.len(), source.reader)?;
-    let findings = findings(alloc, source, &faults, content, wish)?;
-    report_of(alloc, file, source, &findings)
 }
 
 fn text_report(
@@ -192,29 +111,12 @@ fn text_report(
     ensures warnings { IfOk result (λ r. r.warnings ≡ length (told_warnings wish.entry.profile
         (map (λ name. name.now) wish.entry.allowed.now) content.now)) }
 {
-    let lines = lines_of(alloc, content)?;
-    let reader = reading(alloc, content)?;
-    let labels = labels_of(alloc, &lines, &reader)?;
-    let source = Source {
-        lines: &lines,
-        reader: &reader,
-        labels: &labels,
-    };
-    source_report(alloc, file, content, &source, wish)
+    let source = source_of(alloc, content)?;
+    let findings = findings(&source, content, wish)?;
+    report_of(file, &source, &findings)
 }
 
-fn no_utf8(alloc: Global, bytes: &[u8], first: Option<&u8>) -> Result<String, AllocError> {
-    match (bytes, first) {
-        ([0xFF, 0xFE, ..] | [0xFE, 0xFF, ..], _) | (_, None) => String::from_str(
-            alloc,
-            "the file is UTF-16; save it as UTF-8",
-        ),
-        (_, Some(byte)) => format!(in alloc;
-            "the byte x{byte:02X} is no UTF-8; save the file as UTF-8"
-        ),
-    }
-}
-
+/// The report about bytes that are text up to this place, and no text behind it.
 fn no_text_report(
     alloc: Global,
     file: &str,
@@ -224,16 +126,24 @@ fn no_text_report(
     ensures one { IfOk result (λ r. (r.errors ≡ 1) × (r.warnings ≡ 0)) }
 {
     let (front, rest) = bytes.split_at(place.min(bytes.len()));
-    let (line, before) = end_of(std::str::from_utf8(front).unwrap_or(""));
-    let message = Message {
-        line,
-        column: before.saturating_add(1),
-        mark: None,
-        kind: Kind::NotUtf8,
-        text: no_utf8(alloc, bytes, rest.first())?,
-    };
-    let written = Written(file, "", &message);
-    counted(format!(in alloc; "{written}")?, file, 1, 0)
+    let front = std::str::from_utf8(front).unwrap_or("");
+    let line = front.split('\n').count();
+    let column = front
+        .rsplit('\n')
+        .next()
+        .unwrap_or("")
+        .chars()
+        .count()
+        .saturating_add(1);
+    let text = match (bytes, rest.first()) {
+        ([0xFF, 0xFE, ..] | [0xFE, 0xFF, ..], _) | (_, None) => format!(in alloc;
+            "{file}:{line}:{column}: error: the file is UTF-16; save it as UTF-8 [NotUtf8]\n"
+        ),
+        (_, Some(byte)) => format!(in alloc;
+            "{file}:{line}:{column}: error: the byte x{byte:02X} is no UTF-8; save the file as UTF-8 [NotUtf8]\n"
+        ),
+    }?;
+    counted(text, file, 1, 0)
 }
 
 /// All messages about the bytes of a source, by its lines, and behind them a line with their numbers. `file` is the name of

@@ -46,8 +46,7 @@ pub(crate) fn operation_meant(
 pub(crate) const NO_LABEL_BUT_OPERATION: &str = " is an operation, so it can't be a label";
 
 pub(crate) fn said_of(alloc: Global, word: &str, said: &str) -> Result<String, AllocError> {
-    let shown = Excerpt(word);
-    format!(in alloc; "{shown}{said}")
+    format!(in alloc; "{}{said}", Excerpt(word))
 }
 
 /// The question behind a text whether a name was meant, if one is near.

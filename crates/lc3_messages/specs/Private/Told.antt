@@ -1,5 +1,5 @@
 -- What is told of a text: which of its faults, and how they stand among the warnings.
-use Rattle.std.specs.Prelude.{ℕ, ◌≡◌, ◌⊎◌, Bool, true, false, List, [], ◌∷◌, ◌++◌, map, slice_get}
+use Rattle.std.specs.Prelude.{ℕ, ◌≡◌, ◌⊎◌, Bool, true, false, List, [], ◌∷◌, ◌++◌, map, option_map, slice_get}
 use Rattle.std.specs.List.{count_by}
 use Rattle.std.specs.List.Sorted.{IsPermutation}
 use Rattle.lc3_table.specs.declared.operation.Fault.{Fault as Kind}
@@ -16,21 +16,21 @@ names_a_label fault.Undefined = true
 names_a_label fault.DuplicateLabel = true
 names_a_label _ = false
 
+-- a fault as what is found
+abbrev pub finding_of : LineFault → Finding
+finding_of f = record { line = f.line; what = Fault f.kind }
+
 -- some of these faults, each once and in their order; only those about a label may be left out
-abbrev pub AreFrom : List LineFault → List LineFault → Type 0
+abbrev pub AreFrom : List LineFault → List Finding → Type 0
 AreFrom [] told = told ≡ []
 AreFrom (f ∷ fs) told =
     ((names_a_label f.kind ≡ true) × AreFrom fs told)
-    ⊎ ((rest : List LineFault) × (told ≡ f ∷ rest) × AreFrom fs rest)
+    ⊎ ((rest : List Finding) × (told ≡ finding_of f ∷ rest) × AreFrom fs rest)
 
 -- whether the source is refused for it
 abbrev pub is_error : What → Bool
 is_error (Fault k) = true
 is_error (Warning w) = false
-
--- a fault as what is found
-abbrev pub finding_of : LineFault → Finding
-finding_of f = record { line = f.line; what = Fault f.kind }
 
 -- a warning as what is found
 abbrev pub finding_of_warning : Told → Finding
@@ -38,10 +38,10 @@ finding_of_warning w = record { line = w.line; what = Warning w.kind }
 
 -- what is found is in some order faults of these, the first among them, and these warnings
 pub record Tells (faults : List LineFault) (warnings : List Told) (found : List Finding) : Type 0 where
-  pub told : List LineFault
+  pub told : List Finding
   pub from : AreFrom faults told
-  pub first : slice_get told 0 ≡ slice_get faults 0
-  pub all : IsPermutation (map finding_of told ++ map finding_of_warning warnings) found
+  pub first : slice_get told 0 ≡ option_map finding_of (slice_get faults 0)
+  pub all : IsPermutation (told ++ map finding_of_warning warnings) found
 
 -- how many faults are found
 abbrev pub error_count : List Finding → ℕ
