@@ -5,8 +5,8 @@ ghost use Rattle.lab_arguments.specs.Private.Options.{IsNumber};
 
 use crate::MOST_STEPS_EACH;
 use crate::exploring::explore_request;
+use crate::misuse::Misuse;
 use crate::options::{number_of, number_or, profile_of, setup_of, values_of};
-use crate::programs::Holds;
 use crate::request::{Manner, Page, Refusal, Request};
 use clap::ArgMatches;
 use std::alloc::{AllocError, Global};
@@ -46,29 +46,26 @@ fn program_request<'a>(
 ) -> Result<Request<'a>, Refusal> {
     Ok(match name {
         "step" => Request::Step {
-            setup: setup_of(alloc, words, Holds::Schedule)?,
+            setup: setup_of(alloc, words, Some("the schedule"))?,
         },
         "trace" => Request::Trace {
-            setup: setup_of(alloc, words, Holds::Schedule)?,
+            setup: setup_of(alloc, words, Some("the schedule"))?,
             page: page_of(alloc, words)?,
         },
         "run" => Request::Run {
-            setup: setup_of(alloc, words, Holds::Nothing)?,
+            setup: setup_of(alloc, words, None)?,
             manner: manner_of(words),
         },
         "explore" => return explore_request(alloc, words),
         "debug" => Request::Debug {
-            setup: setup_of(alloc, words, Holds::Commands)?,
+            setup: setup_of(alloc, words, Some("the commands"))?,
         },
         _ => return Err(no_command(alloc)),
     })
 }
 
 fn no_command(alloc: Global) -> Refusal {
-    match String::from_str(alloc, "error: no such command\n") {
-        Ok(text) => Refusal::Usage(text),
-        Err(_) => Refusal::NoMemory,
-    }
+    Misuse::Options("no such command").refusal(alloc)
 }
 
 /// The page that the words of `trace` ask for, if they ask for one.

@@ -3,22 +3,31 @@ ghost use Rattle.std.specs.Prelude.{◌≡◌, ℕ, List, None, Some, false, IfO
 ghost use Rattle.clap.specs.Words.{first_value, found_of, one_text};
 ghost use Rattle.lab_arguments.specs.Private.Options.{IsNumber, usual_worlds, values_in};
 ghost use Rattle.lab_arguments.specs.Pieces.{words_in};
-ghost use Rattle.lab_arguments.specs.Private.Requirements.{nothing, outputs_in, words_of, AreRequired};
-ghost use Rattle.lab_arguments.specs.Private.Showing.{AreShown};
+ghost use Rattle.lab_arguments.specs.Private.Requirements.{nothing, outputs_in, words_of, AreRequired, AreShown};
 ghost use Rattle.lab_arguments.specs.declared.question.Choice.TheVariants.{End};
 
 use crate::misuse::Misuse;
 use crate::options::{number_of, number_or, setup_of, values_of};
 use crate::pieces::outputs_in;
-use crate::programs::Holds;
 use crate::question::{Choice, Question};
 use crate::request::{Refusal, Request};
-use crate::requirements::{Requirements, refused_in, requirements_of, words_of};
-use crate::showing::shown_by;
-use crate::walks::{USUAL_SEED, usual_worlds};
+use crate::requirements::{Requirements, refused_in, requirements_of, shown_by, words_of};
 use crate::{MOST_LOCAL_STEPS, MOST_MEMORY, MOST_WORLDS};
 use clap::ArgMatches;
 use std::alloc::{AllocError, Global};
+
+/// The seed of walks where the words give none.
+const USUAL_SEED: u32 = 1;
+
+/// The most worlds to visit where the words don't say, or those of a walk, if so many are taken.
+fn usual_worlds(random: Option<u32>) -> u32
+    ensures worlds { result ≡ usual_worlds random }
+{
+    match random {
+        Some(_) => 10_000,
+        None => 10_000_000,
+    }
+}
 
 /// What each end must be like, as the words say.
 fn required_of<'a>(alloc: Global, words: &ArgMatches<'a>) -> Result<Requirements, Refusal>
@@ -157,7 +166,7 @@ pub(crate) fn explore_request<'a>(
         return Err(misuse.refusal(alloc));
     }
     Ok(Request::Explore {
-        setup: setup_of(alloc, words, Holds::Nothing)?,
+        setup: setup_of(alloc, words, None)?,
         question,
     })
 }

@@ -12,10 +12,8 @@ mod question;
 mod request;
 mod requirements;
 mod rows;
-mod showing;
 mod shown;
 mod table;
-mod walks;
 
 pub use parser::read_words;
 pub use pieces::{is_of_calls, required_words};

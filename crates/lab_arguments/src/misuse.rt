@@ -1,5 +1,4 @@
 //! What is wrong with words that the parser of commands takes one by one.
-use crate::programs::Holds;
 use crate::request::Refusal;
 use crate::shown::Shown;
 use std::alloc::Global;
@@ -12,8 +11,8 @@ pub(crate) enum Misuse<'a> {
     Value(&'a str, &'static str, &'static str),
     /// Options that don't go together, as this says.
     Options(&'static str),
-    /// A console input from standard input, which holds something else.
-    Input(&'a str, Holds),
+    /// A console input from standard input, which holds this, or is that of another process.
+    Input(&'a str, Option<&'static str>),
 }
 
 impl Misuse<'_> {
@@ -34,17 +33,16 @@ impl fmt::Display for Misuse<'_> {
                 write!(f, "invalid value '{value}' for '--{option} <{takes}>'")
             }
             Misuse::Options(text) => f.write_str(text),
-            Misuse::Input(word, holds) => {
+            Misuse::Input(word, held) => {
                 let word = Shown(word);
-                let why = match holds {
-                    Holds::Nothing => "is that of another process",
-                    Holds::Schedule => "holds the schedule",
-                    Holds::Commands => "holds the commands",
-                };
                 write!(
                     f,
-                    "standard input can't be the console input of '{word}': it {why}"
-                )
+                    "standard input can't be the console input of '{word}': it "
+                )?;
+                match held {
+                    Some(held) => write!(f, "holds {held}"),
+                    None => f.write_str("is that of another process"),
+                }
             }
         }
     }

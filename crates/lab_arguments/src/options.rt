@@ -8,7 +8,7 @@ ghost use Rattle.lab_arguments.specs.Programs.{takes_input};
 ghost use Rattle.lab_arguments.specs.declared.request.Notes.TheVariants.{Shown, Hidden};
 
 use crate::misuse::Misuse;
-use crate::programs::{Holds, surplus};
+use crate::programs::{most_inputs, takes_input};
 use crate::request::{Notes, Refusal, Setup};
 use clap::ArgMatches;
 use lc3_table::Profile;
@@ -54,31 +54,14 @@ pub(crate) fn profile_of(words: &ArgMatches<'_>) -> Profile
     }
 }
 
-/// Where notes are told, as the words of a command say.
-fn notes_of(alloc: Global, words: &ArgMatches<'_>) -> Result<Notes, Refusal>
-    ensures shown { IfOk result (λ notes.
-        one_text (found_of words.now) (codes "notes") ≡ Some (codes "true") → notes ≡ Shown) }
-    ensures hidden { IfOk result (λ notes.
-        one_text (found_of words.now) (codes "quiet") ≡ Some (codes "true") → notes ≡ Hidden) }
-{
-    match (words.get_flag("notes"), words.get_flag("quiet")) {
-        (true, true) => Err(Misuse::Options("--notes and --quiet exclude each other").refusal(
-            alloc,
-        )),
-        (true, false) => Ok(Notes::Shown),
-        (false, true) => Ok(Notes::Hidden),
-        (false, false) => Ok(Notes::AtTerminal),
-    }
-}
-
-/// The programs and the profile that the words of a command name, which finds that in standard input.
+/// The programs and the profile that the words of a command name, which finds that in standard input, or nothing of its own.
 pub(crate) fn setup_of<'a>(
     alloc: Global,
     words: &ArgMatches<'a>,
-    holds: Holds,
+    held: Option<&'static str>,
 ) -> Result<Setup<'a>, Refusal>
     ensures inputs { IfOk result (λ s.
-        count_by takes_input (map (λ w. w.now) s.programs.items) ≤ most_inputs holds) }
+        count_by takes_input (map (λ w. w.now) s.programs.items) ≤ most_inputs held.entry) }
     ensures profile_a { IfOk result (λ s.
         first_value (found_of words.now) (codes "profile") ≡ Some (codes "a") → s.profile ≡ A) }
     ensures profile_b { IfOk result (λ s.
@@ -88,10 +71,18 @@ pub(crate) fn setup_of<'a>(
     ensures hidden { IfOk result (λ s.
         one_text (found_of words.now) (codes "quiet") ≡ Some (codes "true") → s.notes ≡ Hidden) }
 {
-    let notes = notes_of(alloc, words)?;
+    let notes = match (words.get_flag("notes"), words.get_flag("quiet")) {
+        (true, true) => {
+            return Err(Misuse::Options("--notes and --quiet exclude each other").refusal(alloc));
+        }
+        (true, false) => Notes::Shown,
+        (false, true) => Notes::Hidden,
+        (false, false) => Notes::AtTerminal,
+    };
     let programs = values_of(alloc, words, "PROGRAM")?;
-    match surplus(&programs, holds.most()) {
-        Some(word) => Err(Misuse::Input(word, holds).refusal(alloc)),
+    let mut taking = programs.iter().copied().filter(|word| takes_input(word));
+    match taking.nth(most_inputs(held)) {
+        Some(word) => Err(Misuse::Input(word, held).refusal(alloc)),
         None => Ok(Setup {
             programs,
             profile: profile_of(words),

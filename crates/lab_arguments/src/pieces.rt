@@ -1,5 +1,5 @@
 //! The values of `--require`, cut at their commas.
-ghost use Rattle.std.specs.Prelude.{◌≡◌, ◌<◌, ◌++◌, [], ◌∷◌, cond, not, filter, flat_map, map, length, IfNone, IfOk, IfSome, IsTrue, OnOk, position};
+ghost use Rattle.std.specs.Prelude.{◌≡◌, ◌<◌, ◌++◌, [], ◌∷◌, not, filter, flat_map, map, length, IfNone, IfOk, IfSome, IsTrue, OnOk, position};
 ghost use Rattle.lab_arguments.specs.Pieces.{behind, cuts, cut_pieces, is_no_digit, from, is_of_calls, pieces, is_output, words_in};
 ghost use Rattle.lab_arguments.specs.Private.Requirements.{outputs_in};
 
@@ -59,21 +59,6 @@ fn cut(text: &str) -> Option<(&str, &str)>
     None
 }
 
-/// Adds what stands between the commas of a value.
-fn push_cut<'a>(found: &mut Vec<&'a str>, value: &'a str) -> Result<(), AllocError>
-    ensures pieces { OnOk result (map (λ p. p.now) found.new.items
-        ≡ map (λ p. p.now) found.old.items ++ cut_pieces value.now) }
-{
-    let mut rest = value;
-    while let Some((piece, after)) = cut(rest) {
-        found.push(piece)?;
-        rest = after;
-    }
-    found.push(rest)?;
-    Ok(())
-}
-
-/// Where the first byte stands that is no decimal digit.
 fn no_digit(text: &[u8]) -> Option<usize>
     ensures place { result ≡ position is_no_digit text.now }
     ensures within { IfSome result (λ i. i < length text.now) }
@@ -107,11 +92,17 @@ fn push_pieces<'a>(found: &mut Vec<&'a str>, value: &'a str) -> Result<(), Alloc
     ensures pieces { OnOk result (map (λ p. p.now) found.new.items
         ≡ map (λ p. p.now) found.old.items ++ pieces value.now) }
 {
+    let mut rest = value;
     if is_of_calls(value) {
         found.push(value)?;
         return Ok(());
     }
-    push_cut(found, value)
+    while let Some((piece, after)) = cut(rest) {
+        found.push(piece)?;
+        rest = after;
+    }
+    found.push(rest)?;
+    Ok(())
 }
 
 fn pieces_of<'a>(alloc: Global, values: &[&'a str]) -> Result<Vec<&'a str>, AllocError>
@@ -132,37 +123,17 @@ fn is_output(piece: &str) -> bool
     piece.as_bytes().starts_with(b"out ") || is_of_calls(piece)
 }
 
-/// Those of some pieces that say what is required of outputs and calls.
-fn outputs_among<'a>(alloc: Global, pieces: &[&'a str]) -> Result<Vec<&'a str>, AllocError>
-    ensures outputs { IfOk result (λ found. map (λ p. p.now) found.items
-        ≡ filter is_output (map (λ p. p.now) pieces.now)) }
-{
-    pieces
-        .iter()
-        .copied()
-        .filter(|piece| is_output(piece))
-        .collect(alloc)
-}
-
-/// The others.
-fn words_among<'a>(alloc: Global, pieces: &[&'a str]) -> Result<Vec<&'a str>, AllocError>
-    ensures words { IfOk result (λ found. map (λ p. p.now) found.items
-        ≡ filter (λ piece. not (is_output piece)) (map (λ p. p.now) pieces.now)) }
-{
-    pieces
-        .iter()
-        .copied()
-        .filter(|piece| !is_output(piece))
-        .collect(alloc)
-}
-
 /// What the values of `--require` say of outputs and calls.
 pub(crate) fn outputs_in<'a>(alloc: Global, values: &[&'a str]) -> Result<Vec<&'a str>, AllocError>
     ensures outputs { IfOk result (λ found. map (λ p. p.now) found.items
         ≡ outputs_in (map (λ v. v.now) values.now)) }
 {
     let pieces = pieces_of(alloc, values)?;
-    outputs_among(alloc, &pieces)
+    pieces
+        .iter()
+        .copied()
+        .filter(|piece| is_output(piece))
+        .collect(alloc)
 }
 
 /// The words of the values of `--require`: what stands between commas and says nothing of outputs or calls.
@@ -171,5 +142,9 @@ pub fn required_words<'a>(alloc: Global, values: &[&'a str]) -> Result<Vec<&'a s
         ≡ words_in (map (λ v. v.now) values.now)) }
 {
     let pieces = pieces_of(alloc, values)?;
-    words_among(alloc, &pieces)
+    pieces
+        .iter()
+        .copied()
+        .filter(|piece| !is_output(piece))
+        .collect(alloc)
 }

@@ -1,6 +1,5 @@
 //! The words that name programs.
-ghost use Rattle.std.specs.Prelude.{◌≡◌, ◌≤◌, ◌<◌, None, IfSome, List, ℕ, true, map, false, codes};
-ghost use Rattle.std.specs.List.{count_by};
+ghost use Rattle.std.specs.Prelude.{◌≡◌, List, ℕ, true, false};
 ghost use Rattle.std.specs.Borrow.{Bor};
 ghost use Rattle.lab_arguments.specs.Private.Options.{most_inputs};
 ghost use Rattle.lab_arguments.specs.Programs.{file_of, input_of, takes_input};
@@ -42,40 +41,12 @@ pub fn takes_input(word: &str) -> bool
     }
 }
 
-/// What a command finds in standard input.
-#[derive(Clone, Copy)]
-pub(crate) enum Holds {
-    /// Nothing of its own.
-    Nothing,
-    /// A schedule.
-    Schedule,
-    /// Commands of the debugger.
-    Commands,
-}
-
-impl Holds {
-    /// Of how many processes standard input can be the console input.
-    pub(crate) fn most(self) -> usize
-        ensures most { result ≡ most_inputs self }
-    {
-        match self {
-            Holds::Nothing => 1,
-            Holds::Schedule | Holds::Commands => 0,
-        }
-    }
-}
-
-/// The first word by which standard input is the console input of more than so many processes, if there is one.
-pub(crate) fn surplus<'a>(words: &[&'a str], most: usize) -> Option<&'a str>
-    ensures none { result ≡ None
-        → count_by takes_input (map (λ w. w.now) words.now) ≤ most }
-    ensures some { IfSome result (λ word. takes_input word.now ≡ true) }
-    ensures more { IfSome result (λ _.
-        most < count_by takes_input (map (λ w. w.now) words.now)) }
+/// Of how many processes standard input can be the console input, which holds that, or else nothing of its own.
+pub(crate) fn most_inputs(held: Option<&'static str>) -> usize
+    ensures most { result ≡ most_inputs held.entry }
 {
-    words
-        .iter()
-        .copied()
-        .filter(|word| takes_input(word))
-        .nth(most)
+    match held {
+        None => 1,
+        Some(_) => 0,
+    }
 }

@@ -1,7 +1,7 @@
-//! The words of `--require`.
-ghost use Rattle.std.specs.Prelude.{◌≡◌, ◌<◌, Option, None, IfOk, IfSome, bytes_eq, map};
+//! The words of `--require` and of `--show`.
+ghost use Rattle.std.specs.Prelude.{◌≡◌, ◌<◌, Bool, Option, None, IfOk, IfSome, map};
 ghost use Rattle.lab_arguments.specs.Pieces.{words_in};
-ghost use Rattle.lab_arguments.specs.Private.Requirements.{how_often, once_if, rest_counts, words_of, AreRequired};
+ghost use Rattle.lab_arguments.specs.Private.Requirements.{how_often, once_if, rest_counts, words_of, AreRequired, AreShown};
 
 use crate::pieces::required_words;
 use std::alloc::{AllocError, Global};
@@ -60,22 +60,15 @@ pub(crate) fn words_of(alloc: Global, text: &str) -> Result<Vec<&str>, AllocErro
     text.split(',').collect(alloc)
 }
 
-/// Whether two words are the same.
-fn is_word(word: &str, other: &str) -> bool
-    ensures value { result ≡ bytes_eq word.now other.now }
-{
-    word == other
-}
-
 /// How often a word stands among words.
 fn how_often(word: &str, words: &[&str]) -> usize
     ensures count { result ≡ how_often word.now (map (λ w. w.now) words.now) }
 {
-    words.iter().filter(|other| is_word(word, other)).count()
+    words.iter().filter(|other| word == **other).count()
 }
 
 /// Whether a word stands among words, if it isn't there more than once.
-pub(crate) fn stands(word: &str, words: &[&str]) -> Option<bool>
+fn stands(word: &str, words: &[&str]) -> Option<bool>
     ensures some { IfSome result (λ there.
         how_often word.now (map (λ w. w.now) words.now) ≡ once_if there) }
     ensures none { result ≡ None
@@ -151,4 +144,19 @@ pub(crate) fn refused_in<'a>(alloc: Global, values: &[&'a str]) -> Result<&'a st
         }
     }
     Ok(last)
+}
+
+/// Whether `out` and `left` stand among words, if these are no others, and each is there once.
+pub(crate) fn shown_by(words: &[&str]) -> Option<(bool, bool)>
+    ensures some { IfSome result (λ shown.
+        AreShown (map (λ w. w.now) words.now) shown.0 shown.1) }
+    ensures none { result ≡ None → (out left : Bool)
+        → AreShown (map (λ w. w.now) words.now) out left → ⊥ }
+{
+    let out = stands("out", words)?;
+    let left = stands("left", words)?;
+    if usize::from(out) + usize::from(left) != words.len() {
+        return None;
+    }
+    Some((out, left))
 }

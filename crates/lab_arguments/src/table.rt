@@ -41,9 +41,9 @@ fn up_to<'a>(alloc: Global, row: &Row, value: &'a str, most: u32) -> Arg<'a> {
     option(alloc, row, value).value_parser(clap::value_parser!(u32).range(1..=i64::from(most)))
 }
 
-/// What a row says of its option, but for the other options that it needs.
-fn alone<'a>(alloc: Global, row: &Row) -> Arg<'a> {
-    match row.takes {
+/// A row's option.
+fn arg_of<'a>(alloc: Global, row: &Row) -> Result<Arg<'a>, AllocError> {
+    Ok(match row.takes {
         Takes::Place => place(alloc, row),
         Takes::Places => place(alloc, row).num_args(1..),
         Takes::Nothing => Arg::new(alloc, row.name)
@@ -52,7 +52,9 @@ fn alone<'a>(alloc: Global, row: &Row) -> Arg<'a> {
             .help(row.help),
         Takes::Text(value) => option(alloc, row, value),
         Takes::Texts(value) => option(alloc, row, value).action(ArgAction::Append),
-        Takes::Sources => option(alloc, row, "P=FILE").action(ArgAction::Append),
+        Takes::Sources => option(alloc, row, "P=FILE")
+            .action(ArgAction::Append)
+            .requires_arg("page")?,
         Takes::UpTo(value, most) => up_to(alloc, row, value, most),
         Takes::Usually(value, most, usual) => up_to(alloc, row, value, most).default_value(usual),
         Takes::Number(value) => option(alloc, row, value).value_parser(clap::value_parser!(u32)),
@@ -62,15 +64,7 @@ fn alone<'a>(alloc: Global, row: &Row) -> Arg<'a> {
         Takes::Warnings => option(alloc, row, "WARNING")
             .value_parser(ValueParser::Names(WARNINGS))
             .action(ArgAction::Append),
-    }
-}
-
-/// A row's option.
-fn arg_of<'a>(alloc: Global, row: &Row) -> Result<Arg<'a>, AllocError> {
-    match row.takes {
-        Takes::Sources => alone(alloc, row).requires_arg("page"),
-        _ => Ok(alone(alloc, row)),
-    }
+    })
 }
 
 /// The command of a row, with its options.

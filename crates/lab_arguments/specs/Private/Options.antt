@@ -3,8 +3,7 @@ use Rattle.std.specs.Prelude.{◌≡◌, ℕ, ◌<◌, ◌^◌, List, [], Option
 use Rattle.std.specs.Option.{option_map}
 use Rattle.clap.specs.Words.{matched_of, raw_values}
 use Rattle.clap.specs.declared.parser.matches.Found.{Found}
-use Rattle.lab_arguments.specs.declared.programs.Holds.{Holds}
-use Rattle.lab_arguments.specs.declared.programs.Holds.TheVariants.{Nothing, Schedule, Commands}
+use Rattle.std.specs.Borrow.{Bor}
 use Rattle.std.specs.Str.Parse.{IsNumeral, digits_value, without_leading_plus}
 
 -- a text is this number in decimal digits, which has at most 32 bits
@@ -21,8 +20,7 @@ abbrev pub usual_worlds : Option ℕ → ℕ
 usual_worlds None = 10000000
 usual_worlds (Some count) = 10000
 
--- of how many processes standard input can be the console input, which holds that
-abbrev pub most_inputs : Holds → ℕ
-most_inputs Nothing = 1
-most_inputs Schedule = 0
-most_inputs Commands = 0
+-- of how many processes standard input can be the console input, which holds that, or else nothing of its own
+abbrev pub most_inputs : Option (Bor (List ℕ)) → ℕ
+most_inputs None = 1
+most_inputs (Some held) = 0

@@ -1,4 +1,4 @@
--- What the words of `--require` say.
+-- What the words of `--require` and `--show` say.
 use Rattle.std.specs.Prelude.{ℕ, ◌≡◌, ◌+◌, ◌==◌, Bool, true, false, Option, Some, None, List, codes, filter, flat_map, length, bytes_eq}
 use Rattle.std.specs.List.{count_by, slice_split}
 use Rattle.lab_arguments.specs.Pieces.{pieces, is_output}
@@ -41,3 +41,9 @@ words_of text = slice_split (λ c. c == 44) text
 -- what some values say of outputs and calls
 abbrev pub outputs_in : List (List ℕ) → List (List ℕ)
 outputs_in values = filter is_output (flat_map pieces values)
+
+-- these words, each once and with no others, show `out` or not, and `left` or not
+pub record AreShown (words : List (List ℕ)) (out left : Bool) : Type 0 where
+  pub shows_out : how_often (codes "out") words ≡ once_if out
+  pub shows_left : how_often (codes "left") words ≡ once_if left
+  pub known : how_often (codes "out") words + how_often (codes "left") words ≡ length words

@@ -2,7 +2,7 @@ use Rattle.std.proofs.Common.{◌≡◌, ◌++◌, length, map}
 use denote.Text.{Utf8}
 use denote.Shadow.{shadow}
 use Rattle.lab_arguments.specs.Pieces.{cut_pieces}
-use Rattle.lab_arguments.proofs.pieces.push_cut.Given as goal
+use Rattle.lab_arguments.proofs.pieces.push_pieces.Given as goal
 
 -- the pieces so far are added, and those of the rest are left
 abbrev pub invariant-loop-piece : goal.invariant-loop-piece

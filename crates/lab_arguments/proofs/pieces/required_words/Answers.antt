@@ -4,13 +4,13 @@ use Rattle.std.proofs.lemmas.Iterator.Consumers.{YieldsList-at, YieldsList-from_
 use Rattle.std.proofs.lemmas.Result.{IfOk-weaker}
 use Rattle.lab_arguments.specs.Pieces.{is_output}
 use Rattle.lab_arguments.proofs.PieceLemmas.{texts_chosen}
-use Rattle.lab_arguments.proofs.pieces.words_among.Goals as goal
+use Rattle.lab_arguments.proofs.pieces.required_words.Goals as goal
 
 pub returns : goal.returns
 returns c =
-    let chosen : List (Bor (List ℕ)) = filter (λ p. not (is_output p.now)) c.args.pieces.now in
+    let chosen : List (Bor (List ℕ)) = filter (λ p. not (is_output p.now)) c.in_ok-pieces.pieces.items in
     let found : IfOk c.collect.result (λ w. w.items ≡ chosen) =
     items_from_collect _ c.collect.ensures.ran (YieldsList-from_filter _ (λ p. not (is_output p.now))
-    (YieldsList-at c.filter.ensures.source (YieldsList-from_copied (YieldsList-at c.copied.ensures.source (YieldsList-from_slice c.args.pieces.now cc))))
+    (YieldsList-at c.filter.ensures.source (YieldsList-from_copied (YieldsList-at c.copied.ensures.source (YieldsList-from_slice c.in_ok-pieces.pieces.items cc))))
     c.filter.ensures.closure (λ x r q k. search (rules, tests))) in
-    record { words = IfOk-weaker c.collect.result (λ w. w.items ≡ chosen) _ (λ w e. ap (map (λ (p : Bor (List ℕ)). p.now)) e ∙ texts_chosen (λ piece. not (is_output piece)) c.args.pieces.now) found }
+    record { words = IfOk-weaker c.collect.result (λ w. w.items ≡ chosen) _ (λ w e. ap (map (λ (p : Bor (List ℕ)). p.now)) e ∙ texts_chosen (λ piece. not (is_output piece)) c.in_ok-pieces.pieces.items ∙ ap (filter (λ piece. not (is_output piece))) c.in_ok-pieces.ensures.pieces) found }
