@@ -1,10 +1,7 @@
 -- What is asked of calls, one by one, and where nothing is.
-use Rattle.std.proofs.Common.{IfSome, ℕ, ◌≡◌, ◌<◌, ◌≤◌, ◌+◌, ◌-◌, Bool, List, [], ◌∷◌, ◌++◌, filter, flat_map, map, get_or, length, take, drop, sym, ap, ◌∙◌, append_assoc, append-nil, arith}
+use Rattle.std.proofs.Common.{ℕ, ◌≡◌, ◌<◌, ◌+◌, ◌-◌, Bool, List, [], ◌∷◌, ◌++◌, filter, flat_map, map, get_or, length, take, drop, sym, ap, ◌∙◌, append_assoc, append-nil, arith}
 use Rattle.std.proofs.lemmas.Grind.{flat_map-append}
 use Rattle.std.proofs.lemmas.List.{take_more, take_all, take-append-drop, map-append, length-drop}
-use Rattle.ipc_traps.specs.declared.service.Service.{Service}
-use Rattle.ipc_traps.specs.declared.service.Service.TheVariants.{MqOpen, MqClose, MqUnlink, MqSend, MqReceive, MqGetattr, MqSetattr, SemOpen, SemClose, SemUnlink, SemWait, SemTrywait, SemPost, SemGetvalue}
-use Rattle.ipc_traps.specs.Services.{service_in, service_name}
 use Rattle.lab_ways.specs.declared.calls.CallKind.{CallKind}
 use Rattle.lab_questions.specs.CallWords.{kind_words}
 use Rattle.std.proofs.lemmas.List.Elements.{filter_more}
@@ -34,22 +31,3 @@ kind_step word whole old new kind rest count added read before =
     ap (flat_map kind_words) added ∙ flat_map-append kind_words old (kind ∷ []) ∙ ap (λ l. flat_map kind_words old ++ l) (append-nil (kind_words kind)) in
     before ∙ ap (λ l. flat_map kind_words old ++ l) parts ∙ sym (append_assoc (flat_map kind_words old) (kind_words kind) behind) ∙ ap (λ l. l ++ behind) (sym more)
     ∙ ap (λ l. flat_map kind_words new ++ map word l) (sym (take_all (length rest - count) (drop count rest) (omega (arith, length-drop count rest))))
-
--- a word that is the name of no call with one of these vectors is the name of none
-pub unnamed : (word : List ℕ) → ((v : ℕ) → v < 0x57 → 0x40 ≤ v → IfSome (service_in v) (λ s. service_name s ≡ word → ⊥)) → (s : Service)
-    → service_name s ≡ word → ⊥
-unfolding service_in
-unnamed word none MqOpen = none 0x40 (omega arith) (omega arith)
-unnamed word none MqClose = none 0x41 (omega arith) (omega arith)
-unnamed word none MqUnlink = none 0x42 (omega arith) (omega arith)
-unnamed word none MqSend = none 0x43 (omega arith) (omega arith)
-unnamed word none MqReceive = none 0x44 (omega arith) (omega arith)
-unnamed word none MqGetattr = none 0x45 (omega arith) (omega arith)
-unnamed word none MqSetattr = none 0x46 (omega arith) (omega arith)
-unnamed word none SemOpen = none 0x50 (omega arith) (omega arith)
-unnamed word none SemClose = none 0x51 (omega arith) (omega arith)
-unnamed word none SemUnlink = none 0x52 (omega arith) (omega arith)
-unnamed word none SemWait = none 0x53 (omega arith) (omega arith)
-unnamed word none SemTrywait = none 0x54 (omega arith) (omega arith)
-unnamed word none SemPost = none 0x55 (omega arith) (omega arith)
-unnamed word none SemGetvalue = none 0x56 (omega arith) (omega arith)

@@ -105,12 +105,12 @@ other_fails false found answers faults ways (Call k) more is = absurd is
 other_fails true found answers faults ways (Call k) more is = absurd is
 other_fails plain found answers faults ways Incomplete more is = absurd (more refl)
 
-ended_settles : (waiters : List Waiter) (p : ℕ) (s : Process) → HasEnded s → HasSettled waiters p s
+ended_settles : (waiters : List Waiter) (p : ℕ) (s : Process) → HasEnded s → HasSettled false waiters p s
 ended_settles waiters p (Running m) ended = ended
 ended_settles waiters p (Waiting m c) ended = absurd ended
 ended_settles waiters p (world.Ended e) ended = tt
 
-settled_ends : (p : ℕ) (s : Process) → HasSettled [] p s → HasEnded s
+settled_ends : (p : ℕ) (s : Process) → HasSettled false [] p s → HasEnded s
 settled_ends p (Running m) settled = settled
 settled_ends p (Waiting m c) settled = absurd (omega (arith, settled.2))
 settled_ends p (world.Ended e) settled = tt
@@ -128,7 +128,7 @@ other word waiters start ends i each fault = by word fault.unmet
 
     by : (word : Word) → (IfSome (slice_get ends 0) (λ first. Meets word waiters first.world fault.end.world) → ⊥) → HasOtherVerdict ends word i
     by Ended unmet = subst (λ o. IfSome o (λ e. e.verdict ≢ verdict.Ended)) (sym fault.there)
-        (λ is. unmet (if_each (λ first. HaveSettled waiters fault.end.world) (slice_get ends 0)
+        (λ is. unmet (if_each (λ first. HaveSettled false waiters fault.end.world) (slice_get ends 0)
         (λ first p s at. ended_settles waiters p s (subst (IsVerdict fault.end.world) is end.verdict p s at))))
     by Stuck unmet = subst (λ o. IfSome o (λ e. e.verdict ≢ verdict.Stuck)) (sym fault.there)
         (λ is. unmet (if_each (λ first. AreStuck fault.end.world) (slice_get ends 0) (λ first. subst (IsVerdict fault.end.world) is end.verdict)))
@@ -150,7 +150,7 @@ comes : (word : Word) (waiters : List Waiter) (start : WorldState) → waiters �
     → IfSome (verdict_asked word) (λ v. ComeTo v start)
 comes Ended waiters start none meet bounded = record {
   bounded = bounded tt;
-  rests = λ ps rest p s at. settled_ends p s (subst (λ ws. HasSettled ws p s) none (meet ps ps rest rest p s at));
+  rests = λ ps rest p s at. settled_ends p s (subst (λ ws. HasSettled false ws p s) none (meet ps ps rest rest p s at));
 }
 comes Stuck waiters start none meet bounded = record { bounded = bounded tt; rests = λ ps rest. meet ps ps rest rest }
 comes Halted waiters start none meet bounded = tt

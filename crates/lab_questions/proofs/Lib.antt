@@ -20,4 +20,5 @@ mod FailureLemmas
 mod ValueLemmas
 mod LeftOrder
 mod MemberLemmas
+mod ScheduleValues
 mod CallLemmas

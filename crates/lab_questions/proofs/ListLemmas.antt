@@ -1,5 +1,5 @@
 -- Loops over lists.
-use Rattle.std.proofs.Common.{ℕ, suc, ◌≡◌, ◌<◌, ◌≤◌, ◌+◌, false, List, [], ◌∷◌, is_some, Option, Some, None, All, Any, length, take, get_or, slice_get, subst, sym, ap, ◌∙◌, refl, arith}
+use Rattle.std.proofs.Common.{ℕ, suc, ◌≡◌, ◌<◌, ◌≤◌, ◌+◌, List, [], ◌∷◌, Option, Some, None, All, Any, length, take, get_or, slice_get, subst, sym, ap, ◌∙◌, refl, arith}
 use Rattle.std.proofs.lemmas.List.{take_more, take_all}
 use Rattle.std.proofs.lemmas.List.Elements.{All-push}
 
@@ -24,10 +24,6 @@ same_lists (x ∷ xs) (y ∷ ys) count each =
     let is : x ≡ y = cc in
     ap (λ l. x ∷ l) (same_lists xs ys (omega (arith, count)) (λ i within. each (suc i) (omega (arith, within)))) ∙ ap (λ z. z ∷ ys) is
 
-pub none_from : (o : Option ℕ) → is_some o ≡ false → o ≡ None
-none_from None e = refl
-none_from (Some i) e = cc
-
-pub none_unless : (o : Option ℕ) → ((x : ℕ) → o ≡ Some x → ⊥) → o ≡ None
+pub none_unless : {X : Type 0} (o : Option X) → ((x : X) → o ≡ Some x → ⊥) → o ≡ None
 none_unless None not = refl
 none_unless (Some x) not = absurd (not x refl)

@@ -1,5 +1,5 @@
 -- Objects of JSON, member by member.
-use Rattle.std.proofs.Common.{ℕ, ◌≡◌, true, false, Bor, Option, List, [], ◌∷◌, ◌++◌, map, refl, sym, ap, ◌∙◌, append_assoc, append-nil}
+use Rattle.std.proofs.Common.{ℕ, ◌≡◌, true, false, Option, List, [], ◌∷◌, ◌++◌, map, refl, sym, ap, ◌∙◌, append_assoc, append-nil}
 use Rattle.std.specs.Prelude.{codes}
 use Rattle.std.specs.Fmt.{decimal}
 use Rattle.std.proofs.lemmas.List.Concat.{flat_map-append}
@@ -37,11 +37,23 @@ row-is (m ∷ ms) end = append_assoc (codes "," ++ m) (further_json ms) end ∙ 
 object-row : (m : List ℕ) (ms : List (List ℕ)) → object_json (m ∷ ms) ≡ codes "{" ++ (m ++ row ms (codes "}"))
 object-row m ms = ap (λ u. codes "{" ++ u) (append_assoc m (further_json ms) (codes "}") ∙ ap (λ u. m ++ u) (row-is ms (codes "}")))
 
--- what is required and isn't so, member by member
-pub required_told : (asked : List ℕ) (schedules : List (List ℕ)) → required_json asked schedules
-    ≡ codes "{\"require\":" ++ (text_json asked ++ (codes ",\"schedules\":" ++ (array_json schedules ++ codes "}")))
+-- what is required and isn't so, member by member, with one schedule that shows it
+pub required_told : (asked s : List ℕ) → required_json asked (s ∷ [])
+    ≡ codes "{\"require\":" ++ (text_json asked ++ (codes ",\"schedules\":[" ++ (s ++ codes "]}")))
 unfolding required_json
-required_told asked schedules = object-row (member (codes "require") (text_json asked)) (member (codes "schedules") (array_json schedules) ∷ [])
+required_told asked s = around (codes "{\"require\":") (text_json asked) (codes ",\"schedules\":") (codes "[") s (codes "]") (codes "}")
+  where
+    around : (a t b o s c e : List ℕ) → a ++ t ++ (b ++ (o ++ (s ++ []) ++ c) ++ []) ++ e ≡ a ++ (t ++ ((b ++ o) ++ (s ++ (c ++ e))))
+    around a t b o s c e = simp (append_assoc, append-nil)
+
+-- the same with two
+pub both_told : (asked r s : List ℕ) → required_json asked (r ∷ s ∷ [])
+    ≡ codes "{\"require\":" ++ (text_json asked ++ (codes ",\"schedules\":[" ++ (r ++ (codes "," ++ (s ++ codes "]}")))))
+unfolding required_json
+both_told asked r s = around (codes "{\"require\":") (text_json asked) (codes ",\"schedules\":") (codes "[") r (codes ",") s (codes "]") (codes "}")
+  where
+    around : (a t b o r k s c e : List ℕ) → a ++ t ++ (b ++ (o ++ (r ++ (k ++ s ++ [])) ++ c) ++ []) ++ e ≡ a ++ (t ++ ((b ++ o) ++ (r ++ (k ++ (s ++ (c ++ e))))))
+    around a t b o r k s c e = simp (append_assoc, append-nil)
 
 -- what must never be so and is, member by member
 pub never_told : (asked : List ℕ) (schedule : List Block) → never_json asked schedule
@@ -61,6 +73,11 @@ pub process_told : (s : Process) → process_json false s
 unfolding process_json
 process_told s = object-row (member (codes "status") (name_json (status_word s)))
     (member (codes "pc") (name_json (hexadecimal_text (machine_of s).pc)) ∷ stop_member s ∷ member (codes "out") (text_json (machine_of s).output) ∷ [])
+
+-- what a process has written, alone
+pub output_told : (s : Process) → process_json true s ≡ codes "{\"out\":" ++ (text_json (machine_of s).output ++ codes "}")
+unfolding process_json
+output_told s = object-row (member (codes "out") (text_json (machine_of s).output)) []
 
 -- a message, member by member
 pub message_told : (name : Option (List ℕ)) (m : Message) → message_json name m
@@ -92,23 +109,23 @@ end_told show n e =
         ∙ around (codes "{") a (codes ",") b d (further_json left) s (codes "}")
 
 -- how far the exploration went, in one row
-abbrev extent_row : List ℕ → List (List ℕ) → List ℕ → List ℕ → ℕ → List ℕ
+abbrev extent_row : List ℕ → List ℕ → List ℕ → List ℕ → ℕ → List ℕ
 extent_row search limits limit unit worlds =
-    codes "{\"search\":" ++ (name_json search ++ (codes ",\"limits\":" ++ (array_json limits ++ (codes ",\"limit\":" ++ (limit
+    codes "{\"search\":" ++ (name_json search ++ (codes ",\"limits\":" ++ (limits ++ (codes ",\"limit\":" ++ (limit
     ++ (codes ",\"" ++ (unit ++ (codes "\":" ++ decimal worlds))))))))
 
 -- the same, member by member
-pub extent_told : (text next : List ℕ) (found : Exploration) (reach : Reach) (limit : Option LimitMet) (search unit : List ℕ) (limits : List (List ℕ))
-    → search ≡ extent_text found.complete → limits ≡ map name_json (limits_met found reach.limits reach.is_stage reach.walks) → unit ≡ unit_text reach.walks
+pub extent_told : (text next : List ℕ) (found : Exploration) (reach : Reach) (limit : Option LimitMet) (search limits unit : List ℕ)
+    → search ≡ extent_text found.complete → limits ≡ array_json (map name_json (limits_met found reach.limits reach.is_stage reach.walks)) → unit ≡ unit_text reach.walks
     → next ≡ text ++ extent_row search limits (limit_json limit) unit found.worlds → next ≡ text ++ codes "{" ++ values_json (extent_members found reach limit)
 unfolding extent_members
-extent_told text next found reach limit search unit limits s l u told =
-    let met = map name_json (limits_met found reach.limits reach.is_stage reach.walks) in
+extent_told text next found reach limit search limits unit s l u told =
+    let met = array_json (map name_json (limits_met found reach.limits reach.is_stage reach.walks)) in
     told
     ∙ ap (λ v. text ++ extent_row v limits (limit_json limit) unit found.worlds) s
-    ∙ ap (λ vs. text ++ extent_row (extent_text found.complete) vs (limit_json limit) unit found.worlds) l
+    ∙ ap (λ v. text ++ extent_row (extent_text found.complete) v (limit_json limit) unit found.worlds) l
     ∙ ap (λ v. text ++ extent_row (extent_text found.complete) met (limit_json limit) v found.worlds) u
-    ∙ sym (around text (codes "{") (codes ",") (member (codes "search") (name_json (extent_text found.complete))) (member (codes "limits") (array_json met))
+    ∙ sym (around text (codes "{") (codes ",") (member (codes "search") (name_json (extent_text found.complete))) (member (codes "limits") met)
     (member (codes "limit") (limit_json limit)) (codes "\"") (unit_text reach.walks) (codes "\":") (decimal found.worlds))
   where
     around : (t o k a b c q u w n : List ℕ) → t ++ o ++ (a ++ (k ++ b ++ (k ++ c ++ (k ++ (q ++ u ++ w ++ n) ++ []))))
@@ -158,12 +175,3 @@ line_told a reach limit =
     (member (codes "limits") (array_json (map name_json (limits_met found reach.limits reach.is_stage reach.walks))) ∷ member (codes "limit") (limit_json limit)
     ∷ member (unit_text reach.walks) (decimal found.worlds) ∷ [])
     (found_members a) (last_members a)
-
--- names as texts
-pub names_told : (names : List (Bor (List ℕ))) (met : List (List ℕ)) → map (λ name. name.now) names ≡ met
-    → map (λ name. name_json name.now) names ≡ map name_json met
-names_told names met is = each names ∙ ap (map name_json) is
-  where
-    each : (ns : List (Bor (List ℕ))) → map (λ n. name_json n.now) ns ≡ map name_json (map (λ n. n.now) ns)
-    each [] = refl
-    each (n ∷ ns) = ap (λ us. name_json n.now ∷ us) (each ns)

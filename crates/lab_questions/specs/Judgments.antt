@@ -1,5 +1,5 @@
 -- Whether ends are as they are required to be.
-use Rattle.std.specs.Prelude.{ℕ, ◌≡◌, ◌≢◌, List, Option, Some, None, All, IfSome, take, slice_get}
+use Rattle.std.specs.Prelude.{ℕ, true, false, ◌≡◌, ◌≢◌, List, Option, Some, None, All, IfSome, take, slice_get}
 use Rattle.lab_sched.specs.declared.verdict.Verdict.{Verdict}
 use Rattle.lab_sched.specs.declared.verdict.Verdict.TheVariants as verdict
 use Rattle.lab_sched.specs.Verdicts.{AreStuck}
@@ -9,13 +9,13 @@ use Rattle.lab_questions.specs.declared.asked.Waiter.{Waiter}
 use Rattle.lab_questions.specs.declared.asked.Word.{Word}
 use Rattle.lab_questions.specs.declared.asked.Word.TheVariants.{Ended, Stuck, Halted, Empty, Same}
 use Rattle.lab_questions.specs.declared.answers.Answer.{Answer}
-use Rattle.lab_questions.specs.Requirements.{HaveSettled, HaveHalted, AreEmptied, outputs}
+use Rattle.lab_questions.specs.Requirements.{HaveSettled, AreEmptied, outputs}
 
 -- a world at rest is as the word requires; beside the world of another end for what those have written
 abbrev pub Meets : Word → List Waiter → WorldState → WorldState → Type 0
-Meets Ended waiters other w = HaveSettled waiters w
+Meets Ended waiters other w = HaveSettled false waiters w
 Meets Stuck waiters other w = AreStuck w
-Meets Halted waiters other w = HaveHalted waiters w
+Meets Halted waiters other w = HaveSettled true waiters w
 Meets Empty waiters other w = AreEmptied w
 Meets Same waiters other w = outputs w ≡ outputs other
 

@@ -1,5 +1,6 @@
 -- What can be required of worlds at rest.
-use Rattle.std.specs.Prelude.{ℕ, ◌≡◌, ◌≤◌, List, Some, Any, map, slice_get}
+use Rattle.std.specs.Prelude.{ℕ, Bool, true, false, ◌≡◌, ◌≤◌, List, Some, Any, map, slice_get}
+use Rattle.lc3_machine.specs.declared.want.How.{How}
 use Rattle.lc3_machine.specs.declared.want.How.TheVariants.{Halt}
 use Rattle.lab_sched.specs.Worlds.{Process, Running, Waiting, Ended, WorldState, machine_of}
 use Rattle.lab_conditions.specs.Losses.{messages}
@@ -9,25 +10,20 @@ use Rattle.lab_questions.specs.declared.asked.Waiter.{Waiter}
 abbrev pub MayWait : List Waiter → ℕ → ℕ → Type 0
 MayWait waiters p pc = Any (λ v. (v.process ≡ p) × (v.first ≤ pc) × (pc ≤ v.last)) waiters
 
--- the process has ended, or waits where it may
-abbrev pub HasSettled : List Waiter → ℕ → Process → Type 0
-HasSettled waiters p (Running m) = ⊥
-HasSettled waiters p (Waiting m c) = MayWait waiters p m.pc
-HasSettled waiters p (Ended e) = Unit {0}
+-- an end is as asked: by HALT, or any
+abbrev pub EndsAs : Bool → How → Type 0
+EndsAs false how = Unit {0}
+EndsAs true how = how ≡ Halt
 
--- the process has ended by HALT, or waits where it may
-abbrev pub HasHalted : List Waiter → ℕ → Process → Type 0
-HasHalted waiters p (Running m) = ⊥
-HasHalted waiters p (Waiting m c) = MayWait waiters p m.pc
-HasHalted waiters p (Ended e) = e.how ≡ Halt
+-- the process has ended, by HALT if that is asked, or waits where it may
+abbrev pub HasSettled : Bool → List Waiter → ℕ → Process → Type 0
+HasSettled by_halt waiters p (Running m) = ⊥
+HasSettled by_halt waiters p (Waiting m c) = MayWait waiters p m.pc
+HasSettled by_halt waiters p (Ended e) = EndsAs by_halt e.how
 
 -- each process has settled
-abbrev pub HaveSettled : List Waiter → WorldState → Type 0
-HaveSettled waiters w = (p : ℕ) (s : Process) → slice_get w.processes p ≡ Some s → HasSettled waiters p s
-
--- each process has halted
-abbrev pub HaveHalted : List Waiter → WorldState → Type 0
-HaveHalted waiters w = (p : ℕ) (s : Process) → slice_get w.processes p ≡ Some s → HasHalted waiters p s
+abbrev pub HaveSettled : Bool → List Waiter → WorldState → Type 0
+HaveSettled by_halt waiters w = (p : ℕ) (s : Process) → slice_get w.processes p ≡ Some s → HasSettled by_halt waiters p s
 
 -- no queue holds a message
 abbrev pub AreEmptied : WorldState → Type 0

@@ -117,11 +117,14 @@ ShowsOutput ends faults k text = (i : ℕ) × (slice_get faults k ≡ Some (Some
 abbrev pub ShowsReached : List (Option (List Block)) → ℕ → List ℕ → Type 0
 ShowsReached reached i text = (s : List Block) × (slice_get reached i ≡ Some (Some s)) × (text ≡ schedule_text s)
 
+-- the texts of the schedule of a lasso and of its steps, with a blank between
+abbrev pub round_text : Lasso → List ℕ
+round_text r = schedule_text r.schedule ++ codes " " ++ schedule_text r.steps
+
 -- the text of the schedule that those of a lasso, one behind the other, are read as
 abbrev pub ShowsLasso : Lasso → List ℕ → Type 0
-ShowsLasso r text = (blocks : List Block) × (text ≡ schedule_text blocks)
-    × (reading (schedule_text r.schedule ++ codes " " ++ schedule_text r.steps) ≡ Ok blocks)
+ShowsLasso r text = (blocks : List Block) × (text ≡ schedule_text blocks) × (reading (round_text r) ≡ Ok blocks)
 
 -- those of a lasso, one behind the other, are too long for one schedule
 abbrev pub IsTooLong : Lasso → Type 0
-IsTooLong r = (blocks : List Block) → reading (schedule_text r.schedule ++ codes " " ++ schedule_text r.steps) ≡ Ok blocks → ⊥
+IsTooLong r = (blocks : List Block) → reading (round_text r) ≡ Ok blocks → ⊥

@@ -1,6 +1,6 @@
 //! What is asked of the programs of a laboratory.
-ghost use Rattle.std.specs.Prelude.{◌≡◌};
-ghost use Rattle.lab_questions.specs.Programs.{judges};
+ghost use Rattle.std.specs.Prelude.{◌≡◌, ◌↔◌, IsTrue};
+ghost use Rattle.lab_questions.specs.Programs.{AsksRest, judges};
 ghost use Rattle.lab_questions.specs.Texts.{word_text};
 
 use crate::{CallWord, OutputNeed};
@@ -35,6 +35,13 @@ impl Word {
             Word::Empty => "empty",
             Word::Same => "same",
         }
+    }
+
+    /// Whether the word asks that each run comes to rest.
+    pub fn asks_rest(self) -> bool
+        ensures asks { IsTrue result ↔ AsksRest self }
+    {
+        matches!(self, Word::Ended | Word::Stuck | Word::Halted)
     }
 }
 

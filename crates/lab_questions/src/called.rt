@@ -31,15 +31,7 @@ pub(crate) fn ways_in<O: Observer>(
     if wanted.is_empty() {
         return Ok(Vec::new(alloc));
     }
-    let ways = ask_ways(alloc, fresh, limits, wanted, observer)?;
-    Ok(ways)
-}
-
-fn is_against(ways: &Ways) -> bool
-    ensures yes { IsTrue result → (s : List Block) × (ways.now ≡ Without s) }
-    ensures no { result ≡ false → (s : List Block) → ways.now ≡ Without s → ⊥ }
-{
-    matches!(ways, Ways::Without(_))
+    ask_ways(alloc, fresh, limits, wanted, observer)
 }
 
 /// The number of the first that a way shows not to be so, counted from 0.
@@ -48,18 +40,11 @@ pub(crate) fn first_against(ways: &[Ways]) -> Option<usize>
     ensures none { result ≡ None → (k : ℕ) → IsAgainst ways.now k → ⊥ }
 {
     for (number, one) in ways.iter().enumerate() {
-        if is_against(one) {
+        if let Ways::Without(_) = one {
             return Some(number);
         }
     }
     None
-}
-
-fn is_open(ways: &Ways) -> bool
-    ensures no { result ≡ false → ways.now ≡ Always }
-    ensures yes { IsTrue result → ways.now ≡ Always → ⊥ }
-{
-    !matches!(ways, Ways::Always)
 }
 
 /// Whether all that is asked is so on every way.
@@ -67,9 +52,9 @@ pub(crate) fn are_always(ways: &[Ways]) -> bool
     ensures always { IsTrue result ↔ AreAlways ways.now }
 {
     for one in ways {
-        if is_open(one) {
+        let Ways::Always = one else {
             return false;
-        }
+        };
     }
     true
 }

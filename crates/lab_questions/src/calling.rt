@@ -1,7 +1,5 @@
 //! Reading what is asked of calls.
 ghost use Rattle.std.specs.Prelude.{◌≡◌, ◌<◌, ◌≤◌, ◌++◌, ◌∷◌, [], None, true, false, IfOk, IfSome, OnOk, codes, flat_map, length, map};
-ghost use Rattle.ipc_traps.specs.Services.{service_in, service_name};
-ghost use Rattle.ipc_traps.specs.declared.service.Service.{Service as Call};
 ghost use Rattle.lc3_word.specs.Blanks.{words_between};
 ghost use Rattle.lab_questions.specs.CallWords.{call_count, kind_words, without, Say, SayOf, Asks, forbids};
 ghost use Rattle.lab_ways.specs.declared.wanted.Pattern.{Pattern as Calls};
@@ -19,33 +17,6 @@ const MOST_CALLS: u32 = 1_000;
 /// The most semaphores of which it can be asked whether they are held at one time.
 const MOST_NAMES: usize = 8;
 
-/// The call with a vector, if this is its name.
-fn service_at(vector: u8, word: &[u8]) -> Option<Service>
-    ensures some { IfSome result (λ service. service_name service ≡ word.now) }
-    ensures none { result ≡ None
-        → IfSome (service_in vector) (λ s. service_name s ≡ word.now → ⊥) }
-{
-    let service = Service::of_vector(vector)?;
-    if is_word(service.name(), word) {
-        Some(service)
-    } else {
-        None
-    }
-}
-
-/// The call of this name.
-pub fn service_named(word: &[u8]) -> Option<Service>
-    ensures some { IfSome result (λ service. service_name service ≡ word.now) }
-    ensures none { result ≡ None → (s : Call) → service_name s ≡ word.now → ⊥ }
-{
-    for vector in 0x40..0x57_u8 {
-        if let Some(service) = service_at(vector, word) {
-            return Some(service);
-        }
-    }
-    None
-}
-
 fn name_in(alloc: Global, word: &[u8]) -> Result<Option<Name>, AllocError>
     ensures name { IfOk result (λ read. IfSome read (λ name. name ≡ word.now)) }
 {
@@ -53,10 +24,7 @@ fn name_in(alloc: Global, word: &[u8]) -> Result<Option<Name>, AllocError>
     for byte in word {
         characters.push(u16::from(*byte))?;
     }
-    match Name::read(alloc, &characters)? {
-        Ok(name) => Ok(Some(name)),
-        Err(_) => Ok(None),
-    }
+    Ok(Name::read(alloc, &characters)?.ok())
 }
 
 /// Calls of one name, or those on one object.
@@ -65,35 +33,20 @@ fn kind_in(alloc: Global, words: &[&[u8]]) -> Result<Option<CallKind>, AllocErro
         map (λ word. word.now) words.now ≡ kind_words kind)) }
 {
     match words {
-        [call] => Ok(on_any(call)),
-        [call, name] => on_object(alloc, call, name),
-        _ => Ok(None),
-    }
-}
-
-fn on_any(call: &[u8]) -> Option<CallKind>
-    ensures words { IfSome result (λ kind. call.now ∷ [] ≡ kind_words kind) }
-{
-    let service = service_named(call)?;
-    Some(CallKind {
-        service,
-        object: None,
-    })
-}
-
-fn on_object(alloc: Global, call: &[u8], name: &[u8]) -> Result<Option<CallKind>, AllocError>
-    ensures words { IfOk result (λ read. IfSome read (λ kind.
-        call.now ∷ name.now ∷ [] ≡ kind_words kind)) }
-{
-    let Some(service) = service_named(call) else {
-        return Ok(None);
-    };
-    match name_in(alloc, name)? {
-        Some(name) => Ok(Some(CallKind {
+        [call] => Ok(Service::of_name(call).map(|service| CallKind {
             service,
-            object: Some(name),
+            object: None,
         })),
-        None => Ok(None),
+        [call, name] => {
+            let Some(service) = Service::of_name(call) else {
+                return Ok(None);
+            };
+            Ok(name_in(alloc, name)?.map(|name| CallKind {
+                service,
+                object: Some(name),
+            }))
+        }
+        _ => Ok(None),
     }
 }
 
@@ -109,11 +62,14 @@ fn kind_length(words: &[&[u8]]) -> usize
     }
 }
 
-/// Kinds of calls, one behind the other.
+/// Kinds of calls, one behind the other, where there is one.
 fn kinds_in(alloc: Global, words: &[&[u8]]) -> Result<Option<Vec<CallKind>>, AllocError>
     ensures words { IfOk result (λ read. IfSome read (λ kinds.
         map (λ word. word.now) words.now ≡ flat_map kind_words kinds.items)) }
 {
+    if words.is_empty() {
+        return Ok(None);
+    }
     let mut kinds = Vec::new(alloc);
     let mut rest = words;
     while !rest.is_empty() {
@@ -125,16 +81,6 @@ fn kinds_in(alloc: Global, words: &[&[u8]]) -> Result<Option<Vec<CallKind>>, All
         rest = &rest[count..];
     }
     Ok(Some(kinds))
-}
-
-fn some_kinds_in(alloc: Global, words: &[&[u8]]) -> Result<Option<Vec<CallKind>>, AllocError>
-    ensures words { IfOk result (λ read. IfSome read (λ kinds.
-        map (λ word. word.now) words.now ≡ flat_map kind_words kinds.items)) }
-{
-    if words.is_empty() {
-        return Ok(None);
-    }
-    kinds_in(alloc, words)
 }
 
 fn names_in(alloc: Global, words: &[&[u8]]) -> Result<Option<Vec<Name>>, AllocError>
@@ -177,12 +123,7 @@ fn without<'a>(alloc: Global, name: &str, words: &[&'a [u8]]) -> Result<Vec<&'a 
 pub fn call_count(word: &[u8]) -> Option<u32>
     ensures count { result ≡ call_count word.now }
 {
-    let count = unsigned(10, word)?;
-    if 1 <= count && count <= MOST_CALLS {
-        Some(count)
-    } else {
-        None
-    }
+    unsigned(10, word).filter(|count| 1 <= *count && *count <= MOST_CALLS)
 }
 
 /// So many calls of a kind, where the number is one that can be asked for.
@@ -248,46 +189,10 @@ fn together(alloc: Global, words: &[&[u8]]) -> Result<Option<Pattern>, AllocErro
     if words.is_empty() || words.len() > MOST_NAMES {
         return Ok(None);
     }
-    match names_in(alloc, &words)? {
-        Some(names) => Ok(Some(Pattern::Together(names))),
-        None => Ok(None),
-    }
+    Ok(names_in(alloc, &words)?.map(Pattern::Together))
 }
 
-fn in_order(alloc: Global, words: &[&[u8]]) -> Result<Option<Pattern>, AllocError>
-    ensures pattern { IfOk result (λ read. IfSome read (λ pattern.
-        Say (codes "calls" ∷ codes "in" ∷ codes "order" ∷ map (λ word. word.now) words.now) pattern)) }
-    ensures forbids { IfOk result (λ read. IfSome read (λ pattern. forbids pattern ≡ false)) }
-{
-    match some_kinds_in(alloc, words)? {
-        Some(kinds) => Ok(Some(Pattern::InOrder(kinds))),
-        None => Ok(None),
-    }
-}
-
-fn none_but(alloc: Global, words: &[&[u8]]) -> Result<Option<Pattern>, AllocError>
-    ensures pattern { IfOk result (λ read. IfSome read (λ pattern.
-        Say (codes "calls" ∷ codes "other" ∷ codes "than" ∷ map (λ word. word.now) words.now) pattern)) }
-    ensures forbids { IfOk result (λ read. IfSome read (λ pattern. forbids pattern ≡ true)) }
-{
-    match some_kinds_in(alloc, words)? {
-        Some(kinds) => Ok(Some(Pattern::NoneBut(kinds))),
-        None => Ok(None),
-    }
-}
-
-fn none_of(alloc: Global, words: &[&[u8]]) -> Result<Option<Pattern>, AllocError>
-    ensures pattern { IfOk result (λ read. IfSome read (λ pattern.
-        Say (codes "calls" ∷ map (λ word. word.now) words.now) pattern)) }
-    ensures forbids { IfOk result (λ read. IfSome read (λ pattern. forbids pattern ≡ true)) }
-{
-    let words = without(alloc, "or", words)?;
-    match some_kinds_in(alloc, &words)? {
-        Some(kinds) => Ok(Some(Pattern::NoneOf(kinds))),
-        None => Ok(None),
-    }
-}
-
+/// What must be so.
 fn required_in(alloc: Global, words: &[&[u8]]) -> Result<Option<Pattern>, AllocError>
     ensures pattern { IfOk result (λ read. IfSome read (λ pattern.
         Say (map (λ word. word.now) words.now) pattern)) }
@@ -296,7 +201,7 @@ fn required_in(alloc: Global, words: &[&[u8]]) -> Result<Option<Pattern>, AllocE
     match words {
         [calls, first, second, kinds @ ..]
             if is_word("calls", calls) && is_word("in", first) && is_word("order", second) => {
-            in_order(alloc, kinds)
+            Ok(kinds_in(alloc, kinds)?.map(Pattern::InOrder))
         }
         [calls, rest @ ..] if is_word("calls", calls) => often(alloc, rest),
         [holds, names @ ..] if is_word("holds", holds) => together(alloc, names),
@@ -313,9 +218,12 @@ fn forbidden_in(alloc: Global, words: &[&[u8]]) -> Result<Option<Pattern>, Alloc
     match words {
         [calls, first, second, kinds @ ..]
             if is_word("calls", calls) && is_word("other", first) && is_word("than", second) => {
-            none_but(alloc, kinds)
+            Ok(kinds_in(alloc, kinds)?.map(Pattern::NoneBut))
         }
-        [calls, rest @ ..] if is_word("calls", calls) => none_of(alloc, rest),
+        [calls, kinds @ ..] if is_word("calls", calls) => {
+            let kinds = without(alloc, "or", kinds)?;
+            Ok(kinds_in(alloc, &kinds)?.map(Pattern::NoneOf))
+        }
         _ => Ok(None),
     }
 }

@@ -1,14 +1,11 @@
 //! Why ends aren't as they are required to be.
-ghost use Rattle.std.specs.Prelude.{◌≡◌, ◌↔◌, false, List, Some, None, All, Any, IfSome, IsTrue, slice_get};
-ghost use Rattle.lab_sched.specs.declared.schedule.block.Block.{Block};
+ghost use Rattle.std.specs.Prelude.{◌≡◌, ◌↔◌, false, Some, None, All, Any, IfSome, IsTrue, slice_get};
 ghost use Rattle.lab_questions.specs.Programs.{AsksRest, Passes, IsEndless, IsUnmet, IsFailure};
-ghost use Rattle.lab_questions.specs.Outputs.{IsUnwritten};
 ghost use Rattle.lab_questions.specs.Called.{AreAlways, IsFailureOfAll};
 ghost use Rattle.lab_questions.specs.Private.CallFailures.{CallFails};
 
 use crate::called::{are_always, first_against};
 use crate::{Answer, Word};
-use lab_sched::Schedule;
 use lab_ways::Ways;
 use lab_worlds::Exploration;
 
@@ -43,51 +40,24 @@ pub(crate) fn first_unmet(answers: &[Answer]) -> Option<(Word, usize)>
     None
 }
 
-/// The number of the first output, counted from 0, that an end shows not to be as it is required.
-fn first_unwritten(faults: &[Option<usize>]) -> Option<usize>
-    ensures none { result ≡ None → All (λ f. f ≡ None) faults.now }
-    ensures some { IfSome result (λ k. IsUnwritten faults.now k) }
+/// The number of the first that is there, counted from 0.
+fn first_some<T>(all: &[Option<T>]) -> Option<usize>
+    ensures none { result ≡ None → All (λ one. one ≡ None) all.now }
+    ensures some { IfSome result (λ k. (x : T) × (slice_get all.now k ≡ Some (Some x))) }
 {
-    for (number, fault) in faults.iter().enumerate() {
-        if fault.is_some() {
+    for (number, one) in all.iter().enumerate() {
+        if let Some(_) = one {
             return Some(number);
         }
     }
     None
-}
-
-pub(crate) fn has_schedule(schedule: &Option<Schedule>) -> bool
-    ensures no { result ≡ false → schedule.now ≡ None }
-    ensures yes { IsTrue result → (s : List Block) × (schedule.now ≡ Some s) }
-{
-    matches!(schedule, Some(_))
-}
-
-/// The number of the first condition that has a schedule.
-fn first_reached(reached: &[Option<Schedule>]) -> Option<usize>
-    ensures none { result ≡ None → All (λ s. s ≡ None) reached.now }
-    ensures some { IfSome result (λ i. (s : List Block)
-        × (slice_get reached.now i ≡ Some (Some s))) }
-{
-    for (number, schedule) in reached.iter().enumerate() {
-        if has_schedule(schedule) {
-            return Some(number);
-        }
-    }
-    None
-}
-
-fn asks_rest(word: Word) -> bool
-    ensures asks { IsTrue result ↔ AsksRest word }
-{
-    matches!(word, Word::Ended | Word::Stuck | Word::Halted)
 }
 
 fn ask_rest(answers: &[Answer]) -> bool
     ensures asked { IsTrue result ↔ Any (λ a. AsksRest a.word) answers.now }
 {
     for answer in answers {
-        if asks_rest(answer.word) {
+        if answer.word.asks_rest() {
             return true;
         }
     }
@@ -125,10 +95,10 @@ fn failure_of(
     if let Some((word, _)) = first_unmet(answers) {
         return Some(Failure::Not(word));
     }
-    if let Some(number) = first_unwritten(faults) {
+    if let Some(number) = first_some(faults) {
         return Some(Failure::Output(number));
     }
-    if let Some(number) = first_reached(&found.reached) {
+    if let Some(number) = first_some(&found.reached) {
         return Some(Failure::Reached(number));
     }
     if endless {

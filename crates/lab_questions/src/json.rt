@@ -13,11 +13,11 @@ mod limit;
 mod reasons;
 mod values;
 
-use crate::json::closing::{holds_name, lasso_json, objects_told};
+use crate::json::closing::{Cycle, holds_name, objects_told};
 use crate::json::ends::ends_told;
 use crate::json::faults::{never_told, required_told};
 use crate::json::limit::Limit;
-use crate::json::reasons::limits_told;
+use crate::json::reasons::limits_json;
 use crate::json::values::{Array, Quoted, Truth};
 use crate::lines::extent_of;
 use crate::{Answers, LimitMet, Reach};
@@ -37,7 +37,6 @@ fn unit_of(walks: Option<Walks>) -> &'static str
 
 /// Begins the object with how far the exploration went.
 fn push_extent(
-    alloc: Global,
     text: &mut String,
     found: &Exploration,
     reach: Reach,
@@ -47,8 +46,7 @@ fn push_extent(
         ++ codes "{" ++ values_json (extent_members found.now reach (option_copied limit.entry))) }
 {
     let search = Quoted(extent_of(found.complete));
-    let limits = limits_told(alloc, found, reach)?;
-    let limits = Array(&limits);
+    let limits = limits_json(found, reach);
     let limit = Limit(limit);
     let unit = unit_of(reach.walks);
     let count = found.worlds;
@@ -96,7 +94,7 @@ fn push_last(alloc: Global, text: &mut String, answers: &Answers) -> Result<(), 
     let unopened = objects_told(alloc, &answers.unopened)?;
     let unopened = Array(&unopened);
     let fair = Truth(found.fair);
-    let endless = lasso_json(alloc, &found.lasso)?;
+    let endless = Cycle(&found.lasso);
     let holds = holds_name(answers.asked.judges(), answers.failure);
     write!(
         text,
@@ -117,7 +115,7 @@ pub fn answers_json(
         string_bytes line ≡ answers_line answers.now reach (option_copied limit.entry)) }
 {
     let mut text = String::new(alloc);
-    push_extent(alloc, &mut text, &answers.exploration, reach, limit)?;
+    push_extent(&mut text, &answers.exploration, reach, limit)?;
     push_found(alloc, &mut text, answers)?;
     push_last(alloc, &mut text, answers)?;
     Ok(text)

@@ -3,7 +3,7 @@ ghost use Rattle.std.specs.Prelude.{◌↔◌, IsTrue, Some};
 ghost use Rattle.lab_sched.specs.Verdicts.{AreStuck};
 ghost use Rattle.lab_questions.specs.Judgments.{Meets, IsFaultIn};
 
-use crate::processes::{have_halted, have_same_outputs, have_settled};
+use crate::processes::{have_same_outputs, have_settled};
 use crate::{Waiter, Word};
 use lab_conditions::messages_in;
 use lab_sched::{Verdict, World};
@@ -21,9 +21,9 @@ fn is_met(word: Word, waiters: &[Waiter], other: &World, world: &World) -> bool
     ensures met { IsTrue result ↔ Meets word waiters.now other.now world.now }
 {
     match word {
-        Word::Ended => have_settled(waiters, world),
+        Word::Ended => have_settled(false, waiters, world),
         Word::Stuck => is_stuck(world),
-        Word::Halted => have_halted(waiters, world),
+        Word::Halted => have_settled(true, waiters, world),
         Word::Empty => messages_in(world.kernel()) == 0,
         Word::Same => have_same_outputs(world, other),
     }

@@ -44,7 +44,16 @@ pub enum LimitMet {
 impl fmt::Display for LimitMet {
     fn fmt<W: fmt::Write>(&self, f: &mut fmt::Formatter<W>) -> fmt::Result {
         match self {
-            LimitMet::Worlds { visited, more } => write_worlds(f, *visited, *more),
+            LimitMet::Worlds { visited, more } => {
+                let visited = Grouped(*visited);
+                match more {
+                    Some(more) => write!(
+                        f,
+                        "{visited} worlds were visited (--worlds {more} visits more)"
+                    ),
+                    None => write!(f, "{visited} worlds were visited"),
+                }
+            }
             LimitMet::Steps {
                 process,
                 steps,
@@ -65,22 +74,6 @@ impl fmt::Display for LimitMet {
                 )
             }
         }
-    }
-}
-
-/// Says how many worlds were visited, and how more are.
-fn write_worlds<W: fmt::Write>(
-    f: &mut fmt::Formatter<W>,
-    visited: u32,
-    more: Option<u32>,
-) -> fmt::Result {
-    let visited = Grouped(visited);
-    match more {
-        Some(more) => write!(
-            f,
-            "{visited} worlds were visited (--worlds {more} visits more)"
-        ),
-        None => write!(f, "{visited} worlds were visited"),
     }
 }
 

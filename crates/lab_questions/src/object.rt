@@ -1,6 +1,5 @@
 //! Semaphores and queues that conditions name.
 ghost use Rattle.std.specs.Prelude.{◌≡◌, ◌++◌, All, AllPairs, Contains, IfOk, OnOk, flat_map};
-ghost use Rattle.std.specs.Option.{option_to_list};
 ghost use Rattle.lab_questions.specs.Objects.{objects_in, named, StandsBefore};
 ghost use Rattle.lab_questions.specs.Private.Presences.{AddsNew};
 
@@ -30,23 +29,15 @@ impl fmt::Display for Object {
     }
 }
 
-/// The object that a part of a condition names, if it names one.
-fn object_in(part: &Part) -> Result<Option<Object>, AllocError>
-    ensures object { IfOk result (λ object. option_to_list object ≡ objects_in part.now) }
-{
-    match part {
-        Part::Semaphore { name, .. } => Ok(Some(Object::Semaphore(name.clone()?))),
-        Part::Queue { name, .. } => Ok(Some(Object::Queue(name.clone()?))),
-        Part::Of { .. } | Part::MoreThan { .. } => Ok(None),
-    }
-}
-
+/// Adds the object that a part of a condition names, if it names one.
 fn push_object(objects: &mut Vec<Object>, part: &Part) -> Result<(), AllocError>
     ensures objects { OnOk result
         (objects.new.items ≡ objects.old.items ++ objects_in part.now) }
 {
-    if let Some(object) = object_in(part)? {
-        objects.push(object)?;
+    match part {
+        Part::Semaphore { name, .. } => objects.push(Object::Semaphore(name.clone()?))?,
+        Part::Queue { name, .. } => objects.push(Object::Queue(name.clone()?))?,
+        Part::Of { .. } | Part::MoreThan { .. } => {}
     }
     Ok(())
 }

@@ -7,7 +7,6 @@ ghost use Rattle.lab_questions.specs.Objects.{named, presence, StandsBefore};
 ghost use Rattle.lab_questions.specs.Private.Presences.{AsksFor, AddsUnseen, IsUnseen};
 
 use crate::Object;
-use crate::failure::has_schedule;
 use crate::object::named_in;
 use lab_conditions::{Condition, Never, Part, Relation};
 use lab_sched::Schedule;
@@ -86,12 +85,13 @@ fn push_unseen(
     ensures added { OnOk result
         (AddsUnseen unseen.old.items object.now schedule.now unseen.new.items) }
 {
-    if has_schedule(schedule) {
-        return Ok(());
+    match schedule {
+        Some(_) => Ok(()),
+        None => {
+            unseen.push(object.clone()?)?;
+            Ok(())
+        }
     }
-    let copy = object.clone()?;
-    unseen.push(copy)?;
-    Ok(())
 }
 
 fn unseen(

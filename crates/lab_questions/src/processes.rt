@@ -1,9 +1,8 @@
 //! How processes have come to rest.
 ghost use Rattle.std.specs.Prelude.{◌≡◌, ◌↔◌, IsTrue, slice_get};
 ghost use Rattle.std.specs.Option.{option_map};
-ghost use Rattle.lc3_machine.specs.declared.want.How.TheVariants.{Halt};
 ghost use Rattle.lab_sched.specs.Held.{process_view};
-ghost use Rattle.lab_questions.specs.Requirements.{MayWait, HasSettled, HasHalted, HaveSettled, HaveHalted, outputs};
+ghost use Rattle.lab_questions.specs.Requirements.{MayWait, HasSettled, HaveSettled, outputs};
 
 use crate::Waiter;
 use lab_sched::{Process, World};
@@ -20,49 +19,25 @@ fn may_wait(waiters: &[Waiter], pid: usize, pc: u16) -> bool
     false
 }
 
-/// Whether process `pid` has ended, or waits where it may.
-fn has_settled(waiters: &[Waiter], pid: usize, process: &Process) -> bool
-    ensures settled { IsTrue result ↔ HasSettled waiters.now pid (process_view process.now) }
+/// Whether process `pid` has ended, by HALT if that is asked, or waits where it may.
+fn has_settled(by_halt: bool, waiters: &[Waiter], pid: usize, process: &Process) -> bool
+    ensures settled { IsTrue result
+        ↔ HasSettled by_halt waiters.now pid (process_view process.now) }
 {
     match process {
         Process::Running(_) => false,
         Process::Waiting(waiting, _) => may_wait(waiters, pid, waiting.machine().pc()),
-        Process::Ended(_) => true,
+        Process::Ended(ended) => !by_halt || matches!(ended.how(), How::Halt),
     }
 }
 
-/// Whether process `pid` has ended by HALT, or waits where it may.
-fn has_halted(waiters: &[Waiter], pid: usize, process: &Process) -> bool
-    ensures halted { IsTrue result ↔ HasHalted waiters.now pid (process_view process.now) }
-{
-    match process {
-        Process::Running(_) => false,
-        Process::Waiting(waiting, _) => may_wait(waiters, pid, waiting.machine().pc()),
-        Process::Ended(ended) => matches!(ended.how(), How::Halt),
-    }
-}
-
-/// Whether each process has ended, or waits where it may.
-pub(crate) fn have_settled(waiters: &[Waiter], world: &World) -> bool
-    ensures settled { IsTrue result ↔ HaveSettled waiters.now world.now }
+/// Whether each process has ended, by HALT if that is asked, or waits where it may.
+pub(crate) fn have_settled(by_halt: bool, waiters: &[Waiter], world: &World) -> bool
+    ensures settled { IsTrue result ↔ HaveSettled by_halt waiters.now world.now }
 {
     for pid in 0..world.count() {
         if let Some(process) = world.process(pid) {
-            if !has_settled(waiters, pid, process) {
-                return false;
-            }
-        }
-    }
-    true
-}
-
-/// Whether each process has ended by HALT, or waits where it may.
-pub(crate) fn have_halted(waiters: &[Waiter], world: &World) -> bool
-    ensures halted { IsTrue result ↔ HaveHalted waiters.now world.now }
-{
-    for pid in 0..world.count() {
-        if let Some(process) = world.process(pid) {
-            if !has_halted(waiters, pid, process) {
+            if !has_settled(by_halt, waiters, pid, process) {
                 return false;
             }
         }
@@ -74,10 +49,7 @@ pub(crate) fn have_halted(waiters: &[Waiter], world: &World) -> bool
 pub(crate) fn output_of(world: &World, pid: usize) -> Option<&[u8]>
     ensures output { option_map (λ bytes. bytes.now) result ≡ slice_get (outputs world.now) pid }
 {
-    match world.process(pid) {
-        Some(process) => Some(process.machine().output()),
-        None => None,
-    }
+    Some(world.process(pid)?.machine().output())
 }
 
 pub(crate) fn have_same_outputs(world: &World, other: &World) -> bool

@@ -1,41 +1,15 @@
 //! Reading what is required of outputs.
-ghost use Rattle.std.specs.Prelude.{◌≡◌, ◌≤◌, ◌<◌, ◌++◌, ℕ, List, [], ◌∷◌, Some, None, false, IfNone, IfOk, IfSome, IsTrue, OnOk, bytes_eq, codes, drop, length, map, position, string_bytes};
-ghost use Rattle.lc3_word.specs.Blanks.{words_between};
+ghost use Rattle.std.specs.Prelude.{◌≡◌, ◌≤◌, ◌<◌, ◌++◌, ℕ, List, [], ◌∷◌, Some, None, false, IfNone, IfOk, IfSome, IsTrue, OnOk, bytes_eq, drop, length, map, position, string_bytes};
 ghost use Rattle.std.specs.List.{before_first, after_first};
 ghost use Rattle.std.specs.Option.{option_map};
-ghost use Rattle.lc3_table.specs.Statements.{escape, is_string_byte};
 ghost use Rattle.lab_questions.specs.Private.Readings.{ended, left};
 ghost use Rattle.lab_questions.specs.Written.{is_quote, before, string_in, relation_in, process_in, subject_in, linked, heading_in, front_in, need_in, part_read, parts_read, need_read};
 
 use crate::{Alternative, OutputNeed, OutputPart, OutputRelation};
+use lc3_table::{escape, is_string_byte};
 use lc3_word::{unsigned, words_between};
 use std::alloc::{AllocError, Global};
 use std::mem::replace;
-
-/// What an escape of a string writes, by the character after its backslash.
-fn escape(byte: u8) -> Option<u8>
-    ensures value { result ≡ escape byte }
-{
-    match byte {
-        b'n' => Some(b'\n'),
-        b't' => Some(b'\t'),
-        b'r' => Some(b'\r'),
-        b'a' => Some(0x07),
-        b'b' => Some(0x08),
-        b'f' => Some(0x0C),
-        b'v' => Some(0x0B),
-        b'e' => Some(0x1B),
-        b'0' => Some(0),
-        b'"' | b'\\' => Some(byte),
-        _ => None,
-    }
-}
-
-fn is_string_byte(byte: u8) -> bool
-    ensures value { result ≡ is_string_byte byte }
-{
-    matches!(byte, 0x20..=0x7E | b'\t')
-}
 
 /// Whether the quote that closes a string is next.
 fn is_closed(text: &[u8]) -> bool
@@ -162,15 +136,6 @@ fn heading_in(first: bool, words: &[&[u8]]) -> Option<Heading>
     }
 }
 
-fn heading_of(alloc: Global, first: bool, head: &[u8]) -> Result<Option<Heading>, AllocError>
-    ensures heading { IfOk result (λ found.
-        option_map (λ h. (h.begins, h.process, h.relation)) found
-        ≡ heading_in first (words_between (codes " ") head.now)) }
-{
-    let words = words_between(alloc, b" ", head)?;
-    Ok(heading_in(first, &words))
-}
-
 fn quote_in(text: &[u8]) -> Option<usize>
     ensures place { result ≡ position is_quote text.now }
     ensures within { IfSome result (λ i. i < length text.now) }
@@ -211,7 +176,8 @@ fn front_in<'a>(alloc: Global, first: bool, text: &'a [u8]) -> Result<Option<Fro
     let Some((head, string)) = cut(text) else {
         return Ok(None);
     };
-    let Some(heading) = heading_of(alloc, first, head)? else {
+    let words = words_between(alloc, b" ", head)?;
+    let Some(heading) = heading_in(first, &words) else {
         return Ok(None);
     };
     let Some(Quoted { bytes, rest }) = string_in(alloc, string)? else {
@@ -228,25 +194,6 @@ fn front_in<'a>(alloc: Global, first: bool, text: &'a [u8]) -> Result<Option<Fro
     }))
 }
 
-/// Ends the alternative with some parts, where another begins.
-fn end_if(
-    alloc: Global,
-    alternatives: &mut Vec<Alternative>,
-    parts: &mut Vec<OutputPart>,
-    begins: bool,
-) -> Result<(), AllocError>
-    ensures alternatives { OnOk result (need_read alternatives.new.items
-        ≡ ended begins (need_read alternatives.old.items) (parts_read parts.old.items)) }
-    ensures parts { OnOk result (parts_read parts.new.items
-        ≡ left begins (parts_read parts.old.items)) }
-{
-    if begins {
-        let parts = replace(parts, Vec::new(alloc));
-        alternatives.push(Alternative { parts })?;
-    }
-    Ok(())
-}
-
 /// Adds a part to those of an alternative, or ends that and begins another with it.
 fn add(
     alloc: Global,
@@ -260,8 +207,12 @@ fn add(
     ensures parts { OnOk result (parts_read parts.new.items
         ≡ left begins (parts_read parts.old.items) ++ part_read part ∷ []) }
 {
-    end_if(alloc, alternatives, parts, begins)?;
-    parts.push(part)?;
+    if !begins {
+        parts.push(part)?;
+        return Ok(());
+    }
+    let parts = replace(parts, vec![in alloc; part]?);
+    alternatives.push(Alternative { parts })?;
     Ok(())
 }
 

@@ -1,12 +1,12 @@
 //! Schedules that show why ends aren't as they are required to be.
-ghost use Rattle.std.specs.Prelude.{◌≡◌, ◌⊎◌, ℕ, ◌≤◌, List, None, Some, All, Any, IfOk, IfSome, length, slice_get, string_bytes, ◌++◌, codes};
-ghost use Rattle.lab_sched.specs.ScheduleTexts.{schedule_text};
+ghost use Rattle.std.specs.Prelude.{◌≡◌, ◌⊎◌, ℕ, ◌≤◌, List, None, Some, Ok, All, Any, IfOk, IfSome, length, slice_get, string_bytes};
+ghost use Rattle.lab_sched.specs.ScheduleTexts.{reading};
 ghost use Rattle.lab_sched.specs.declared.schedule.block.Block.{Block};
 ghost use Rattle.lab_questions.specs.declared.failure.Failure.TheVariants.{Not, Output, Reached, Endless, Call, Incomplete};
 ghost use Rattle.lab_questions.specs.declared.asked.Word.{Word};
 ghost use Rattle.lab_ways.specs.declared.ways.Ways.TheVariants.{Without};
 ghost use Rattle.lab_questions.specs.Called.{ShowsWay};
-ghost use Rattle.lab_questions.specs.Texts.{IsBeyond, IsTooLong, ShowsFault, ShowsOutput, ShowsReached, ShowsLasso};
+ghost use Rattle.lab_questions.specs.Texts.{IsBeyond, IsTooLong, round_text, ShowsFault, ShowsOutput, ShowsReached, ShowsLasso};
 
 use crate::called::way_schedule;
 use crate::failure::first_unmet;
@@ -74,27 +74,31 @@ fn reached_schedule(
     }
 }
 
-/// The texts of the schedule of a lasso and of its steps, with a blank between.
-fn lasso_text(alloc: Global, lasso: &Lasso) -> Result<String, AllocError>
-    ensures text { IfOk result (λ text. string_bytes text ≡ schedule_text lasso.now.schedule
-        ++ codes " " ++ schedule_text lasso.now.steps) }
+/// The schedule of a lasso with its steps behind it, as one schedule, unless they are too many for one.
+pub fn through_round(alloc: Global, lasso: &Lasso) -> Result<Option<Schedule>, AllocError>
+    ensures whole { IfOk result (λ read. IfSome read (λ whole.
+        reading (round_text lasso.now) ≡ Ok whole)) }
+    ensures none { IfOk result (λ read. read ≡ None → IsTooLong lasso.now) }
 {
-    let mut text = lasso.schedule.text(alloc)?;
-    text.push_str(" ")?;
-    text.push_str(&lasso.steps.text(alloc)?)?;
-    Ok(text)
+    let before = &lasso.schedule;
+    let round = &lasso.steps;
+    let text = format!(in alloc; "{before} {round}")?;
+    match Schedule::read(alloc, &text) {
+        Ok(whole) => Ok(Some(whole)),
+        Err(SchedFault::NoMemory) => Err(AllocError),
+        Err(SchedFault::BadBlock { .. }) | Err(SchedFault::TooLong { .. }) => Ok(None),
+    }
 }
 
-/// The text of the schedule of a lasso with its steps behind it, as one schedule, unless they are too many for one.
+/// The text of that schedule.
 fn lasso_schedule(alloc: Global, lasso: &Lasso) -> Result<Option<String>, AllocError>
     ensures lasso { IfOk result (λ shown. IfSome shown (λ text.
         ShowsLasso lasso.now (string_bytes text))) }
     ensures none { IfOk result (λ shown. shown ≡ None → IsTooLong lasso.now) }
 {
-    match Schedule::read(alloc, &lasso_text(alloc, lasso)?) {
-        Ok(whole) => Ok(Some(whole.text(alloc)?)),
-        Err(SchedFault::NoMemory) => Err(AllocError),
-        Err(SchedFault::BadBlock { .. }) | Err(SchedFault::TooLong { .. }) => Ok(None),
+    match through_round(alloc, lasso)? {
+        Some(whole) => Ok(Some(whole.text(alloc)?)),
+        None => Ok(None),
     }
 }
 

@@ -1,14 +1,14 @@
 //! The lines of answers.
 ghost use Rattle.std.specs.Prelude.{◌≡◌, ◌++◌, Some, map, OnOk, IfOk, string_bytes};
-ghost use Rattle.lab_questions.specs.Called.{call_head, call_lines, calls_lines};
+ghost use Rattle.lab_questions.specs.Called.{call_lines, calls_lines};
 ghost use Rattle.lab_questions.specs.EndTexts.{text_of, told_ends, AreTold, lasso_text};
 ghost use Rattle.lab_questions.specs.Texts.{answer_lines, word_lines, need_lines, needs_lines, condition_lines, reached_lines, last_lines, judged_lines, answers_text};
 
-use crate::lines::{Steps, extent_of, steps_at};
+use crate::lines::{extent_of, steps_at};
 use crate::told::{Told, told_of};
 use crate::{Answer, Asked, CallWord, OutputNeed, Word};
 use lab_conditions::Never;
-use lab_sched::Schedule;
+use lab_sched::{Schedule, Steps};
 use lab_ways::Ways;
 use lab_worlds::{End, Exploration, Lasso};
 use std::alloc::{AllocError, Global};
@@ -71,13 +71,6 @@ impl fmt::Display for OutputLines<'_> {
     }
 }
 
-/// How the line begins of what isn't so.
-fn call_head(never: bool) -> &'static str
-    ensures text { result.now ≡ call_head never }
-{
-    if never { "reached " } else { "uncalled " }
-}
-
 /// The lines of what is asked of calls, if a way shows that it isn't so.
 #[derive(Clone, Copy)]
 struct CallLines<'a>(&'a CallWord, &'a Ways);
@@ -89,10 +82,13 @@ impl fmt::Display for CallLines<'_> {
     fn fmt<W: fmt::Write>(&self, f: &mut fmt::Formatter<W>) -> fmt::Result {
         match self.1 {
             Ways::Without(schedule) => {
-                let head = call_head(self.0.never);
                 let asked = self.0.text.as_str();
                 let steps = Steps(schedule.blocks());
-                write!(f, "{head}{asked}\nschedule {steps}\n")
+                if self.0.never {
+                    write!(f, "reached {asked}\nschedule {steps}\n")
+                } else {
+                    write!(f, "uncalled {asked}\nschedule {steps}\n")
+                }
             }
             Ways::Always | Ways::Unknown => Ok(()),
         }

@@ -5,8 +5,8 @@ ghost use Rattle.lab_questions.specs.EndTexts.{text_of, told_ends, ends_text, Ar
 ghost use Rattle.lab_questions.specs.Private.Told.{TellsNext};
 
 use crate::Show;
-use crate::lines::Steps;
 use crate::shown::shown_text;
+use lab_sched::Steps;
 use lab_worlds::End;
 use std::alloc::{AllocError, Global};
 use std::fmt::Write;

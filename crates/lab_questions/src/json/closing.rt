@@ -1,11 +1,13 @@
 //! What stands at the end of the answers.
-ghost use Rattle.std.specs.Prelude.{◌≡◌, IfOk, map, string_bytes};
-ghost use Rattle.lab_questions.specs.Members.{objects_told, cycle_json, lasso_json, holds_json};
+ghost use Rattle.std.specs.Prelude.{◌≡◌, Some, IfOk, map, string_bytes};
+ghost use Rattle.lab_questions.specs.Members.{objects_told, lasso_json, holds_json};
 
-use crate::json::values::{Text, schedule_json};
+use crate::json::values::{StepsValue, Text};
 use crate::{Failure, Object};
+use lab_sched::Steps;
 use lab_worlds::Lasso;
 use std::alloc::{AllocError, Global};
+use std::fmt;
 
 /// Objects, each as a condition names it.
 pub(crate) fn objects_told(alloc: Global, objects: &[Object]) -> Result<Vec<String>, AllocError>
@@ -22,22 +24,21 @@ pub(crate) fn objects_told(alloc: Global, objects: &[Object]) -> Result<Vec<Stri
     Ok(values)
 }
 
-#[tactic(auto, using(crate::proofs::MemberLemmas::cycle_told))]
-fn cycle_json(alloc: Global, lasso: &Lasso) -> Result<String, AllocError>
-    ensures value { IfOk result (λ value. string_bytes value ≡ cycle_json lasso.now) }
-{
-    let schedule = schedule_json(alloc, &lasso.schedule)?;
-    let round = schedule_json(alloc, &lasso.steps)?;
-    format!(in alloc; "{{\"schedule\":{schedule},\"round\":{round}}}")
-}
-
 /// A lasso, or `null`.
-pub(crate) fn lasso_json(alloc: Global, lasso: &Option<Lasso>) -> Result<String, AllocError>
-    ensures value { IfOk result (λ value. string_bytes value ≡ lasso_json lasso.now) }
-{
-    match lasso {
-        Some(lasso) => cycle_json(alloc, lasso),
-        None => String::from_str(alloc, "null"),
+#[derive(Clone, Copy)]
+pub(crate) struct Cycle<'a>(pub &'a Option<Lasso>);
+
+impl fmt::Display for Cycle<'_> {
+    ghost output = { λ r. Some (lasso_json r.0.now) };
+
+    #[tactic(auto, using(crate::proofs::MemberLemmas::cycle_told))]
+    fn fmt<W: fmt::Write>(&self, f: &mut fmt::Formatter<W>) -> fmt::Result {
+        let Some(lasso) = self.0 else {
+            return write!(f, "null");
+        };
+        let schedule = StepsValue(Steps(lasso.schedule.blocks()));
+        let round = StepsValue(Steps(lasso.steps.blocks()));
+        write!(f, "{{\"schedule\":{schedule},\"round\":{round}}}")
     }
 }
 

@@ -1,5 +1,5 @@
 //! Ends as JSON.
-ghost use Rattle.std.specs.Prelude.{◌≡◌, false, Some, IfOk, map, slice_get, string_bytes};
+ghost use Rattle.std.specs.Prelude.{◌≡◌, Some, IfOk, map, slice_get, string_bytes};
 ghost use Rattle.lab_sched.specs.Held.{process_view};
 ghost use Rattle.lab_texts.specs.Texts.{place_text};
 ghost use Rattle.lab_questions.specs.Findings.{end_json, end_or_null, ends_told};
@@ -9,8 +9,8 @@ ghost use Rattle.lab_questions.specs.Values.{further_json, name_json};
 
 use crate::Show;
 use crate::json::left::left_json;
-use crate::json::values::{Array, Quoted, Text, WordValue, schedule_json};
-use lab_sched::{Process, World};
+use crate::json::values::{Array, Quoted, StepsValue, Text, WordValue};
+use lab_sched::{Process, Steps, World};
 use lab_texts::how_name;
 use lab_worlds::End;
 use lc3_machine::Machine;
@@ -66,27 +66,6 @@ impl fmt::Display for Stop<'_> {
     }
 }
 
-/// A process, by where it stands and what it has written.
-#[derive(Clone, Copy)]
-struct Whole<'a>(&'a Process);
-
-impl fmt::Display for Whole<'_> {
-    ghost output = { λ p. Some (process_json false (process_view p.0.now)) };
-
-    #[tactic(auto, using(crate::proofs::MemberLemmas::process_told))]
-    fn fmt<W: fmt::Write>(&self, f: &mut fmt::Formatter<W>) -> fmt::Result {
-        let machine = self.0.machine();
-        let status = Quoted(status_name(self.0));
-        let pc = WordValue(machine.pc());
-        let stop = Stop(self.0);
-        let output = Text(machine.output());
-        write!(
-            f,
-            "{{\"status\":{status},\"pc\":{pc},{stop},\"out\":{output}}}"
-        )
-    }
-}
-
 /// A process, or what it has written alone.
 #[derive(Clone, Copy)]
 struct ProcessValue<'a> {
@@ -97,14 +76,20 @@ struct ProcessValue<'a> {
 impl fmt::Display for ProcessValue<'_> {
     ghost output = { λ p. Some (process_json p.out (process_view p.process.now)) };
 
-    #[tactic(auto, unfolding(crate::specs::ProcessMembers::process_json))]
+    #[tactic(auto, using(crate::proofs::MemberLemmas::output_told, crate::proofs::MemberLemmas::process_told))]
     fn fmt<W: fmt::Write>(&self, f: &mut fmt::Formatter<W>) -> fmt::Result {
+        let machine = self.process.machine();
+        let output = Text(machine.output());
         if self.out {
-            let output = Text(self.process.machine().output());
             return write!(f, "{{\"out\":{output}}}");
         }
-        let whole = Whole(self.process);
-        write!(f, "{whole}")
+        let status = Quoted(status_name(self.process));
+        let pc = WordValue(machine.pc());
+        let stop = Stop(self.process);
+        write!(
+            f,
+            "{{\"status\":{status},\"pc\":{pc},{stop},\"out\":{output}}}"
+        )
     }
 }
 
@@ -146,7 +131,7 @@ fn end_json(alloc: Global, show: Show, number: usize, end: &End) -> Result<Strin
 {
     let processes = processes_of(alloc, &end.world, show.out)?;
     let left = left_member(alloc, &end.world, show.left)?;
-    let schedule = schedule_json(alloc, &end.schedule)?;
+    let schedule = StepsValue(Steps(end.schedule.blocks()));
     let processes = Array(&processes);
     let verdict = Quoted(end.verdict.word());
     format!(in alloc;

@@ -1,14 +1,13 @@
 //! What isn't as it has to be, as JSON.
-ghost use Rattle.std.specs.Prelude.{◌≡◌, ◌++◌, ◌∷◌, [], IfOk, OnOk, map, option_map, string_bytes};
+ghost use Rattle.std.specs.Prelude.{◌≡◌, ◌++◌, IfOk, OnOk, map, option_map, string_bytes};
 ghost use Rattle.std.specs.Option.{option_to_list};
-ghost use Rattle.lab_questions.specs.Findings.{required_json, never_json, call_json, call_told, calls_told, fault_schedules, fault_told, faults_told, output_told, outputs_told, reached_if, reached_told, required_told, never_told};
-ghost use Rattle.lab_questions.specs.Texts.{schedule_at};
-ghost use Rattle.lab_questions.specs.Values.{schedule_json};
+ghost use Rattle.lab_questions.specs.Findings.{call_told, calls_told, fault_told, faults_told, output_told, outputs_told, reached_if, reached_told, required_told, never_told};
 
-use crate::json::values::{Array, Text, schedule_json};
+use crate::json::values::{StepsValue, Text};
+use crate::lines::steps_at;
 use crate::{Answer, Answers, CallWord, OutputNeed, Word};
 use lab_conditions::Never;
-use lab_sched::Schedule;
+use lab_sched::{Schedule, Steps};
 use lab_ways::Ways;
 use lab_worlds::End;
 use std::alloc::{AllocError, Global};
@@ -24,69 +23,8 @@ fn push_some(values: &mut Vec<String>, value: Option<String>) -> Result<(), Allo
     Ok(())
 }
 
-/// What is required, as it was written, and isn't so, with schedules that show it.
-#[tactic(auto, using(crate::proofs::MemberLemmas::required_told))]
-fn required_json(alloc: Global, asked: &[u8], schedules: &[String]) -> Result<String, AllocError>
-    ensures value { IfOk result (λ value. string_bytes value
-        ≡ required_json asked.now (map string_bytes schedules.now)) }
-{
-    let asked = Text(asked);
-    let schedules = Array(schedules);
-    format!(in alloc; "{{\"require\":{asked},\"schedules\":{schedules}}}")
-}
-
-/// What is required, as it was written, and isn't so, with a schedule that shows it.
-fn required_by(alloc: Global, asked: &[u8], schedule: &Schedule) -> Result<String, AllocError>
-    ensures value { IfOk result (λ value. string_bytes value
-        ≡ required_json asked.now (schedule_json schedule.now ∷ [])) }
-{
-    let schedule = schedule_json(alloc, schedule)?;
-    let schedules = vec![in alloc; schedule]?;
-    required_json(alloc, asked, &schedules)
-}
-
-/// What must never be so, as it was written, and is, with a schedule that shows it.
-#[tactic(auto, using(crate::proofs::MemberLemmas::never_told))]
-fn never_json(alloc: Global, asked: &[u8], schedule: &Schedule) -> Result<String, AllocError>
-    ensures value { IfOk result (λ value.
-        string_bytes value ≡ never_json asked.now schedule.now) }
-{
-    let asked = Text(asked);
-    let schedule = schedule_json(alloc, schedule)?;
-    format!(in alloc; "{{\"never\":{asked},\"schedule\":{schedule}}}")
-}
-
-/// The schedule of end number `number`, counted from 0.
-fn schedule_at(alloc: Global, ends: &[End], number: usize) -> Result<String, AllocError>
-    ensures value { IfOk result (λ value.
-        string_bytes value ≡ schedule_json (schedule_at ends.now number)) }
-{
-    match ends.get(number) {
-        Some(end) => schedule_json(alloc, &end.schedule),
-        None => schedule_json(alloc, &Schedule::new(alloc)),
-    }
-}
-
-fn fault_schedules(
-    alloc: Global,
-    ends: &[End],
-    word: Word,
-    number: usize,
-) -> Result<Vec<String>, AllocError>
-    ensures values { IfOk result (λ values.
-        map string_bytes values.items ≡ fault_schedules ends.now word number) }
-{
-    let other = schedule_at(alloc, ends, number)?;
-    match word {
-        Word::Same => {
-            let first = schedule_at(alloc, ends, 0)?;
-            Ok(vec![in alloc; first, other]?)
-        }
-        Word::Ended | Word::Stuck | Word::Halted | Word::Empty => Ok(vec![in alloc; other]?),
-    }
-}
-
 /// A word, if it isn't so.
+#[tactic(auto, using(crate::proofs::MemberLemmas::required_told, crate::proofs::MemberLemmas::both_told))]
 fn fault_told(alloc: Global, ends: &[End], answer: Answer) -> Result<Option<String>, AllocError>
     ensures value { IfOk result (λ value. option_map string_bytes value
         ≡ fault_told ends.now answer.word answer.fault) }
@@ -94,11 +32,24 @@ fn fault_told(alloc: Global, ends: &[End], answer: Answer) -> Result<Option<Stri
     let Some(number) = answer.fault else {
         return Ok(None);
     };
-    let schedules = fault_schedules(alloc, ends, answer.word, number)?;
-    let value = required_json(alloc, answer.word.text().as_bytes(), &schedules)?;
-    Ok(Some(value))
+    let asked = Text(answer.word.text().as_bytes());
+    let steps = StepsValue(steps_at(ends, number));
+    match answer.word {
+        Word::Same => {
+            let first = StepsValue(steps_at(ends, 0));
+            let value = format!(in alloc;
+                "{{\"require\":{asked},\"schedules\":[{first},{steps}]}}"
+            )?;
+            Ok(Some(value))
+        }
+        Word::Ended | Word::Stuck | Word::Halted | Word::Empty => {
+            let value = format!(in alloc; "{{\"require\":{asked},\"schedules\":[{steps}]}}")?;
+            Ok(Some(value))
+        }
+    }
 }
 
+#[tactic(auto, using(crate::proofs::MemberLemmas::required_told))]
 fn output_told(
     alloc: Global,
     ends: &[End],
@@ -111,24 +62,14 @@ fn output_told(
     let Some(number) = fault else {
         return Ok(None);
     };
-    let schedule = schedule_at(alloc, ends, number)?;
-    let schedules = vec![in alloc; schedule]?;
-    let value = required_json(alloc, need.text.as_bytes(), &schedules)?;
+    let asked = Text(need.text.as_bytes());
+    let schedule = StepsValue(steps_at(ends, number));
+    let value = format!(in alloc; "{{\"require\":{asked},\"schedules\":[{schedule}]}}")?;
     Ok(Some(value))
 }
 
-fn call_json(alloc: Global, word: &CallWord, schedule: &Schedule) -> Result<String, AllocError>
-    ensures value { IfOk result (λ value.
-        string_bytes value ≡ call_json word.now schedule.now) }
-{
-    if word.never {
-        never_json(alloc, word.text.as_bytes(), schedule)
-    } else {
-        required_by(alloc, word.text.as_bytes(), schedule)
-    }
-}
-
 /// What is asked of calls, if a way shows that it isn't so, of what must never be so, or of what must.
+#[tactic(auto, using(crate::proofs::MemberLemmas::required_told, crate::proofs::MemberLemmas::never_told))]
 fn call_told(
     alloc: Global,
     never: bool,
@@ -144,10 +85,17 @@ fn call_told(
     if word.never != never {
         return Ok(None);
     }
-    let value = call_json(alloc, word, schedule)?;
+    let asked = Text(word.text.as_bytes());
+    let schedule = StepsValue(Steps(schedule.blocks()));
+    if word.never {
+        let value = format!(in alloc; "{{\"never\":{asked},\"schedule\":{schedule}}}")?;
+        return Ok(Some(value));
+    }
+    let value = format!(in alloc; "{{\"require\":{asked},\"schedules\":[{schedule}]}}")?;
     Ok(Some(value))
 }
 
+#[tactic(auto, using(crate::proofs::MemberLemmas::never_told))]
 fn reached_if(
     alloc: Global,
     condition: &Never,
@@ -159,7 +107,9 @@ fn reached_if(
     let Some(schedule) = reached else {
         return Ok(None);
     };
-    let value = never_json(alloc, condition.text().as_bytes(), schedule)?;
+    let asked = Text(condition.text().as_bytes());
+    let schedule = StepsValue(Steps(schedule.blocks()));
+    let value = format!(in alloc; "{{\"never\":{asked},\"schedule\":{schedule}}}")?;
     Ok(Some(value))
 }
 

@@ -1,11 +1,10 @@
 //! Values of JSON.
-ghost use Rattle.std.specs.Prelude.{◌≡◌, Some, IfOk, map, string_bytes};
+ghost use Rattle.std.specs.Prelude.{Some, map, string_bytes};
 ghost use Rattle.lab_questions.specs.ProcessMembers.{word_json};
 ghost use Rattle.lab_questions.specs.Values.{number_json, character_json, text_json, schedule_json, truth_json, values_json, array_json, name_json};
 
-use lab_sched::Schedule;
+use lab_sched::Steps;
 use lc3_word::Hex;
-use std::alloc::{AllocError, Global};
 use std::fmt;
 
 /// A character by its number.
@@ -135,10 +134,16 @@ impl fmt::Display for Array<'_> {
     }
 }
 
-pub(crate) fn schedule_json(alloc: Global, schedule: &Schedule) -> Result<String, AllocError>
-    ensures value { IfOk result (λ value. string_bytes value ≡ schedule_json schedule.now) }
-{
-    let steps = schedule.text(alloc)?;
-    let steps = Text(steps.as_bytes());
-    format!(in alloc; "{steps}")
+/// A schedule as a text, none of whose characters stands otherwise there.
+#[derive(Clone, Copy)]
+pub(crate) struct StepsValue<'a>(pub Steps<'a>);
+
+impl fmt::Display for StepsValue<'_> {
+    ghost output = { λ s. Some (schedule_json s.0.0.now) };
+
+    #[tactic(auto, using(crate::proofs::ScheduleValues::schedule_is_plain))]
+    fn fmt<W: fmt::Write>(&self, f: &mut fmt::Formatter<W>) -> fmt::Result {
+        let steps = self.0;
+        write!(f, "\"{steps}\"")
+    }
 }

@@ -9,13 +9,13 @@ loop-one-preserved c =
     let ways = c.args.ways.now in
     let i = c.loop-one.one-index in
     all_more (λ w. w ≡ Always) ways i c.loop-one-test.true c.loop-one.invariant
-    (λ d. sym (c.one-item.is ∙ get_or_default ways i c.one-item.result d c.loop-one-test.true) ∙ c.is_open.ensures.no c.if-is_open.false)
+    (λ d. sym (c.one-item.is ∙ get_or_default ways i c.one-item.result d c.loop-one-test.true) ∙ c.in-Always.is)
 
-pub returns-then-is_open : goal.returns-then-is_open
-returns-then-is_open c = record {
+pub returns-in_default : goal.returns-in_default
+returns-in_default c = record {
   always = (
     λ no. absurd (let f : false ≡ true = no in cc),
-    λ all. absurd (c.is_open.ensures.yes c.if-is_open.true (c.one-item.is ∙ all c.loop-one.one-index c.one-item.result c.loop-one-test.true)),
+    λ all. absurd (c.in_default.not-Always (c.one-item.is ∙ all c.loop-one.one-index c.one-item.result c.loop-one-test.true)),
   );
 }
 

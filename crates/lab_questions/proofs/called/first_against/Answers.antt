@@ -5,6 +5,12 @@ use Rattle.lab_ways.specs.declared.ways.Ways.{Ways}
 use Rattle.lab_ways.specs.declared.ways.Ways.TheVariants.{Without}
 use Rattle.lab_questions.proofs.called.first_against.Goals as goal
 
+pub returns-in-Without-clause-some : goal.returns-in-Without-clause-some
+returns-in-Without-clause-some c =
+    let ways = c.args.ways.now in
+    let n = c.loop-number.number in
+    (c.in-Without.field-0, slice_get-get_or ways n _ c.loop-number-test.true ∙ ap Some (sym c.index-ways-number.is ∙ c.in-Without.is))
+
 pub loop-number-preserved : goal.loop-number-preserved
 loop-number-preserved c k s below at =
     let ways = c.args.ways.now in
@@ -16,7 +22,7 @@ loop-number-preserved c k s below at =
     (λ t there.
     let some : ◌≡◌ {A = Option Ways} (Some one) (Some (Without t)) = sym here ∙ there in
     let is : one ≡ Without t = cc in
-    c.is_against.ensures.no c.if-is_against.false t is)
+    c.in_default.not-Without t is)
     k below s at
 
 pub returns-clause-none : goal.returns-clause-none

@@ -1,8 +1,0 @@
-use Rattle.std.proofs.Common.{ℕ, ◌≡◌, ◌<◌, Some, slice_get}
-use Rattle.lab_sched.specs.Worlds.{Process}
-use Rattle.lab_questions.specs.Requirements.{HasHalted}
-use Rattle.lab_questions.proofs.processes.have_halted.Given as goal
-
--- the processes so far are so
-abbrev pub invariant-loop-pid : goal.invariant-loop-pid
-invariant-loop-pid l = (p : ℕ) (s : Process) → p < l.pid → slice_get l.world.processes p ≡ Some s → HasHalted l.waiters p s
