@@ -18,12 +18,6 @@ any_with P xs ys (i, y, within, at, p) = (i, y, grind (arith, common_steps), gri
 pub asked_with : (nevers more : List Never) (text : List ℕ) → IsAsked nevers text → IsAsked (nevers ++ more) text
 asked_with nevers more text asked n w = any_with (Writes text) nevers more (asked n w)
 
--- one text more that is asked
-pub asked_more : (nevers more : List Never) (texts : List (List ℕ)) (text : List ℕ) → All (IsAsked nevers) texts → IsAsked (nevers ++ more) text
-    → All (IsAsked (nevers ++ more)) (texts ++ text ∷ [])
-asked_more nevers more texts text all last =
-    All-push (IsAsked (nevers ++ more)) texts text (λ k d within. asked_with nevers more (get_or texts k d) (all k d within)) last
-
 -- what a text writes is asked where it stands behind others
 pub asked_read : (nevers : List Never) (n : Never) (text : List ℕ) → Writes text n → IsAsked (nevers ++ n ∷ []) text
 asked_read nevers n text w m v = Any-push (Writes text) nevers n w
@@ -39,49 +33,33 @@ pub asked_unread : (nevers : List Never) (text : List ℕ) → condition_in text
     → IsAsked nevers text
 asked_unread nevers text none lost refused n w = absurd (writes_none text n none lost refused w)
 
--- the words so far with one more, which is asked
-pub asked_next : (nevers more next : List Never) (words : List (Bor (List ℕ))) (i : ℕ) (d : Bor (List ℕ)) → i < length words → next ≡ nevers ++ more
-    → All (IsAsked nevers) (map (λ word. word.now) (take i words)) → IsAsked next (get_or words i d).now
-    → All (IsAsked next) (map (λ word. word.now) (take (i + 1) words))
-asked_next nevers more next words i d within is all last =
-    let seen : Bor (List ℕ) → List ℕ = λ word. word.now in
-    let split : map seen (take (i + 1) words) ≡ map seen (take i words) ++ (get_or words i d).now ∷ [] =
-    ap (map seen) (take_more words i d within) ∙ map-append seen (take i words) (get_or words i d ∷ []) in
-    let here : IsAsked (nevers ++ more) (get_or words i d).now = subst (λ ns. IsAsked ns (get_or words i d).now) is last in
-    subst (λ texts. All (IsAsked next) texts) (sym split)
-    (subst (λ ns. All (IsAsked ns) (map seen (take i words) ++ (get_or words i d).now ∷ [])) (sym is)
-    (asked_more nevers more (map seen (take i words)) (get_or words i d).now all here))
-
--- all words, where there are no more
-pub asked_all : (nevers : List Never) (words : List (Bor (List ℕ))) (i : ℕ) → length words ≤ i → All (IsAsked nevers) (map (λ word. word.now) (take i words))
-    → All (IsAsked nevers) (map (λ word. word.now) words)
-asked_all nevers words i done all = subst (λ (ws : List (Bor (List ℕ))). All (IsAsked nevers) (map (λ word. word.now) ws)) (take_all i words done) all
-
 -- what is asked of calls stays asked, where more is
-called_with : (never : Bool) (wanted more : List Wanted) (text : List ℕ) → IsAskedOfCalls never wanted text → IsAskedOfCalls never (wanted ++ more) text
+pub called_with : (never : Bool) (wanted more : List Wanted) (text : List ℕ) → IsAskedOfCalls never wanted text → IsAskedOfCalls never (wanted ++ more) text
 called_with never wanted more text asked w = any_with (AsksSo never text) wanted more (asked w)
 
 -- it is asked where it stands behind others
 pub called_last : (never : Bool) (wanted : List Wanted) (one : Wanted) (text : List ℕ) → AsksSo never text one → IsAskedOfCalls never (wanted ++ one ∷ []) text
 called_last never wanted one text asks w = Any-push (AsksSo never text) wanted one asks
 
--- of all these words it stays asked
-pub called_still : (never : Bool) (wanted more next : List Wanted) (texts : List (List ℕ)) → next ≡ wanted ++ more → All (IsAskedOfCalls never wanted) texts → All (IsAskedOfCalls never next) texts
-called_still never wanted more next texts is all k d within =
-    subst (λ ws. IsAskedOfCalls never ws (get_or texts k d)) (sym is) (called_with never wanted more (get_or texts k d) (all k d within))
+-- of all these texts it stays asked
+pub still_asked : {W : Type 0} (P : List W → List ℕ → Type 0) → ((ws more : List W) (text : List ℕ) → P ws text → P (ws ++ more) text)
+    → (ws more next : List W) (texts : List (List ℕ)) → next ≡ ws ++ more → All (P ws) texts → All (P next) texts
+still_asked P stays ws more next texts is all k d within =
+    subst (λ asked. P asked (get_or texts k d)) (sym is) (stays ws more (get_or texts k d) (all k d within))
 
 -- the words so far with one more, of which it is asked
-pub called_next : (never : Bool) (wanted more next : List Wanted) (words : List (Bor (List ℕ))) (i : ℕ) (d : Bor (List ℕ)) → i < length words → next ≡ wanted ++ more
-    → All (IsAskedOfCalls never wanted) (map (λ word. word.now) (take i words)) → IsAskedOfCalls never next (get_or words i d).now
-    → All (IsAskedOfCalls never next) (map (λ word. word.now) (take (i + 1) words))
-called_next never wanted more next words i d within is all last =
+pub asked_next : {W : Type 0} (P : List W → List ℕ → Type 0) → ((ws more : List W) (text : List ℕ) → P ws text → P (ws ++ more) text)
+    → (ws more next : List W) (words : List (Bor (List ℕ))) (i : ℕ) (d : Bor (List ℕ)) → i < length words → next ≡ ws ++ more
+    → All (P ws) (map (λ word. word.now) (take i words)) → P next (get_or words i d).now
+    → All (P next) (map (λ word. word.now) (take (i + 1) words))
+asked_next P stays ws more next words i d within is all last =
     let seen : Bor (List ℕ) → List ℕ = λ word. word.now in
     let split : map seen (take (i + 1) words) ≡ map seen (take i words) ++ (get_or words i d).now ∷ [] =
     ap (map seen) (take_more words i d within) ∙ map-append seen (take i words) (get_or words i d ∷ []) in
-    subst (λ texts. All (IsAskedOfCalls never next) texts) (sym split)
-    (All-push (IsAskedOfCalls never next) (map seen (take i words)) (get_or words i d).now (called_still never wanted more next (map seen (take i words)) is all) last)
+    subst (λ texts. All (P next) texts) (sym split)
+    (All-push (P next) (map seen (take i words)) (get_or words i d).now (still_asked P stays ws more next (map seen (take i words)) is all) last)
 
 -- all words, where there are no more
-pub called_all : (never : Bool) (wanted : List Wanted) (words : List (Bor (List ℕ))) (i : ℕ) → length words ≤ i → All (IsAskedOfCalls never wanted) (map (λ word. word.now) (take i words))
-    → All (IsAskedOfCalls never wanted) (map (λ word. word.now) words)
-called_all never wanted words i done all = subst (λ (ws : List (Bor (List ℕ))). All (IsAskedOfCalls never wanted) (map (λ word. word.now) ws)) (take_all i words done) all
+pub asked_all : (P : List ℕ → Type 0) (words : List (Bor (List ℕ))) (i : ℕ) → length words ≤ i → All P (map (λ word. word.now) (take i words))
+    → All P (map (λ word. word.now) words)
+asked_all P words i done all = subst (λ (ws : List (Bor (List ℕ))). All P (map (λ word. word.now) ws)) (take_all i words done) all

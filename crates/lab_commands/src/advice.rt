@@ -11,10 +11,10 @@ use std::fmt::Write;
 pub(crate) fn reached<'a>(first: Place, words: &[&'a str]) -> (Option<&'a str>, Place) {
     let mut place = first;
     for word in words {
-        match place.behind(word) {
-            Some(next) => place = next,
-            None => return (Some(*word), place),
-        }
+        let Some(next) = place.behind(word) else {
+            return (Some(*word), place);
+        };
+        place = next;
     }
     (None, place)
 }
@@ -28,7 +28,11 @@ pub(crate) fn line_on(
     meant: Option<&str>,
 ) -> Result<Option<String>, AllocError> {
     let (word, place) = reached(first, words);
-    if word.is_none() && place.may_end() {
+    let may_end = matches!(
+        place,
+        Place::Many | Place::And | Place::Error | Place::Nothing | Place::At
+    );
+    if word.is_none() && may_end {
         return Ok(None);
     }
     Ok(Some(unknown(alloc, word, place.text(), meant)?))
@@ -42,15 +46,11 @@ pub(crate) fn unknown(
     meant: Option<&str>,
 ) -> Result<String, AllocError> {
     let mut line = match word {
-        Some(word) => {
-            let word = Shown(word);
-            format!(in alloc; "lc3lab: {word}: isn't understood; {text}")?
-        }
+        Some(word) => format!(in alloc; "lc3lab: {}: isn't understood; {text}", Shown(word))?,
         None => format!(in alloc; "lc3lab: a word is missing at the end; {text}")?,
     };
     if let Some(meant) = meant {
-        let meant = Shown(meant);
-        write!(line, "; did you mean {meant}?")?;
+        write!(line, "; did you mean {}?", Shown(meant))?;
     }
     line.push_str("\n")?;
     Ok(line)
@@ -95,50 +95,37 @@ fn mended(alloc: Global, first: Place, words: &[&str]) -> Result<Option<String>,
     let mut place = first;
     let mut before = "";
     for word in words {
-        match push_meant(alloc, &mut text, place, before, word)? {
-            Some(next) => place = next,
-            None => return Ok(None),
+        let meant = word_meant(alloc, place, before, word)?;
+        if !text.is_empty() {
+            text.push_str(" ")?;
         }
+        text.push_str(&meant)?;
+        let Some(next) = place.behind(&meant) else {
+            return Ok(None);
+        };
+        place = next;
         before = word;
     }
     Ok(Some(text))
 }
 
-/// Adds the word that was meant by one behind another, and gives the place behind it, if that word may stand there.
-fn push_meant(
-    alloc: Global,
-    text: &mut String,
-    place: Place,
-    before: &str,
-    word: &str,
-) -> Result<Option<Place>, AllocError> {
-    let mended = word_meant(alloc, place, before, word)?;
-    if !text.is_empty() {
-        text.push_str(" ")?;
-    }
-    text.push_str(&mended)?;
-    Ok(place.behind(&mended))
-}
-
-/// The word that was meant by one behind another.
 fn word_meant(alloc: Global, place: Place, before: &str, word: &str) -> Result<String, AllocError> {
     match place {
         Place::Name if !word.starts_with('/') => format!(in alloc; "/{word}"),
         Place::Name => String::from_str(alloc, word),
-        Place::Sign => String::from_str(alloc, sign_meant(word)),
+        Place::Sign => {
+            let sign = match word {
+                ">=" => ">",
+                "<=" => "<",
+                "==" => "=",
+                _ => word,
+            };
+            String::from_str(alloc, sign)
+        }
         Place::Number => number_meant(alloc, before, word),
         Place::Address | Place::Anywhere | Place::WaitsAt => range_meant(alloc, word),
-        Place::Error => upper(alloc, word),
-        _ => lower(alloc, word),
-    }
-}
-
-fn sign_meant(word: &str) -> &str {
-    match word {
-        ">=" => ">",
-        "<=" => "<",
-        "==" => "=",
-        _ => word,
+        Place::Error => word.to_ascii_uppercase(alloc),
+        _ => word.to_ascii_lowercase(alloc),
     }
 }
 
@@ -161,40 +148,18 @@ fn range_meant(alloc: Global, word: &str) -> Result<String, AllocError> {
     if is_labelled(word) {
         return String::from_str(alloc, word);
     }
-    let meant = addresses_meant(alloc, &lower(alloc, word)?)?;
+    let small = word.to_ascii_lowercase(alloc)?;
+    let meant = match small.split_once('-') {
+        Some((first, last)) => format!(in alloc; "x{}-x{}", digits_of(first), digits_of(last))?,
+        None => format!(in alloc; "x{}", digits_of(&small))?,
+    };
     if is_labelled(&meant) {
         return String::from_str(alloc, word);
     }
     Ok(meant)
 }
 
-fn addresses_meant(alloc: Global, word: &str) -> Result<String, AllocError> {
-    match word.split_once('-') {
-        Some((first, last)) => {
-            let first = digits_of(first);
-            let last = digits_of(last);
-            format!(in alloc; "x{first}-x{last}")
-        }
-        None => {
-            let digits = digits_of(word);
-            format!(in alloc; "x{digits}")
-        }
-    }
-}
-
 fn digits_of(word: &str) -> &str {
     let word = word.strip_prefix("0x").unwrap_or(word);
     word.strip_prefix('x').unwrap_or(word)
-}
-
-fn lower(alloc: Global, word: &str) -> Result<String, AllocError> {
-    let mut word = String::from_str(alloc, word)?;
-    word.make_ascii_lowercase();
-    Ok(word)
-}
-
-pub(crate) fn upper(alloc: Global, word: &str) -> Result<String, AllocError> {
-    let mut word = String::from_str(alloc, word)?;
-    word.make_ascii_uppercase();
-    Ok(word)
 }

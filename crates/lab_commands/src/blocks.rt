@@ -6,10 +6,8 @@ use lab_sched::{SchedFault, Schedule};
 use lc3_word::{WHITE_SPACE, words_between};
 use std::alloc::{AllocError, Global};
 
-/// What a block is.
 const BLOCK: &str = "a block is P*N, with P from 0 to 63 and N from 1 to 999999999, or P alone";
 
-/// How long a word may be that is shown.
 const MOST_SHOWN: usize = 80;
 
 /// The line that says what a block of a schedule is, for the word of a text that is none, where somebody looks.
@@ -24,8 +22,11 @@ pub(crate) fn block_advice<T, P: Progress>(
     match fault {
         SchedFault::BadBlock { at } => {
             let word = word_at(job.alloc, text, at)?;
-            let meant = meant_by(job.alloc, word).ok()?;
-            unknown(job.alloc, Some(word), BLOCK, meant.as_deref()).ok()
+            let block = block_of(job.alloc, word).ok()?;
+            let meant = block
+                .as_deref()
+                .filter(|block| Schedule::read(job.alloc, block).is_ok());
+            unknown(job.alloc, Some(word), BLOCK, meant).ok()
         }
         SchedFault::TooLong { .. } | SchedFault::NoMemory => None,
     }
@@ -39,17 +40,6 @@ fn word_at(alloc: Global, text: &str, number: usize) -> Option<&str> {
         return None;
     }
     str::from_utf8(word).ok()
-}
-
-/// The block that was meant by a word, if that is known.
-fn meant_by(alloc: Global, word: &str) -> Result<Option<String>, AllocError> {
-    let Some(block) = block_of(alloc, word)? else {
-        return Ok(None);
-    };
-    match Schedule::read(alloc, &block) {
-        Ok(_) => Ok(Some(block)),
-        Err(_) => Ok(None),
-    }
 }
 
 /// The block of the numbers in a word.

@@ -9,7 +9,7 @@ use crate::places::Place;
 use lab_arguments::is_of_calls;
 use lab_questions::{CallWord, read_calls};
 use lab_ways::Wanted;
-use std::alloc::{AllocError, Global};
+use std::alloc::Global;
 
 /// What is asked of calls, as it was written, and what has to be so on every way.
 #[derive(Drop)]
@@ -19,7 +19,6 @@ pub(crate) struct Calls {
 }
 
 /// What the words of `--require` and those of `--never` ask of the calls of so many processes.
-#[tactic(auto, using(crate::proofs::AskedLemmas::called_still))]
 pub(crate) fn calls_of<'a>(
     alloc: Global,
     required: &[&'a str],
@@ -40,7 +39,6 @@ pub(crate) fn calls_of<'a>(
     Ok(calls)
 }
 
-/// Adds what words ask of calls.
 fn push_calls<'a>(
     alloc: Global,
     calls: &mut Calls,
@@ -59,7 +57,6 @@ fn push_calls<'a>(
     Ok(())
 }
 
-/// Adds what a word asks of calls, if it does.
 #[tactic(auto, using(crate::proofs::AskedLemmas::called_last))]
 fn push_call<'a>(
     alloc: Global,
@@ -81,7 +78,6 @@ fn push_call<'a>(
     Ok(())
 }
 
-/// What a word asks of the calls of so many processes.
 pub(crate) fn wanted_in<'a>(
     alloc: Global,
     word: &'a str,
@@ -90,33 +86,29 @@ pub(crate) fn wanted_in<'a>(
 ) -> Result<Wanted, Complaint<'a>>
     ensures asks { IfOk result (λ wanted. AsksSo never word.now wanted) }
 {
+    let (unread, elsewhere, first) = if never {
+        (
+            Misuse::NoCondition,
+            Misuse::NoSuchProcess,
+            Place::NeverCaller,
+        )
+    } else {
+        (Misuse::NoCalls, Misuse::NoSuchWriter, Place::Caller)
+    };
     match read_calls(alloc, word, never)? {
         Some(wanted) if wanted.process.is_none_or(|process| process < count) => Ok(wanted),
-        Some(_) if never => Err(Misuse::NoSuchProcess.of(word)),
-        Some(_) => Err(Misuse::NoSuchWriter.of(word)),
-        None => {
-            let misuse = if never {
-                Misuse::NoCondition
-            } else {
-                Misuse::NoCalls
-            };
-            Err(misuse.of(word).followed(advice_on(alloc, word, never)))
-        }
+        Some(_) => Err(elsewhere.of(word)),
+        None => Err(unread.of(word).followed(advice_on(alloc, word, first))),
     }
 }
 
-/// The line that says why a word asks nothing of calls, where memory allows it.
-fn advice_on(alloc: Global, text: &str, never: bool) -> Option<String> {
+/// The line that says why a word that begins at this place asks nothing of calls, where memory allows it.
+fn advice_on(alloc: Global, text: &str, first: Place) -> Option<String> {
     let words: Vec<&str> = words_of(alloc, text)
         .ok()?
         .into_iter()
         .map(|word| word.trim_matches(','))
         .collect(alloc)
         .ok()?;
-    let first = if never {
-        Place::NeverCaller
-    } else {
-        Place::Caller
-    };
     line_on(alloc, first, &words, None).ok()?
 }

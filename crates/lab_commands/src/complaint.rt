@@ -179,15 +179,12 @@ impl<'a> Complaint<'a> {
 
     /// The complaint with further lines about it, each with its line feed, if there are any, unless it is of memory.
     pub fn followed(self, lines: Option<String>) -> Complaint<'a> {
-        let Complaint { place, text, .. } = self;
-        let explanation = match text {
-            Text::Reason(Reason::NoMemory) => None,
-            _ => lines,
-        };
+        if matches!(self.text, Text::Reason(Reason::NoMemory)) {
+            return self;
+        }
         Complaint {
-            place,
-            text,
-            explanation,
+            explanation: lines,
+            ..self
         }
     }
 

@@ -45,7 +45,6 @@ impl fmt::Display for SearchCost {
     }
 }
 
-/// The megabytes of memory that the program has.
 fn megabytes_now<T: Files, P>(job: &Job<'_, T, P>) -> Option<u32> {
     let bytes = read_file(job.rt, job.alloc, PAGES).ok()?;
     let pages = unsigned(10, bytes.split(|byte| *byte == b' ').nth(1)?)?;

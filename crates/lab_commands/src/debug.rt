@@ -12,7 +12,6 @@ use lc3_table::Profile;
 use std::alloc::{AllocError, Global};
 use std::io::{Read, Write};
 
-/// The session on programs, before its first command.
 fn session_on(
     alloc: Global,
     given: Programs,
@@ -44,10 +43,7 @@ pub struct Debugged {
 impl Debugged {
     /// The source of a process, where it was given as one.
     pub fn source(&self, process: usize) -> Option<&Source> {
-        match self.session.listing(process) {
-            Some(listing) => Some(&listing.source),
-            None => None,
-        }
+        self.session.listing(process).map(|listing| &listing.source)
     }
 
     /// The steps that had an effect, if a schedule can have so many.

@@ -1,7 +1,7 @@
 //! The command `explore`.
 ghost use Rattle.std.specs.Prelude.{◌≡◌, IfOk, IfSome};
 ghost use Rattle.lab_sched.specs.Starts.{fresh};
-ghost use Rattle.lab_commands.specs.Found.{AreWalked, IsFound, IsFoundBy, IsSearched};
+ghost use Rattle.lab_commands.specs.Found.{IsFound, IsFoundBy};
 
 use crate::complaint::{At, Complaint};
 use crate::cost::SearchCost;
@@ -11,9 +11,9 @@ use crate::programs::{Programs, laboratory};
 use crate::progress::{Progress, SearchCount, WALKS, WORLDS};
 use crate::stages::{has_more, stages_of};
 use lab_arguments::Question;
-use lab_questions::{Answers, Asked, LimitMet, ask, ask_walks};
+use lab_questions::{Answers, Asked, LimitMet, Reach, ask, ask_walks};
 use lab_sched::Fresh;
-use lab_worlds::{ExploreFault, Limits, Walks, Workers};
+use lab_worlds::{ExploreFault, Workers};
 use lc3_table::Profile;
 use std::thread::{Threads, available_parallelism};
 
@@ -41,32 +41,14 @@ pub fn find_ends<'a, T: Threads + Sync, P: Progress>(
 {
     let inquiry = inquiry_of(question);
     if question.first {
-        let stages = stages_of(job.alloc, &inquiry)?;
-        if let Some(search) = find_early(job, given, profile, question, &stages)? {
-            return Ok(search);
+        for stage in &stages_of(job.alloc, &inquiry)? {
+            let search = searched(job, given, profile, question, *stage)?;
+            if !has_more(&search) {
+                return Ok(search);
+            }
         }
     }
     searched(job, given, profile, question, inquiry)
-}
-
-/// The first of these searches that has something to show, if one has.
-fn find_early<'a, T: Threads + Sync, P: Progress>(
-    job: &Job<'_, T, P>,
-    given: &Programs,
-    profile: Profile,
-    question: &Question<'a>,
-    stages: &[Inquiry],
-) -> Result<Option<Search>, Complaint<'a>>
-    ensures found { IfOk result (λ s.
-        IfSome s (IsFound (fresh profile given.now.programs.items))) }
-{
-    for stage in stages {
-        let search = searched(job, given, profile, question, *stage)?;
-        if !has_more(&search) {
-            return Ok(Some(search));
-        }
-    }
-    Ok(None)
 }
 
 /// Visits every interleaving of programs, as far as an inquiry goes, or takes its walks, and judges what a question asks.
@@ -93,6 +75,7 @@ fn searched<'a, T: Threads + Sync, P: Progress>(
 
 /// Visits every interleaving of the programs of a laboratory, which is given twice, or takes the walks of an inquiry, and judges
 /// what is asked.
+#[tactic(auto, using(crate::proofs::FoundLemmas::are_walked))]
 fn explore<T: Threads + Sync, P: Progress>(
     job: &Job<'_, T, P>,
     fresh: Fresh,
@@ -103,64 +86,30 @@ fn explore<T: Threads + Sync, P: Progress>(
     requires same { again ≡ fresh }
     ensures found { IfOk result (λ a. IsFoundBy inquiry.now.reach.walks fresh a) }
 {
-    match inquiry.reach.walks {
-        Some(walks) => take_walks(job, fresh, inquiry.reach.limits, walks, asked),
-        None => visit_all(job, fresh, again, inquiry, asked),
+    let Reach { limits, walks, .. } = inquiry.reach;
+    match walks {
+        Some(walks) => {
+            let mut count = SearchCount::new(job.alloc, job.progress, WALKS);
+            let outcome = ask_walks(job.alloc, fresh, limits, walks, asked, &mut count);
+            count.clear();
+            outcome
+        }
+        None => {
+            let mut count = SearchCount::new(job.alloc, job.progress, WORLDS);
+            let workers = Workers::new(job.rt, thread_count(job.rt, inquiry.threads));
+            let outcome = ask(job.alloc, fresh, again, limits, asked, &mut count, &workers);
+            count.clear();
+            outcome
+        }
     }
-}
-
-/// Takes walks through the interleavings of the programs of a laboratory, and judges what is asked.
-#[tactic(auto, using(crate::proofs::FoundLemmas::are_walked))]
-fn take_walks<T, P: Progress>(
-    job: &Job<'_, T, P>,
-    fresh: Fresh,
-    limits: Limits,
-    walks: Walks,
-    asked: Asked,
-) -> Result<Answers, ExploreFault>
-    ensures found { IfOk result (λ a. AreWalked fresh a) }
-{
-    let mut count = SearchCount::new(job.alloc, job.progress, WALKS);
-    let outcome = ask_walks(job.alloc, fresh, limits, walks, asked, &mut count);
-    count.clear();
-    outcome
 }
 
 /// So many threads as were asked for, or as there are processors.
 fn thread_count<T: Threads>(rt: &T, asked: Option<u32>) -> usize
     ensures asked { IfSome asked (λ count. result ≡ count) }
 {
-    if let Some(count) = asked {
-        return count as usize;
+    match asked {
+        Some(count) => count as usize,
+        None => available_parallelism(rt).map_or(1, |count| count.get()),
     }
-    match available_parallelism(rt) {
-        Ok(count) => count.get(),
-        Err(_) => 1,
-    }
-}
-
-/// Visits every interleaving of the programs of a laboratory, as far as the limits allow, and judges what is asked.
-fn visit_all<T: Threads + Sync, P: Progress>(
-    job: &Job<'_, T, P>,
-    fresh: Fresh,
-    again: Fresh,
-    inquiry: &Inquiry,
-    asked: Asked,
-) -> Result<Answers, ExploreFault>
-    requires same { again ≡ fresh }
-    ensures found { IfOk result (λ a. IsSearched fresh a) }
-{
-    let mut count = SearchCount::new(job.alloc, job.progress, WORLDS);
-    let workers = Workers::new(job.rt, thread_count(job.rt, inquiry.threads));
-    let outcome = ask(
-        job.alloc,
-        fresh,
-        again,
-        inquiry.reach.limits,
-        asked,
-        &mut count,
-        &workers,
-    );
-    count.clear();
-    outcome
 }

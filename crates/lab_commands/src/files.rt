@@ -71,9 +71,12 @@ fn source_meant<T: Files>(rt: &T, alloc: Global, name: &str) -> Option<String> {
     if !is_file(rt, &source) {
         return None;
     }
-    let word = Shown(name);
-    let meant = Shown(&source);
-    format!(in alloc; "lc3lab: {word}: did you mean {meant}?\n").ok()
+    format!(in alloc;
+        "lc3lab: {}: did you mean {}?\n",
+        Shown(name),
+        Shown(&source)
+    )
+    .ok()
 }
 
 /// The bytes of a file, at most 4,000,000: a file with more is refused as too large.
@@ -138,7 +141,6 @@ fn create_beside<T: Files>(
     Err(CliFault::Write)
 }
 
-/// Why a file couldn't be made.
 fn not_made(error: &io::Error) -> CliFault {
     if error.kind() == ErrorKind::OutOfMemory {
         CliFault::NoMemory

@@ -6,11 +6,10 @@ ghost use Rattle.lab_commands.specs.Private.Inquiries.{required_words, IsAsked, 
 use crate::advice::{line_on, meant_by, words_of};
 use crate::calls::{calls_of, wanted_in};
 use crate::complaint::{Complaint, Misuse, Reason};
+use crate::labels::{Unresolved, reversed};
 use crate::outputs::{need_in, needs_of};
 use crate::places::Place;
-use crate::resolving::{outlined, resolved};
-use crate::spreading::spread;
-use crate::unresolved::{Unresolved, reversed};
+use crate::resolving::{outlined, resolved, spread};
 use lab_arguments::{Choice, Question, Requirements, Rest, is_of_calls};
 use lab_conditions::{Condition, Never, Part, ReadFault, State};
 use lab_questions::{Asked, OutputNeed, Reach, Show, Waiter, Word};
@@ -100,7 +99,6 @@ pub fn asked_of<'a>(
     })
 }
 
-/// What a question asks of processes that it names.
 #[derive(Drop)]
 struct ProcessDemands {
     outputs: Vec<OutputNeed>,
@@ -132,23 +130,17 @@ pub fn refuse_question<'a>(
     count: usize,
 ) -> Result<(), Complaint<'a>> {
     for word in &question.outputs {
-        refuse_requirement(alloc, word, count)?;
+        if is_of_calls(word) {
+            wanted_in(alloc, word, false, count)?;
+        } else {
+            need_in(alloc, word, count)?;
+        }
     }
     for word in &question.waiters {
         refuse_waiter(alloc, word, count)?;
     }
     for word in &question.never {
         refuse_never(alloc, word, count)?;
-    }
-    Ok(())
-}
-
-/// Refuses a word that requires nothing of the outputs or calls of so many processes.
-fn refuse_requirement<'a>(alloc: Global, word: &'a str, count: usize) -> Result<(), Complaint<'a>> {
-    if is_of_calls(word) {
-        wanted_in(alloc, word, false, count)?;
-    } else {
-        need_in(alloc, word, count)?;
     }
     Ok(())
 }
@@ -183,10 +175,11 @@ fn waiters_of<'a>(
     let mut waiters = Vec::new(alloc);
     for word in words {
         refuse_waiter(alloc, word, sources.len())?;
-        match waiter_in(alloc, sources, word) {
-            Ok(waiter) => waiters.push(waiter)?,
-            Err(fault) => return Err(fault.of(Misuse::UnfitWaiter, word)),
-        }
+        let waiter = waiter_in(alloc, sources, word).map_err(|fault| fault.of(
+            Misuse::UnfitWaiter,
+            word,
+        ))?;
+        waiters.push(waiter)?;
     }
     Ok(waiters)
 }
@@ -207,13 +200,9 @@ fn refuse_waiter<'a>(alloc: Global, word: &'a str, count: usize) -> Result<(), C
 /// The process that may wait, by the labels of its source.
 fn waiter_in(alloc: Global, sources: &[Option<Source>], word: &str) -> Result<Waiter, Unresolved> {
     let text = resolved(alloc, sources, word)?;
-    match read_waiter(alloc, &text)? {
-        Some(waiter) => Ok(waiter),
-        None => Err(reversed(alloc, &text)?),
-    }
+    read_waiter(alloc, &text)?.ok_or_else(|| reversed(alloc, &text))
 }
 
-/// What must never be so, as words write it, of processes with these sources.
 fn nevers_of<'a>(
     alloc: Global,
     words: &[&'a str],
@@ -301,7 +290,7 @@ fn never_in(alloc: Global, sources: &[Option<Source>], text: &str) -> Result<Nev
             Ok(Never::Holds(Condition { text, parts }))
         }
         Ok(never) => Ok(never),
-        Err(ReadFault::NoCondition) => Err(reversed(alloc, &meant)?),
+        Err(ReadFault::NoCondition) => Err(reversed(alloc, &meant)),
         Err(ReadFault::NoMemory) => Err(Unresolved::NoMemory),
     }
 }
@@ -337,25 +326,20 @@ fn read_waiter(alloc: Global, text: &str) -> Result<Option<Waiter>, AllocError> 
         }));
     }
     match Condition::read(alloc, text) {
-        Ok(condition) => Ok(waiter_at(condition.parts.as_slice())),
+        Ok(condition) => Ok(match condition.parts.as_slice() {
+            [
+                Part::Of {
+                    process,
+                    state: State::At { first, last },
+                },
+            ] => Some(Waiter {
+                process: *process,
+                first: *first,
+                last: *last,
+            }),
+            _ => None,
+        }),
         Err(ReadFault::NoCondition) => Ok(None),
         Err(ReadFault::NoMemory) => Err(AllocError),
-    }
-}
-
-/// The process that stands at some addresses by a condition with these parts, if it says no more.
-fn waiter_at(parts: &[Part]) -> Option<Waiter> {
-    match parts {
-        [
-            Part::Of {
-                process,
-                state: State::At { first, last },
-            },
-        ] => Some(Waiter {
-            process: *process,
-            first: *first,
-            last: *last,
-        }),
-        _ => None,
     }
 }

@@ -5,17 +5,19 @@ ghost use Rattle.lab_commands.specs.Told.{names_no_limit, limit_of_worlds};
 use crate::complaint::Complaint;
 use crate::explore::Search;
 use crate::job::Job;
-use crate::loops::loop_in;
 use crate::programs::{Programs, laboratory};
 use crate::progress::Progress;
 use lab_arguments::MOST_WORLDS;
 use lab_questions::{LimitMet, Standing};
-use lab_sched::World;
+use lab_sched::{Process, Stepped, World};
 use lab_sources::Source;
 use lab_worlds::Limits;
 use lc3_table::Profile;
 use lc3_word::Hex;
 use std::alloc::{AllocError, Global};
+
+/// How many steps are taken to find a process that goes on without a call, at least.
+const LEAST_TAKEN: u32 = 1_000_000;
 
 /// Which limit a search of programs met, where it met one. Of walks none is named, nor of a search that ends with what it found.
 pub fn limit_met<T, P: Progress>(
@@ -40,18 +42,13 @@ pub fn limit_met<T, P: Progress>(
     if reach.is_stage {
         return Ok(None);
     }
-    Ok(Some(limit_of_worlds(found.worlds)))
-}
-
-fn limit_of_worlds(visited: u32) -> LimitMet
-    ensures limit { result ≡ limit_of_worlds visited }
-{
+    let visited = found.worlds;
     let more = if visited < MOST_WORLDS {
         Some(visited.saturating_mul(100).min(MOST_WORLDS))
     } else {
         None
     };
-    LimitMet::Worlds { visited, more }
+    Ok(Some(LimitMet::Worlds { visited, more }))
 }
 
 /// The process that took too many steps without a call, where it is found, and else both limits that a search can have met.
@@ -63,25 +60,19 @@ fn limit_of_steps(
 ) -> Result<LimitMet, Complaint<'static>> {
     let fresh = laboratory(alloc, given.programs.as_slice(), profile)?;
     let steps = limits.steps;
-    match loop_in(World::from(fresh), steps) {
-        Some(found) => Ok(LimitMet::Steps {
-            process: found.process,
-            steps,
-            standing: standing_at(
-                alloc,
-                given
-                    .sources
-                    .get(found.process)
-                    .and_then(|source| source.as_ref()),
-                found.pc,
-                found.word,
-            )?,
-        }),
-        None => Ok(LimitMet::StepsOrMemory {
-            steps,
-            memory: limits.memory,
-        }),
-    }
+    let Some(Loop { process, pc, word }) = loop_in(World::from(fresh), steps) else {
+        let memory = limits.memory;
+        return Ok(LimitMet::StepsOrMemory { steps, memory });
+    };
+    let source = given
+        .sources
+        .get(process)
+        .and_then(|source| source.as_ref());
+    Ok(LimitMet::Steps {
+        process,
+        steps,
+        standing: standing_at(alloc, source, pc, word)?,
+    })
 }
 
 /// Where an address stands: its nearest label and its line, as far as there is a source with such, and else the address.
@@ -91,17 +82,77 @@ pub fn standing_at(
     address: u16,
     word: u16,
 ) -> Result<Standing, AllocError> {
-    let near = source.and_then(|source| source.nearest(address));
     let row = source.and_then(|source| source.held_row(address, word));
-    let place = match near {
+    let place = match source.and_then(|source| source.nearest(address)) {
         Some(near) => format!(in alloc; "{near}")?,
-        None => {
-            let address = Hex(address);
-            format!(in alloc; "{address}")?
-        }
+        None => format!(in alloc; "{}", Hex(address))?,
     };
     Ok(Standing {
         place,
         line: row.map(|row| row.line),
     })
+}
+
+/// A process that took too many steps without a call, and where it stands behind them.
+#[derive(Clone, Copy)]
+struct Loop {
+    process: usize,
+    pc: u16,
+    /// The word there.
+    word: u16,
+}
+
+/// What a process does in its turn.
+enum Turn {
+    /// It has called the kernel, or has ended.
+    Calls,
+    /// It can't go on.
+    Rests,
+    /// It took too many steps without a call.
+    Loops,
+}
+
+/// A process that takes so many steps without a call, if there is one as the processes of a world take turns, each to its next
+/// call, for some time. A call that is refused before the kernel is asked counts as none.
+fn loop_in(world: World, most: u32) -> Option<Loop> {
+    let mut world = world;
+    let mut left = most.saturating_mul(4).max(LEAST_TAKEN);
+    for _round in 0..left {
+        let mut goes_on = false;
+        for process in 0..world.count() {
+            match turn_of(&mut world, process, most, &mut left)? {
+                Turn::Calls => goes_on = true,
+                Turn::Rests => (),
+                Turn::Loops => {
+                    let machine = world.process(process)?.machine();
+                    let pc = machine.pc();
+                    return Some(Loop {
+                        process,
+                        pc,
+                        word: machine.word(pc),
+                    });
+                }
+            }
+        }
+        if !goes_on {
+            return None;
+        }
+    }
+    None
+}
+
+/// Lets a process take the steps of its turn, as long as some are left.
+fn turn_of(world: &mut World, process: usize, most: u32, left: &mut u32) -> Option<Turn> {
+    for _ in 0..most {
+        *left = left.checked_sub(1)?;
+        match world.step(process).ok()? {
+            Stepped::Moved | Stepped::Refused(_) => (),
+            Stepped::Same => return Some(Turn::Rests),
+            Stepped::Waits | Stepped::Called(_) => return Some(Turn::Calls),
+        }
+    }
+    match world.process(process)? {
+        Process::Ended(_) => Some(Turn::Calls),
+        _ => Some(Turn::Loops),
+    }
 }

@@ -34,7 +34,6 @@ pub(crate) fn need_in<'a>(
     }
 }
 
-/// Whether what is required names no process but those of a run of so many.
 fn names_only(need: &OutputNeed, count: usize) -> bool {
     need.alternatives.iter().all(|alternative| alternative
         .parts
@@ -54,7 +53,7 @@ fn advice_on(alloc: Global, word: &str) -> Option<String> {
         match (reached(place, &words_of(alloc, head).ok()?), string) {
             ((None, Place::Text), Some(string)) => {
                 let Some(rest) = behind_string(alloc, string).ok()? else {
-                    let word = quoted(alloc, string).ok()?;
+                    let word = format!(in alloc; "\"{string}").ok()?;
                     return unknown(alloc, Some(&word), Place::Text.text(), None).ok();
                 };
                 left = rest;
@@ -76,9 +75,4 @@ fn behind_string<'a>(alloc: Global, string: &'a str) -> Result<Option<&'a str>, 
         return Ok(None);
     }
     Ok(Some(rest))
-}
-
-/// A string with the quote that opens it.
-fn quoted(alloc: Global, string: &str) -> Result<String, AllocError> {
-    format!(in alloc; "\"{string}")
 }

@@ -1,10 +1,10 @@
 //! What may stand at each place of the words that ask something of a run.
 use crate::labels::{ends_of, is_labelled};
 use ipc_errors::error_named;
-use lab_questions::{call_count, service_named};
+use ipc_traps::Service;
+use lab_questions::call_count;
 use lc3_word::unsigned;
 
-/// A place among words that ask something of a run.
 #[derive(Clone, Copy)]
 pub(crate) enum Place {
     /// At the beginning of a condition.
@@ -83,7 +83,6 @@ pub(crate) enum Place {
     Joint,
 }
 
-/// What a word may be.
 #[derive(Clone, Copy)]
 enum Kind {
     Word(&'static str),
@@ -173,7 +172,6 @@ const STEPS: &[(Place, Kind, Place)] = &[
 ];
 
 impl Place {
-    /// What stands there.
     pub(crate) fn text(self) -> &'static str {
         match self {
             Place::Start => {
@@ -216,14 +214,6 @@ impl Place {
         }
     }
 
-    /// Whether a condition, or the words for a process that may wait, may end there.
-    pub(crate) fn may_end(self) -> bool {
-        matches!(
-            self,
-            Place::Many | Place::And | Place::Error | Place::Nothing | Place::At
-        )
-    }
-
     /// The place behind a word that stands at this one, if it may stand here.
     pub(crate) fn behind(self, word: &str) -> Option<Place> {
         STEPS
@@ -234,7 +224,6 @@ impl Place {
 }
 
 impl Kind {
-    /// Whether a word is of this kind.
     fn is_of(self, word: &str) -> bool {
         match self {
             Kind::Word(one) => word == one,
@@ -246,13 +235,12 @@ impl Kind {
             Kind::Number => unsigned(10, word.as_bytes()).is_some_and(|number| number <= 65_535),
             Kind::Range => is_range(word),
             Kind::Error => error_named(word).is_some(),
-            Kind::Call => service_named(word.as_bytes()).is_some(),
+            Kind::Call => Service::of_name(word.as_bytes()).is_some(),
             Kind::Count => call_count(word.as_bytes()).is_some(),
         }
     }
 }
 
-/// The address that a word is, if it is one.
 pub(crate) fn address(word: &str) -> Option<u32> {
     let digits = word.strip_prefix('x')?;
     if digits.len() > 4 {

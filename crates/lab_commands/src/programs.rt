@@ -8,7 +8,7 @@ use crate::complaint::{At, Complaint, Reason};
 use crate::files::{has_source_name, read_code, read_file};
 use crate::job::Job;
 use crate::progress::Progress;
-use lab_arguments::{Console, Setup, Shown, program_of, takes_input};
+use lab_arguments::{Console, Shown, program_of, takes_input};
 use lab_hex::read_whole;
 use lab_io::Input;
 use lab_places::Numbered;
@@ -32,16 +32,6 @@ pub struct Programs {
 }
 
 impl Programs {
-    /// None.
-    fn new(alloc: Global) -> Programs {
-        Programs {
-            programs: Vec::new(alloc),
-            sources: Vec::new(alloc),
-            lines: Vec::new(alloc),
-        }
-    }
-
-    /// Adds the source of a program, where it was given as one.
     fn push_source(&mut self, alloc: Global, source: Option<Source>) -> Result<(), AllocError> {
         let Some(source) = source else {
             self.sources.push(None)?;
@@ -58,7 +48,8 @@ impl Programs {
     pub fn numbered(&self, alloc: Global) -> Result<Vec<Option<Numbered<'_>>>, AllocError> {
         let mut numbered = Vec::new(alloc);
         for (source, lines) in self.sources.iter().zip(self.lines.iter()) {
-            numbered.push(with_lines(source, lines.as_slice()))?;
+            let lines = lines.as_slice();
+            numbered.push(source.as_ref().map(|source| Numbered { source, lines }))?;
         }
         Ok(numbered)
     }
@@ -82,18 +73,17 @@ impl Programs {
     }
 }
 
-fn with_lines<'a>(source: &'a Option<Source>, lines: &'a [String]) -> Option<Numbered<'a>> {
-    let source = source.as_ref()?;
-    Some(Numbered { source, lines })
-}
-
 /// The programs that words name, each by a source or an object file. A file is read and checked before the next one is
 /// opened. A console input that comes from standard input is empty here.
 pub fn read_programs<'a, T: Files, P: Progress>(
     job: &Job<'_, T, P>,
     words: &[&'a str],
 ) -> Result<Programs, Complaint<'a>> {
-    let mut given = Programs::new(job.alloc);
+    let mut given = Programs {
+        programs: Vec::new(job.alloc),
+        sources: Vec::new(job.alloc),
+        lines: Vec::new(job.alloc),
+    };
     for word in words {
         let (program, source) = read_program(job, word)?;
         given.programs.push(program)?;
@@ -102,27 +92,17 @@ pub fn read_programs<'a, T: Files, P: Progress>(
     Ok(given)
 }
 
-/// The program that a word names, and its source, where it is one.
 fn read_program<'a, T: Files, P: Progress>(
     job: &Job<'_, T, P>,
     word: &'a str,
 ) -> Result<(Program, Option<Source>), Complaint<'a>> {
     let (file, console) = program_of(word);
     let (image, source) = read_image_file(job, file)?;
-    let input = read_console(job.rt, job.alloc, console)?;
+    let input = match console {
+        Console::File(file) => read_file(job.rt, job.alloc, file).at(job.alloc, file)?,
+        Console::Standard | Console::Nowhere => Vec::new(job.alloc),
+    };
     Ok((Program { image, input }, source))
-}
-
-/// The bytes of a file of console input; none where there is no such file.
-fn read_console<'a, T: Files>(
-    rt: &T,
-    alloc: Global,
-    console: Console<'a>,
-) -> Result<Vec<u8>, Complaint<'a>> {
-    match console {
-        Console::File(file) => read_file(rt, alloc, file).at(alloc, file),
-        Console::Standard | Console::Nowhere => Ok(Vec::new(alloc)),
-    }
 }
 
 /// The image in a file, and the source that it is assembled from, where the file is one.
@@ -134,19 +114,29 @@ pub fn read_image_file<'a, T: Files, P: Progress>(
         return Ok((read_object(job, file)?, None));
     }
     let source = read_assembled(job, file)?;
-    match source.image(job.alloc) {
-        Ok(image) => Ok((image, Some(source))),
-        Err(_) => Err(Reason::NoMemory.at(file)),
-    }
+    let image = source
+        .image(job.alloc)
+        .map_err(|_| Reason::NoMemory.at(file))?;
+    Ok((image, Some(source)))
 }
 
+/// The image in an object file. Where the file looks like a text, and somebody looks, a line says so.
 fn read_object<'a, T: Files, P: Progress>(
     job: &Job<'_, T, P>,
     file: &'a str,
 ) -> Result<Image, Complaint<'a>> {
     let bytes = read_code(job.rt, job.alloc, file)?;
-    if is_text(bytes.as_slice()) {
-        tell_text(job, file);
+    let is_text = bytes
+        .iter()
+        .all(|byte| matches!(byte, b' '..=b'~' | b'\t' | b'\n' | b'\r'));
+    if is_text && !bytes.is_empty() && job.advises() {
+        let line = format!(in job.alloc;
+            "lc3lab: {}: looks like a text; the name of a source ends in .asm\n",
+            Shown(file)
+        );
+        if let Ok(line) = line {
+            job.progress.tell(&line);
+        }
     }
     read_image(job.alloc, bytes.as_slice()).at(job.alloc, file)
 }
@@ -169,27 +159,6 @@ fn read_assembled<'a, T: Files, P: Progress>(
     }
 }
 
-/// Whether these are the bytes of a text rather than of an object file.
-fn is_text(bytes: &[u8]) -> bool {
-    !bytes.is_empty()
-        && bytes
-            .iter()
-            .all(|byte| matches!(byte, b' '..=b'~' | b'\t' | b'\n' | b'\r'))
-}
-
-/// Says that a file which was given as an object file looks like a text, where somebody looks.
-fn tell_text<T, P: Progress>(job: &Job<'_, T, P>, file: &str) {
-    let file = Shown(file);
-    if !job.advises() {
-        return;
-    }
-    if let Ok(line) = format!(in job.alloc;
-        "lc3lab: {file}: looks like a text; the name of a source ends in .asm\n"
-    ) {
-        job.progress.tell(&line);
-    }
-}
-
 /// The laboratory of 1 to 64 programs on machines of a profile, before its first step.
 pub fn laboratory(
     alloc: Global,
@@ -198,10 +167,7 @@ pub fn laboratory(
 ) -> Result<Fresh, Complaint<'static>>
     ensures start { IfOk result (λ f. f ≡ fresh profile programs.now) }
 {
-    match Fresh::new(alloc, programs, profile) {
-        Ok(fresh) => Ok(fresh),
-        Err(fault) => Err(fault_of(alloc, fault)),
-    }
+    Fresh::new(alloc, programs, profile).map_err(|fault| fault_of(alloc, fault))
 }
 
 /// The programs that words name, and behind their files the console input that comes from standard input, if one does.

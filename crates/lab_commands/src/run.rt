@@ -101,7 +101,6 @@ fn report_of<T: Threads + Wait + Sync, G: Gate, P: Progress>(
     outcome
 }
 
-/// The report on a run, and a line with its schedule.
 fn text_of(alloc: Global, report: &Report) -> Result<String, AllocError>
     ensures text { IfOk result (λ text. string_bytes text
         ≡ run_text report.now.world report.now.schedule) }

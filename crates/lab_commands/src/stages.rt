@@ -2,7 +2,7 @@
 use crate::explore::Search;
 use crate::inquiry::Inquiry;
 use lab_questions::{Failure, Reach};
-use lab_worlds::{Limits, Walks};
+use lab_worlds::Walks;
 use std::alloc::{AllocError, Global};
 
 /// How many worlds a search visits at first, and then, one number after the other, as long as nothing is found.
@@ -19,23 +19,20 @@ fn most_of(reach: Reach) -> u32 {
     }
 }
 
-/// How far a stage goes, of so many worlds or walks, that comes before a search.
-fn stage_of(reach: Reach, most: u32) -> Reach {
-    let worlds = match reach.walks {
-        Some(_) => reach.limits.worlds,
-        None => most,
-    };
-    Reach {
-        limits: Limits {
-            worlds,
-            ..reach.limits
-        },
-        walks: reach.walks.map(|walks| Walks {
-            count: most,
-            ..walks
-        }),
-        is_stage: true,
+/// A search that comes before another, of so many worlds or walks.
+fn stage_of(inquiry: &Inquiry, most: u32) -> Inquiry {
+    let mut reach = inquiry.reach;
+    reach.is_stage = true;
+    match reach.walks {
+        Some(walks) => {
+            reach.walks = Some(Walks {
+                count: most,
+                ..walks
+            });
+        }
+        None => reach.limits.worlds = most,
     }
+    Inquiry { reach, ..*inquiry }
 }
 
 /// The searches that come before a search, each of which goes less far than the next.
@@ -47,10 +44,7 @@ pub(crate) fn stages_of(alloc: Global, inquiry: &Inquiry) -> Result<Vec<Inquiry>
     counts
         .iter()
         .filter(|most| **most < most_of(inquiry.reach))
-        .map(|most| Inquiry {
-            reach: stage_of(inquiry.reach, *most),
-            ..*inquiry
-        })
+        .map(|most| stage_of(inquiry, *most))
         .collect(alloc)
 }
 

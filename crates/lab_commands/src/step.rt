@@ -1,5 +1,5 @@
 //! The command `step`.
-ghost use Rattle.std.specs.Prelude.{◌≡◌, false, IfOk, OnOk, string_bytes};
+ghost use Rattle.std.specs.Prelude.{◌≡◌, false, IfOk, string_bytes};
 ghost use Rattle.lab_sched.specs.Starts.{fresh};
 ghost use Rattle.lab_sched.specs.Worlds.{run};
 ghost use Rattle.lab_sched.specs.Schedules.{steps_of};
@@ -14,7 +14,7 @@ use crate::progress::{Progress, StepCount};
 use lab_hex::read_whole;
 use lab_io::Input;
 use lab_places::placed;
-use lab_sched::{Program, RunStop, Schedule, World};
+use lab_sched::{Program, Schedule, World};
 use lab_texts::report_text;
 use lc3_table::Profile;
 use std::io::Read;
@@ -32,7 +32,6 @@ pub fn report_given<T, P: Progress>(
     Ok(placed(job.alloc, &given.numbered(job.alloc)?, text.as_bytes())?)
 }
 
-/// The report on programs after the steps of a schedule.
 fn plain_report<T, P: Progress>(
     job: &Job<'_, T, P>,
     programs: &[Program],
@@ -43,22 +42,11 @@ fn plain_report<T, P: Progress>(
         ≡ report_text (run (fresh profile programs.now) (steps_of schedule.now))) }
 {
     let mut world = World::from(laboratory(job.alloc, programs, profile)?);
-    run(job, &mut world, schedule).at(job.alloc, "run")?;
-    Ok(report_text(job.alloc, &world)?)
-}
-
-/// Takes the steps of a schedule, and shows meanwhile how many are done.
-fn run<T, P: Progress>(
-    job: &Job<'_, T, P>,
-    world: &mut World,
-    schedule: &Schedule,
-) -> Result<(), RunStop>
-    ensures world { OnOk result (world.new ≡ run world.old (steps_of schedule.now)) }
-{
     let mut count = StepCount::new(job.alloc, job.progress, schedule.total());
     let outcome = world.run_watched(schedule, &mut count);
     count.clear();
-    outcome
+    outcome.at(job.alloc, "run")?;
+    Ok(report_text(job.alloc, &world)?)
 }
 
 /// The schedule that a whole input writes. Where a word of it is no block, and somebody looks, a line says what one is.

@@ -1,9 +1,8 @@
 //! What `explore` writes of answers, and what it complains of.
 ghost use Rattle.std.specs.Prelude.{◌≡◌, true, false, IfOk, OnOk, OnErr, string_bytes};
 ghost use Rattle.std.specs.Option.{option_map, option_copied};
-ghost use Rattle.lab_sched.specs.ScheduleTexts.{schedule_text};
 ghost use Rattle.lab_commands.specs.Complaints.{asks_verdict_alone, failure_of, complains};
-ghost use Rattle.lab_commands.specs.Told.{ShowsFailure, numbered_end, IsChosen, line_or_none, TellsChosen, all_told, Tells, HasTold, HasBegun};
+ghost use Rattle.lab_commands.specs.Told.{numbered_end, IsChosen, TellsChosen, Tells, HasTold, HasBegun};
 
 use crate::complaint::{Complaint, Reason};
 use crate::explore::Search;
@@ -13,9 +12,9 @@ use crate::progress::Progress;
 use lab_arguments::Choice;
 use lab_io::Output;
 use lab_places::{Numbered, placed};
-use lab_questions::{Answers, Asked, Failure, Object, Word, answers_json};
+use lab_questions::{Answers, Failure, Word, answers_json};
 use lab_worlds::End;
-use std::alloc::{AllocError, Global};
+use std::alloc::Global;
 use std::io::Write;
 
 /// Writes what was found, with where processes stand in these sources, says which objects that conditions name nobody opens,
@@ -35,14 +34,14 @@ pub fn tell_ends<T, W: Write, P: Progress>(
     ensures passes { OnOk result (complains search.now ≡ false) }
 {
     write_told(job.alloc, sources, search, output)?;
-    tell_unopened(job, &search.answers.unopened)?;
-    match complain(job.alloc, search) {
-        Ok(()) => Ok(()),
-        Err(complaint) => Err(complaint),
+    for object in &search.answers.unopened {
+        let line = format!(in job.alloc; "lc3lab: explore: nobody opens {object}\n")?;
+        job.progress.tell(&line);
     }
+    complain(job.alloc, search)?;
+    Ok(())
 }
 
-/// Writes what was found.
 #[tactic(auto, using(crate::proofs::TellingLemmas::nothing_told, crate::proofs::TellingLemmas::has_told, crate::proofs::TellingLemmas::has_begun))]
 fn write_told<W: Write>(
     alloc: Global,
@@ -57,13 +56,10 @@ fn write_told<W: Write>(
         (W.contents output.old.device) (W.contents output.new.device)) }
 {
     let told = told_of(alloc, sources, search)?;
-    match write_bytes(&told, output) {
-        Ok(()) => Ok(()),
-        Err(complaint) => Err(complaint),
-    }
+    write_bytes(&told, output)?;
+    Ok(())
 }
 
-/// What tells of a search what was found.
 fn told_of(
     alloc: Global,
     sources: &[Option<Numbered<'_>>],
@@ -75,25 +71,11 @@ fn told_of(
     let found = &search.answers;
     match search.inquiry.choice {
         Some(choice) => chosen_line(alloc, found, choice),
-        None => Ok(all_told(alloc, sources, search)?),
-    }
-}
-
-/// All answers, as lines or as JSON.
-fn all_told(
-    alloc: Global,
-    sources: &[Option<Numbered<'_>>],
-    search: &Search,
-) -> Result<Vec<u8>, AllocError>
-    ensures told { IfOk result (λ bytes.
-        bytes.items ≡ all_told sources.now search.now search.now.inquiry.json) }
-{
-    if search.inquiry.json {
-        let reach = search.inquiry.reach;
-        let line = answers_json(alloc, &search.answers, reach, search.limit.as_ref())?;
-        Ok(line.into_bytes())
-    } else {
-        placed(alloc, sources, search.answers.text.as_bytes())
+        None if search.inquiry.json => {
+            let reach = search.inquiry.reach;
+            Ok(answers_json(alloc, found, reach, search.limit.as_ref())?.into_bytes())
+        }
+        None => Ok(placed(alloc, sources, found.text.as_bytes())?),
     }
 }
 
@@ -106,16 +88,7 @@ fn chosen_line(
 ) -> Result<Vec<u8>, Complaint<'static>>
     ensures told { IfOk result (λ bytes. TellsChosen found.now choice bytes.items) }
 {
-    let chosen = chosen_schedule(alloc, found, choice)?;
-    Ok(line_of(alloc, chosen)?)
-}
-
-/// A text as a line, if there is one.
-fn line_of(alloc: Global, text: Option<String>) -> Result<Vec<u8>, AllocError>
-    ensures line { IfOk result (λ bytes. bytes.items
-        ≡ line_or_none (option_map string_bytes text)) }
-{
-    let Some(text) = text else {
+    let Some(text) = chosen_schedule(alloc, found, choice)? else {
         return Ok(Vec::new(alloc));
     };
     let mut bytes = text.into_bytes();
@@ -125,6 +98,7 @@ fn line_of(alloc: Global, text: Option<String>) -> Result<Vec<u8>, AllocError>
 
 /// The text of a schedule that is chosen, if there is one: what isn't as it has to be has none where all is so, and an end, which
 /// must be there, has none where memory was refused.
+#[tactic(auto, using(crate::proofs::TellingLemmas::shows_failure))]
 pub fn chosen_schedule(
     alloc: Global,
     found: &Answers,
@@ -134,33 +108,12 @@ pub fn chosen_schedule(
         IsChosen found.now choice (option_map string_bytes shown)) }
 {
     match choice {
-        Choice::Bad => Ok(bad_schedule(alloc, found)?),
-        Choice::End(number) => end_schedule(alloc, found, number as usize),
-    }
-}
-
-/// The text of the schedule that shows why not all is as it has to be, if there is one.
-#[tactic(auto, using(crate::proofs::TellingLemmas::shows_failure))]
-fn bad_schedule(alloc: Global, found: &Answers) -> Result<Option<String>, AllocError>
-    ensures shown { IfOk result (λ shown.
-        ShowsFailure found.now found.now.failure (option_map string_bytes shown)) }
-{
-    found.bad_schedule(alloc)
-}
-
-/// The text of the schedule of the end that is told with a number, from 1.
-fn end_schedule(
-    alloc: Global,
-    found: &Answers,
-    number: usize,
-) -> Result<Option<String>, Complaint<'static>>
-    ensures schedule { IfOk result (λ shown. option_map string_bytes shown
-        ≡ option_map (λ e. schedule_text e.schedule) (numbered_end found.now number)) }
-{
-    match numbered_end(found, number) {
-        None if found.exploration.refused => Ok(None),
-        None => Err(Reason::NoEnd.at("explore")),
-        Some(end) => Ok(Some(end.schedule.text(alloc)?)),
+        Choice::Bad => Ok(found.bad_schedule(alloc)?),
+        Choice::End(number) => match numbered_end(found, number as usize) {
+            Some(end) => Ok(Some(end.schedule.text(alloc)?)),
+            None if found.exploration.refused => Ok(None),
+            None => Err(Reason::NoEnd.at("explore")),
+        },
     }
 }
 
@@ -168,23 +121,7 @@ fn end_schedule(
 fn numbered_end(found: &Answers, number: usize) -> Option<&End>
     ensures end { option_copied result ≡ numbered_end found.now number }
 {
-    if number == 0 {
-        None
-    } else {
-        found.end(number - 1)
-    }
-}
-
-/// Says which objects that conditions name nobody opens.
-fn tell_unopened<T, P: Progress>(
-    job: &Job<'_, T, P>,
-    objects: &[Object],
-) -> Result<(), AllocError> {
-    for object in objects {
-        let line = format!(in job.alloc; "lc3lab: explore: nobody opens {object}\n")?;
-        job.progress.tell(&line);
-    }
-    Ok(())
+    found.end(number.checked_sub(1)?)
 }
 
 /// Whether no more is required than that each end has one verdict, be what is told of the ends as it may.
@@ -218,38 +155,6 @@ fn failure_of(search: &Search) -> Option<Failure>
     }
 }
 
-/// That an end isn't as a word requires; where a verdict alone is required, its verdict.
-fn unmet(word: Word, is_of_verdict: bool) -> Reason {
-    match word {
-        Word::Ended if is_of_verdict => Reason::Stuck,
-        Word::Stuck if is_of_verdict => Reason::Ended,
-        _ => Reason::Not(word),
-    }
-}
-
-/// That what is required of an output, by its number, isn't so at an end.
-fn unwritten(alloc: Global, asked: &Asked, number: usize) -> Complaint<'static> {
-    match asked.outputs.get(number) {
-        Some(need) => {
-            let text = need.text.as_str();
-            Complaint::new(alloc, "explore", format_args!("not {text}"))
-        }
-        None => Reason::Unwritten.at("explore"),
-    }
-}
-
-/// That what is asked of calls, by its number, isn't so on a way.
-fn uncalled(alloc: Global, asked: &Asked, number: usize) -> Complaint<'static> {
-    match asked.call_words.get(number) {
-        Some(word) => {
-            let head = if word.never { "reached" } else { "uncalled" };
-            let text = word.text.as_str();
-            Complaint::new(alloc, "explore", format_args!("{head} {text}"))
-        }
-        None => Reason::Uncalled.at("explore"),
-    }
-}
-
 /// Complains where something has to be so and isn't, or where memory was refused on the way.
 fn complain(alloc: Global, search: &Search) -> Result<(), Complaint<'static>>
     ensures none { OnOk result (complains search.now ≡ false) }
@@ -259,8 +164,17 @@ fn complain(alloc: Global, search: &Search) -> Result<(), Complaint<'static>>
     let refused = found.exploration.refused;
     let judges = found.asked.judges();
     match failure_of(search) {
-        Some(Failure::Not(word)) => Err(unmet(word, is_of_verdict(search)).at("explore")),
-        Some(Failure::Output(number)) => Err(unwritten(alloc, &found.asked, number)),
+        Some(Failure::Not(Word::Ended)) if is_of_verdict(search) => {
+            Err(Reason::Stuck.at("explore"))
+        }
+        Some(Failure::Not(Word::Stuck)) if is_of_verdict(search) => {
+            Err(Reason::Ended.at("explore"))
+        }
+        Some(Failure::Not(word)) => Err(Reason::Not(word).at("explore")),
+        Some(Failure::Output(number)) => Err(match found.asked.outputs.get(number) {
+            Some(need) => Complaint::new(alloc, "explore", format_args!("not {}", need.text)),
+            None => Reason::Unwritten.at("explore"),
+        }),
         Some(Failure::Reached(number)) => Err(match found.asked.never.get(number) {
             Some(condition) => {
                 Complaint::new(alloc, "explore", format_args!("reached {condition}"))
@@ -268,7 +182,13 @@ fn complain(alloc: Global, search: &Search) -> Result<(), Complaint<'static>>
             None => Reason::Reached.at("explore"),
         }),
         Some(Failure::Endless) => Err(Reason::Endless.at("explore")),
-        Some(Failure::Call(number)) => Err(uncalled(alloc, &found.asked, number)),
+        Some(Failure::Call(number)) => Err(match found.asked.call_words.get(number) {
+            Some(word) => {
+                let head = if word.never { "reached" } else { "uncalled" };
+                Complaint::new(alloc, "explore", format_args!("{head} {}", word.text))
+            }
+            None => Reason::Uncalled.at("explore"),
+        }),
         Some(Failure::Incomplete) if refused => Err(Reason::NoMemory.at("run")),
         Some(Failure::Incomplete) if judges => Err(Reason::Incomplete.at("explore")),
         Some(Failure::Incomplete) | None => Ok(()),

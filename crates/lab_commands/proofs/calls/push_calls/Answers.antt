@@ -1,7 +1,8 @@
 use Rattle.std.proofs.Common.{◌++◌, ◌∙◌, ap, List, arith}
 use Rattle.std.proofs.lemmas.List.{append_assoc}
 use Rattle.lab_ways.specs.declared.wanted.Wanted.{Wanted}
-use Rattle.lab_commands.proofs.AskedLemmas.{called_next, called_all}
+use Rattle.lab_commands.specs.Private.Inquiries.{IsAskedOfCalls}
+use Rattle.lab_commands.proofs.AskedLemmas.{called_with, asked_next, asked_all}
 use Rattle.lab_commands.proofs.calls.push_calls.Goals as goal
 
 pub loop-word-preserved : goal.loop-word-preserved
@@ -12,7 +13,7 @@ loop-word-preserved c =
         before.0 ++ here.0,
         here.1 ∙ ap (λ (wanted : List Wanted). wanted ++ here.0) before.1 ∙ append_assoc c.args.calls.now.wanted.items before.0 here.0,
       ),
-      called_next c.args.never c.loop-word.calls.wanted.items here.0 c.push_call.new.calls.wanted.items c.args.words.now c.loop-word.word-index _ c.loop-word-test.true
+      asked_next (IsAskedOfCalls c.args.never) (called_with c.args.never) c.loop-word.calls.wanted.items here.0 c.push_call.new.calls.wanted.items c.args.words.now c.loop-word.word-index _ c.loop-word-test.true
           here.1 c.loop-word.invariant.1 c.in_ok-push_call.ensures.asked,
     )
 
@@ -20,5 +21,5 @@ pub returns : goal.returns
 returns c =
     record {
       more = c.loop-word.invariant.0;
-      each = called_all c.args.never c.loop-word.calls.wanted.items c.args.words.now c.loop-word.word-index (omega (arith, c.loop-word-test.false)) c.loop-word.invariant.1;
+      each = asked_all (IsAskedOfCalls c.args.never c.loop-word.calls.wanted.items) c.args.words.now c.loop-word.word-index (omega (arith, c.loop-word-test.false)) c.loop-word.invariant.1;
     }
