@@ -90,268 +90,103 @@ const QUIET: &str = "Tells no notes and no advice, also at a terminal";
 /// The page of a run.
 const PAGE: &str = "Also writes FILE, a page that shows the run step by step in a browser";
 
-const ASM: &[Row] = &[
-    Row {
-        name: "SOURCE",
-        takes: Takes::Place,
-        help: "A source text, as UTF-8",
-    },
-    Row {
-        name: "OBJECT",
-        takes: Takes::Place,
-        help: "The object file to write",
-    },
-    Row {
-        name: "list",
-        takes: Takes::Nothing,
-        help: "Prints the listing",
-    },
-    Row {
-        name: "explain",
-        takes: Takes::Nothing,
-        help: "Shows the source line of a fault, where it is wrong and what could stand there",
-    },
-    Row {
-        name: "profile",
-        takes: Takes::Profile,
-        help: MACHINE,
-    },
-];
+/// Options, each by its name, what words give to it and what help says of it.
+macro_rules! rows {
+    ($($name:literal, $takes:expr, $help:expr;)*) => {
+        &[$(Row {
+            name: $name,
+            takes: $takes,
+            help: $help,
+        }),*]
+    };
+}
 
-const CHECK: &[Row] = &[
-    Row {
-        name: "SOURCE",
-        takes: Takes::Places,
-        help: "A source text, as UTF-8",
-    },
-    Row {
-        name: "profile",
-        takes: Takes::Profile,
-        help: MACHINE,
-    },
-    Row {
-        name: "werror",
-        takes: Takes::Nothing,
-        help: "Fails where there is a warning",
-    },
-    Row {
-        name: "allow",
-        takes: Takes::Warnings,
-        help: "Leaves out a warning of this name",
-    },
-];
+const ASM: &[Row] = rows! {
+    "SOURCE", Takes::Place, "A source text, as UTF-8";
+    "OBJECT", Takes::Place, "The object file to write";
+    "list", Takes::Nothing, "Prints the listing";
+    "explain", Takes::Nothing,
+        "Shows the source line of a fault, where it is wrong and what could stand there";
+    "profile", Takes::Profile, MACHINE;
+};
 
-const DIS: &[Row] = &[Row {
-    name: "OBJECT",
-    takes: Takes::Place,
-    help: "The object file or the source to read",
-}];
+const CHECK: &[Row] = rows! {
+    "SOURCE", Takes::Places, "A source text, as UTF-8";
+    "profile", Takes::Profile, MACHINE;
+    "werror", Takes::Nothing, "Fails where there is a warning";
+    "allow", Takes::Warnings, "Leaves out a warning of this name";
+};
 
-const PROGRAMS: &[Row] = &[
-    Row {
-        name: "PROGRAM",
-        takes: Takes::Places,
-        help: GIVEN,
-    },
-    Row {
-        name: "profile",
-        takes: Takes::Profile,
-        help: MACHINES,
-    },
-    Row {
-        name: "notes",
-        takes: Takes::Nothing,
-        help: NOTES,
-    },
-    Row {
-        name: "quiet",
-        takes: Takes::Nothing,
-        help: QUIET,
-    },
-];
+const DIS: &[Row] = rows! {
+    "OBJECT", Takes::Place, "The object file or the source to read";
+};
 
-const TRACE: &[Row] = &[
-    Row {
-        name: "PROGRAM",
-        takes: Takes::Places,
-        help: GIVEN,
-    },
-    Row {
-        name: "profile",
-        takes: Takes::Profile,
-        help: MACHINES,
-    },
-    Row {
-        name: "notes",
-        takes: Takes::Nothing,
-        help: NOTES,
-    },
-    Row {
-        name: "quiet",
-        takes: Takes::Nothing,
-        help: QUIET,
-    },
-    Row {
-        name: "page",
-        takes: Takes::Text("FILE"),
-        help: PAGE,
-    },
-    Row {
-        name: "source",
-        takes: Takes::Sources,
-        help: "On the page, shows the lines of FILE, the source of process P",
-    },
-];
+const PROGRAMS: &[Row] = rows! {
+    "PROGRAM", Takes::Places, GIVEN;
+    "profile", Takes::Profile, MACHINES;
+    "notes", Takes::Nothing, NOTES;
+    "quiet", Takes::Nothing, QUIET;
+};
 
-const RUN: &[Row] = &[
-    Row {
-        name: "PROGRAM",
-        takes: Takes::Places,
-        help: GIVEN_OR_TYPED,
-    },
-    Row {
-        name: "profile",
-        takes: Takes::Profile,
-        help: MACHINES,
-    },
-    Row {
-        name: "notes",
-        takes: Takes::Nothing,
-        help: NOTES,
-    },
-    Row {
-        name: "quiet",
-        takes: Takes::Nothing,
-        help: QUIET,
-    },
-    Row {
-        name: "limit",
-        takes: Takes::Usually("N", MOST_STEPS_EACH, "100000"),
-        help: "The most steps of each process",
-    },
-    Row {
-        name: "mix",
-        takes: Takes::Number("SEED"),
-        help: "Pauses before calls, by random numbers from SEED, which does not fix the interleaving",
-    },
-    Row {
-        name: "plain",
-        takes: Takes::Nothing,
-        help: "Also prints what each process has written as it is, behind the report",
-    },
-    Row {
-        name: "page",
-        takes: Takes::Text("FILE"),
-        help: PAGE,
-    },
-];
+const TRACE: &[Row] = rows! {
+    "PROGRAM", Takes::Places, GIVEN;
+    "profile", Takes::Profile, MACHINES;
+    "notes", Takes::Nothing, NOTES;
+    "quiet", Takes::Nothing, QUIET;
+    "page", Takes::Text("FILE"), PAGE;
+    "source", Takes::Sources, "On the page, shows the lines of FILE, the source of process P";
+};
 
-const EXPLORE: &[Row] = &[
-    Row {
-        name: "PROGRAM",
-        takes: Takes::Places,
-        help: GIVEN_OR_TYPED,
-    },
-    Row {
-        name: "profile",
-        takes: Takes::Profile,
-        help: MACHINES,
-    },
-    Row {
-        name: "notes",
-        takes: Takes::Nothing,
-        help: NOTES,
-    },
-    Row {
-        name: "quiet",
-        takes: Takes::Nothing,
-        help: QUIET,
-    },
-    Row {
-        name: "limit",
-        takes: Takes::Usually("N", MOST_LOCAL_STEPS, "100000"),
-        help: "The most steps of a process without a call",
-    },
-    Row {
-        name: "memory",
-        takes: Takes::Usually("MB", MOST_MEMORY, "2048"),
-        help: "The most memory to take, in megabytes",
-    },
-    Row {
-        name: "threads",
-        takes: Takes::UpTo("N", MOST_THREADS),
-        help: "How many threads judge conditions [default: as many as processors]",
-    },
-    Row {
-        name: "worlds",
-        takes: Takes::UpTo("M", MOST_WORLDS),
-        help: "The most worlds to visit, or those of a walk [default: 10000000, and 10000 of a walk]",
-    },
-    Row {
-        name: "random",
-        takes: Takes::UpTo("N", MOST_WALKS),
-        help: "Takes N walks by random numbers instead, which never show that there is no other end",
-    },
-    Row {
-        name: "seed",
-        takes: Takes::Number("S"),
-        help: "With --random: the seed of the random numbers [default: 1]",
-    },
-    Row {
-        name: "require",
-        takes: Takes::Texts("WORDS"),
-        help: "Fails unless the search is complete and each end is so: \
+const RUN: &[Row] = rows! {
+    "PROGRAM", Takes::Places, GIVEN_OR_TYPED;
+    "profile", Takes::Profile, MACHINES;
+    "notes", Takes::Nothing, NOTES;
+    "quiet", Takes::Nothing, QUIET;
+    "limit", Takes::Usually("N", MOST_STEPS_EACH, "100000"), "The most steps of each process";
+    "mix", Takes::Number("SEED"),
+        "Pauses before calls, by random numbers from SEED, which does not fix the interleaving";
+    "plain", Takes::Nothing,
+        "Also prints what each process has written as it is, behind the report";
+    "page", Takes::Text("FILE"), PAGE;
+};
+
+const EXPLORE: &[Row] = rows! {
+    "PROGRAM", Takes::Places, GIVEN_OR_TYPED;
+    "profile", Takes::Profile, MACHINES;
+    "notes", Takes::Nothing, NOTES;
+    "quiet", Takes::Nothing, QUIET;
+    "limit", Takes::Usually("N", MOST_LOCAL_STEPS, "100000"),
+        "The most steps of a process without a call";
+    "memory", Takes::Usually("MB", MOST_MEMORY, "2048"), "The most memory to take, in megabytes";
+    "threads", Takes::UpTo("N", MOST_THREADS),
+        "How many threads judge conditions [default: as many as processors]";
+    "worlds", Takes::UpTo("M", MOST_WORLDS),
+        "The most worlds to visit, or those of a walk [default: 10000000, and 10000 of a walk]";
+    "random", Takes::UpTo("N", MOST_WALKS),
+        "Takes N walks by random numbers instead, which never show that there is no other end";
+    "seed", Takes::Number("S"), "With --random: the seed of the random numbers [default: 1]";
+    "require", Takes::Texts("WORDS"),
+        "Fails unless the search is complete and each end is so: \
             ended, stuck, halted, empty, same, out P = \"TEXT\", out P has \"TEXT\", with commas between them; \
-            or, with P calls CALL, each way to an end has this call",
-    },
-    Row {
-        name: "may-wait",
-        takes: Takes::Texts("P"),
-        help: "With ended or halted: process P may wait for ever; \
-            'P at A' or 'P at A-B' where its program counter is there",
-    },
-    Row {
-        name: "never",
-        takes: Takes::Texts("CONDITION"),
-        help: "Fails unless the search is complete and this condition never holds, \
+            or, with P calls CALL, each way to an end has this call";
+    "may-wait", Takes::Texts("P"),
+        "With ended or halted: process P may wait for ever; \
+            'P at A' or 'P at A-B' where its program counter is there";
+    "never", Takes::Texts("CONDITION"),
+        "Fails unless the search is complete and this condition never holds, \
             or, with lost, no message is lost with its queue, \
             or, with refused, no call is answered with an error but EAGAIN, \
-            or, with P calls CALL, no such call is made",
-    },
-    Row {
-        name: "fair",
-        takes: Takes::Nothing,
-        help: "Tells only rounds in which each process that can go on takes a step",
-    },
-    Row {
-        name: "show",
-        takes: Takes::Text("WORDS"),
-        help: "What is told of each end: out, what the processes have written, in place of the report; \
-            left, the messages that are left, too; or both, with a comma between them",
-    },
-    Row {
-        name: "first",
-        takes: Takes::Nothing,
-        help: "Ends the search where something is found that is not as it has to be",
-    },
-    Row {
-        name: "schedule",
-        takes: Takes::Text("K|bad"),
-        help: "Prints the schedule of end K alone, or of the first thing that is not as it has to be",
-    },
-    Row {
-        name: "trace",
-        takes: Takes::Text("K|bad"),
-        help: "Also prints what happens in the run to end K, or to the first thing that is not as it has to be",
-    },
-    Row {
-        name: "json",
-        takes: Takes::Nothing,
-        help: "Prints the answers as JSON",
-    },
-    Row {
-        name: "page",
-        takes: Takes::Text("FILE"),
-        help: "Also writes FILE, a page that shows the ends and the run of each in a browser",
-    },
-];
+            or, with P calls CALL, no such call is made";
+    "fair", Takes::Nothing, "Tells only rounds in which each process that can go on takes a step";
+    "show", Takes::Text("WORDS"),
+        "What is told of each end: out, what the processes have written, in place of the report; \
+            left, the messages that are left, too; or both, with a comma between them";
+    "first", Takes::Nothing, "Ends the search where something is found that is not as it has to be";
+    "schedule", Takes::Text("K|bad"),
+        "Prints the schedule of end K alone, or of the first thing that is not as it has to be";
+    "trace", Takes::Text("K|bad"),
+        "Also prints what happens in the run to end K, or to the first thing that is not as it has to be";
+    "json", Takes::Nothing, "Prints the answers as JSON";
+    "page", Takes::Text("FILE"),
+        "Also writes FILE, a page that shows the ends and the run of each in a browser";
+};

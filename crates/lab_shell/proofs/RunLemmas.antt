@@ -10,7 +10,6 @@ use Rattle.lab_questions.specs.EndTexts.{told_end}
 use Rattle.lab_questions.specs.declared.answers.Answers.{Answers}
 use Rattle.lab_places.specs.Placed.{SourceSeen}
 use Rattle.lab_template.specs.Pages.{around, page_text}
-use Rattle.lab_template.specs.declared.template.Template.{Template}
 use Rattle.lab_page.specs.Ends.{EndList, ends_json, with_end}
 use Rattle.lab_page.specs.Sources.{programs, sources_shown}
 use Rattle.lab_page.specs.Worlds.{Worlds}
@@ -20,7 +19,7 @@ use Rattle.lab_page.specs.declared.source.Source.{Source}
 use Rattle.lab_commands.specs.declared.explore.Search.{Search}
 use Rattle.lab_commands.specs.Found.{IsFound}
 use Rattle.lab_commands.specs.Told.{HasTold}
-use Rattle.lab_shell.specs.declared.page.Paged.{Paged}
+use Rattle.lab_shell.specs.declared.ends_page.Explored.{Explored}
 use Rattle.lab_shell.specs.Private.Explored.{HasExplored, IsTraceOf}
 use Rattle.lab_shell.specs.Private.Runs.{HasRuns, IsPageOfEnds, start_of, runs_to, with_run}
 use Rattle.lab_shell.specs.Private.Shown.{ArePictured}
@@ -41,23 +40,23 @@ pub full_stays : (l : EndList) (e : List ℕ) → l.full ≡ true → with_end l
 full_stays l e full = rw full refl
 
 -- the page has these runs
-pub page_of_runs : (template : Template) (p : Paged) (s : Search) (l : EndList) (worlds : Option Worlds) (bytes : List ℕ)
+pub page_of_runs : {T P : Type 0} (e : Explored T P) (l : EndList) (worlds : Option Worlds) (bytes : List ℕ)
     (names : List (List ℕ)) (others : EndList) (asked : List Asked) (endless : Option Data) (extent : Extent)
-    → extent.complete ≡ s.answers.exploration.complete
-    → bytes ≡ page_text (around template) (ends_json (programs (length p.given.programs.items) names (sources_shown p.sources.items))
-    l others asked endless extent worlds)
-    → HasRuns template p s l worlds bytes
-page_of_runs template p s l worlds bytes names others asked endless extent complete page =
+    → extent.complete ≡ e.search.answers.exploration.complete
+    → bytes ≡ page_text (around e.given.job.now.texts.now.template)
+    (ends_json (programs (length e.given.programs.programs.items) names (sources_shown e.given.sources.items)) l others asked endless extent worlds)
+    → HasRuns e l worlds bytes
+page_of_runs e l worlds bytes names others asked endless extent complete page =
     record { names = names; others = others; asked = asked; endless = endless; extent = extent; complete = complete; page = page }
 
 -- the page has the runs to the ends that are told
-pub is_page_of_ends : (template : Template) (p : Paged) (s : Search) (l : EndList) (worlds : Option Worlds) (bytes : List ℕ)
-    → l ≡ runs_to (start_of p) p.sources.items s.answers (length s.answers.told.items)
-    → IfSome worlds (λ w. ArePictured (start_of p) w.edges)
-    → HasRuns template p s l worlds bytes
-    → IsPageOfEnds template p s bytes
-is_page_of_ends template p s l worlds bytes is pictured runs =
-    record { worlds = worlds; pictured = pictured; runs = subst (λ l. HasRuns template p s l worlds bytes) is runs }
+pub is_page_of_ends : {T P : Type 0} (e : Explored T P) (l : EndList) (worlds : Option Worlds) (bytes : List ℕ)
+    → l ≡ runs_to (start_of e.given) e.given.sources.items e.search.answers (length e.search.answers.told.items)
+    → IfSome worlds (λ w. ArePictured (start_of e.given) w.edges)
+    → HasRuns e l worlds bytes
+    → IsPageOfEnds e bytes
+is_page_of_ends e l worlds bytes is pictured runs =
+    record { worlds = worlds; pictured = pictured; runs = subst (λ l. HasRuns e l worlds bytes) is runs }
 
 -- what was appended tells what was found
 pub has_explored : (profile : Profile) (programs : List Program) (s : Search) (sources : List (Option SourceSeen)) (old between new : Option (List ℕ))

@@ -9,7 +9,6 @@ use Rattle.lab_worlds.specs.declared.ends.End.{End}
 use Rattle.lab_questions.specs.EndTexts.{told_end}
 use Rattle.lab_questions.specs.declared.answers.Answers.{Answers}
 use Rattle.lab_template.specs.Pages.{around, page_text}
-use Rattle.lab_template.specs.declared.template.Template.{Template}
 use Rattle.lab_page.specs.Ends.{EndList, end_data, ends_json, with_end}
 use Rattle.lab_page.specs.Runs.{run_data}
 use Rattle.lab_page.specs.Sources.{programs, sources_shown}
@@ -18,13 +17,13 @@ use Rattle.lab_page.specs.Worlds.{Worlds}
 use Rattle.lab_page.specs.declared.asked.Asked.{Asked}
 use Rattle.lab_page.specs.declared.ends.Extent.{Extent}
 use Rattle.lab_page.specs.declared.source.Source.{Source}
-use Rattle.lab_commands.specs.declared.explore.Search.{Search}
-use Rattle.lab_shell.specs.declared.page.Paged.{Paged}
+use Rattle.lab_shell.specs.declared.ends_page.Explored.{Explored}
+use Rattle.lab_shell.specs.declared.given.Given.{Given}
 use Rattle.lab_shell.specs.Private.Shown.{ArePictured}
 
--- the laboratory of the programs of a page, before its first step
-abbrev pub start_of : Paged → WorldState
-start_of p = fresh p.setup.now.profile p.given.programs.items
+-- the laboratory of programs, before its first step
+abbrev pub start_of : {T P : Type 0} → Given T P → WorldState
+start_of g = fresh g.setup.now.profile g.programs.programs.items
 
 -- the JSON of a laboratory's run by a schedule, with a number, and with what its steps store where these sources have words
 abbrev pub run_json : WorldState → List (Option Source) → List Block → ℕ → List ℕ
@@ -41,18 +40,18 @@ runs_to start sources a zero = record { json = []; count = 0; full = false }
 runs_to start sources a (suc n) = with_run start sources (runs_to start sources a n) (told_end a.exploration.ends.items a.told.items n)
 
 -- a page has these runs to ends and this picture of all worlds, by the programs, their sources and the answers
-pub record HasRuns (template : Template) (p : Paged) (s : Search) (l : EndList) (worlds : Option Worlds) (bytes : List ℕ) : Type 0 where
+pub record HasRuns {T P : Type 0} (e : Explored T P) (l : EndList) (worlds : Option Worlds) (bytes : List ℕ) : Type 0 where
   pub names : List (List ℕ)
   pub others : EndList
   pub asked : List Asked
   pub endless : Option Data
   pub extent : Extent
-  pub complete : extent.complete ≡ s.answers.exploration.complete
-  pub page : bytes ≡ page_text (around template) (ends_json (programs (length p.given.programs.items) names (sources_shown p.sources.items))
-      l others asked endless extent worlds)
+  pub complete : extent.complete ≡ e.search.answers.exploration.complete
+  pub page : bytes ≡ page_text (around e.given.job.now.texts.now.template)
+      (ends_json (programs (length e.given.programs.programs.items) names (sources_shown e.given.sources.items)) l others asked endless extent worlds)
 
 -- a page has the runs to the ends that are told, and a picture of all worlds that the programs can come to, if it has one
-pub record IsPageOfEnds (template : Template) (p : Paged) (s : Search) (bytes : List ℕ) : Type 0 where
+pub record IsPageOfEnds {T P : Type 0} (e : Explored T P) (bytes : List ℕ) : Type 0 where
   pub worlds : Option Worlds
-  pub pictured : IfSome worlds (λ w. ArePictured (start_of p) w.edges)
-  pub runs : HasRuns template p s (runs_to (start_of p) p.sources.items s.answers (length s.answers.told.items)) worlds bytes
+  pub pictured : IfSome worlds (λ w. ArePictured (start_of e.given) w.edges)
+  pub runs : HasRuns e (runs_to (start_of e.given) e.given.sources.items e.search.answers (length e.search.answers.told.items)) worlds bytes

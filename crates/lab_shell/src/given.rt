@@ -1,0 +1,182 @@
+//! Programs that a command runs, and the sources that a page shows of them.
+ghost use Rattle.std.specs.Prelude.{◌≡◌, false, IfOk};
+ghost use Rattle.lab_shell.specs.Private.Runs.{start_of};
+
+use lab_arguments::{Console, Setup, program_of};
+use lab_commands::{
+    At, Complaint, Job, Misuse, Programs, Progress, Reason, has_source_name, is_same_file,
+    laboratory, read_programs, read_source,
+};
+use lab_io::Input;
+use lab_page::{Source, source_of};
+use lab_sched::World;
+use lc3_asm::assemble;
+use lc3_word::Image;
+use std::alloc::Global;
+use std::io::Read;
+use std::rt::Files;
+
+/// Programs that a command runs, and what it works with.
+#[derive(Drop)]
+pub struct Given<'j, 'a, T, P> {
+    pub job: &'j Job<'j, T, P>,
+    pub setup: &'j Setup<'a>,
+    pub programs: Programs,
+    /// What a page shows of the source of each process; none where there is no page.
+    pub sources: Vec<Option<Source>>,
+}
+
+impl<'j, 'a, T: Files, P: Progress> Given<'j, 'a, T, P> {
+    /// Reads the programs of a setup, and for a page their sources, by its source files. A console input that comes from
+    /// standard input is empty here.
+    pub fn read(
+        job: &'j Job<'j, T, P>,
+        setup: &'j Setup<'a>,
+        files: Vec<Option<&'a str>>,
+    ) -> Result<Given<'j, 'a, T, P>, Complaint<'a>>
+        ensures setup { IfOk result (λ g. g.setup.now ≡ setup.now) }
+    {
+        let programs = read_programs(job, setup.programs.as_slice())?;
+        let sources = page_sources(job, files.as_slice(), &programs)?;
+        Ok(Given {
+            job,
+            setup,
+            programs,
+            sources,
+        })
+    }
+
+    /// The same with the console input of the process that takes it from standard input, if one does; warnings of the sources
+    /// are told.
+    pub fn read_filled<R: Read>(
+        job: &'j Job<'j, T, P>,
+        setup: &'j Setup<'a>,
+        files: Vec<Option<&'a str>>,
+        input: &mut Input<R>,
+    ) -> Result<Given<'j, 'a, T, P>, Complaint<'a>>
+        requires input_healthy { input.old.failed ≡ false }
+        ensures setup { IfOk result (λ g. g.setup.now ≡ setup.now) }
+    {
+        let mut given = Given::read(job, setup, files)?;
+        given
+            .programs
+            .fill(job.alloc, setup.programs.as_slice(), input)?;
+        given.tell_warnings();
+        Ok(given)
+    }
+}
+
+impl<T, P> Given<'_, '_, T, P> {
+    /// The world of the programs before the first step.
+    pub fn world(&self) -> Result<World, Complaint<'static>>
+        ensures start { IfOk result (λ w. w ≡ start_of self.now) }
+    {
+        let programs = self.programs.programs.as_slice();
+        let fresh = laboratory(self.job.alloc, programs, self.setup.profile)?;
+        Ok(World::from(fresh))
+    }
+}
+
+/// The source file of each process for a page, where one of the words names one: each word is `P=FILE`, and no two name one
+/// process; without a page there are none. Refuses a page that would replace a file of the run, a program, an input file or a
+/// source, or has the name of a source.
+pub fn page_files<'a, T: Files, P>(
+    job: &Job<'_, T, P>,
+    setup: &Setup<'a>,
+    page: Option<&'a str>,
+    words: &[&'a str],
+) -> Result<Vec<Option<&'a str>>, Complaint<'a>> {
+    let Some(page) = page else {
+        return Ok(Vec::new(job.alloc));
+    };
+    let files = source_files(job.alloc, words, setup.programs.len())?;
+    let words = setup.programs.as_slice();
+    if words.iter().any(|word| is_of_program(job.rt, page, word))
+        || files.iter().any(|file| file.is_some_and(|file| is_same_file(job.rt, page, file)))
+    {
+        return Err(Misuse::OwnFile.of(page));
+    }
+    if has_source_name(page) {
+        return Err(Misuse::SourceName.of(page));
+    }
+    Ok(files)
+}
+
+/// Of each of `count` processes the source file that one of the words names.
+fn source_files<'a>(
+    alloc: Global,
+    words: &[&'a str],
+    count: usize,
+) -> Result<Vec<Option<&'a str>>, Complaint<'a>> {
+    let mut files = vec![in alloc; None; count]?;
+    for word in words {
+        let Some((process, file)) = process_and_file(word) else {
+            return Err(Misuse::UnknownProcess.of(word));
+        };
+        match files.get_mut(process) {
+            None => return Err(Misuse::UnknownProcess.of(word)),
+            Some(Some(_)) => return Err(Misuse::TwoSources.of(word)),
+            Some(place) => *place = Some(file),
+        }
+    }
+    Ok(files)
+}
+
+/// The number and the file in a word `P=FILE`.
+fn process_and_file(word: &str) -> Option<(usize, &str)> {
+    let (process, file) = word.split_once('=')?;
+    Some((process.parse::<usize>().ok()?, file))
+}
+
+/// Whether a file is the program file or the input file that a word names.
+fn is_of_program<T: Files>(rt: &T, file: &str, word: &str) -> bool {
+    let (program, console) = program_of(word);
+    is_same_file(rt, file, program)
+        || matches!(console, Console::File(input) if is_same_file(rt, file, input))
+}
+
+/// The source of each process: that in its file, which is assembled to its program, and where no file is named the one that
+/// the program was given as, if it was.
+fn page_sources<'a, T: Files, P>(
+    job: &Job<'_, T, P>,
+    files: &[Option<&'a str>],
+    given: &Programs,
+) -> Result<Vec<Option<Source>>, Complaint<'a>> {
+    let alloc = job.alloc;
+    let mut sources = Vec::new(alloc);
+    for (process, file) in files.iter().enumerate() {
+        let source = match (
+            *file,
+            given.programs.get(process),
+            given.sources.get(process),
+        ) {
+            (Some(file), Some(program), _) => {
+                Some(source_for(job, file, process, &program.image)?)
+            }
+            (_, _, Some(Some(source))) => {
+                let text = String::from_str(alloc, &source.text)?;
+                Some(source_of(alloc, text, &source.assembled)?)
+            }
+            _ => None,
+        };
+        sources.push(source)?;
+    }
+    Ok(sources)
+}
+
+/// The source in a file, which is assembled to the image of a process.
+fn source_for<'a, T: Files, P>(
+    job: &Job<'_, T, P>,
+    file: &'a str,
+    process: usize,
+    image: &Image,
+) -> Result<Source, Complaint<'a>> {
+    let alloc = job.alloc;
+    let text = read_source(job.rt, alloc, file)?;
+    let assembled = assemble(alloc, &text).at(alloc, file)?;
+    let made = assembled.image();
+    if made.origin() != image.origin() || made.words() != image.words() {
+        return Err(Reason::NotItsSource { process }.at(file));
+    }
+    source_of(alloc, text, &assembled).map_err(|_| Reason::NoMemory.at(file))
+}
