@@ -11,9 +11,9 @@ use Rattle.lab_moments.specs.Values.{list, natural, naturals, all_below}
 abbrev pub shown_count : ℕ → ℕ
 shown_count pc = min (pc + 5) first_device - (pc - 3)
 
--- so many words of a memory from an address on
+-- so many words of a memory from an address on, as far as there are
 unfoldable pub memory_from : Machine → ℕ → ℕ → List ℕ
-memory_from m first count = all_below count (λ i. slice_index m.memory (first + i) ∷ [])
+memory_from m first count = all_below (min count (65536 - first)) (λ i. slice_index m.memory (first + i) ∷ [])
 
 -- the words around a program counter
 abbrev pub words_around : Machine → List ℕ

@@ -34,10 +34,7 @@ fn count_value(alloc: Global, pid: usize, count: StepCount) -> Result<Option<Val
 fn count_of(between: &[StepCount], pid: usize) -> StepCount
     ensures count { result ≡ count_of between.now pid }
 {
-    match between.get(pid) {
-        Some(count) => *count,
-        None => NO_STEPS,
-    }
+    between.get(pid).copied().unwrap_or(NO_STEPS)
 }
 
 /// Adds so many counted steps of process `pid`, and so many without an effect.
@@ -82,8 +79,10 @@ pub fn between_value(alloc: Global, between: &[StepCount]) -> Result<Value, Allo
 {
     let mut values = Vec::new(alloc);
     for pid in 0..between.len() {
-        let count = count_value(alloc, pid, count_of(between, pid))?;
-        push_some(&mut values, count)?;
+        push_some(
+            &mut values,
+            count_value(alloc, pid, count_of(between, pid))?,
+        )?;
     }
     Ok(Value::Array(values))
 }

@@ -1,15 +1,14 @@
 //! Circles of processes, of which each waits for what the next has taken.
-ghost use Rattle.std.specs.Prelude.{◌≡◌, ◌==◌, ◌<◌, ◌∷◌, IfOk, IfSome, length, position, nat_lt};
+ghost use Rattle.std.specs.Prelude.{◌≡◌, ◌==◌, ◌<◌, IfOk, IfSome, length, position, nat_lt};
 ghost use Rattle.std.specs.List.{find, list_any};
 ghost use Rattle.std.specs.Option.{option_map, option_to_list};
 ghost use Rattle.serde_json.specs.View.{view};
 ghost use Rattle.lab_moments.specs.Objects.{awaited_at};
-ghost use Rattle.lab_moments.specs.Values.{naturals};
 ghost use Rattle.lab_moments.specs.Waits.{blocker, blocker_in, blockers, circle_from, circles_data, followed, is_blocking};
 
 use crate::holds::Hold;
 use crate::objects::awaited_at;
-use crate::values::push_some;
+use crate::values::{list_value, push_some};
 use lab_sched::{Process, World};
 use serde_json::Value;
 use std::alloc::{AllocError, Global};
@@ -74,17 +73,6 @@ fn followed(alloc: Global, blockers: &[Option<usize>], pid: usize) -> Result<Vec
     Ok(followed)
 }
 
-fn numbers(alloc: Global, first: usize, others: &[usize]) -> Result<Value, AllocError>
-    ensures value { IfOk result (λ v. view v ≡ naturals (first ∷ others.now)) }
-{
-    let mut values = Vec::new(alloc);
-    values.push(Value::from(first))?;
-    for other in others {
-        values.push(Value::from(*other))?;
-    }
-    Ok(Value::Array(values))
-}
-
 fn position_of(processes: &[usize], pid: usize) -> Option<usize>
     ensures position { result ≡ position (λ q. q == pid) processes.now }
     ensures within { IfSome result (λ i. i < length processes.now) }
@@ -110,7 +98,10 @@ fn circle_from(alloc: Global, pid: usize, behind: &[usize]) -> Result<Option<Val
     if any_below(others, pid) {
         return Ok(None);
     }
-    Ok(Some(numbers(alloc, pid, others)?))
+    let mut circle = Vec::new(alloc);
+    circle.push(pid)?;
+    circle.extend_from_slice(others)?;
+    Ok(Some(list_value(alloc, &circle)?))
 }
 
 /// The circles of processes in a world, each by its least one, by the units that are taken.
@@ -122,8 +113,7 @@ pub fn circles_value(alloc: Global, world: &World, holds: &[Hold]) -> Result<Val
     let mut circles = Vec::new(alloc);
     for pid in 0..blockers.len() {
         let behind = followed(alloc, &blockers, pid)?;
-        let circle = circle_from(alloc, pid, &behind)?;
-        push_some(&mut circles, circle)?;
+        push_some(&mut circles, circle_from(alloc, pid, &behind)?)?;
     }
     Ok(Value::Array(circles))
 }

@@ -4,7 +4,7 @@ ghost use Rattle.std.specs.List.{find, filter};
 ghost use Rattle.std.specs.Option.{option_to_list};
 ghost use Rattle.serde_json.specs.View.{view};
 ghost use Rattle.lab_told.specs.Answers.{act_done};
-ghost use Rattle.lab_moments.specs.Holds.{given_by, has_taken, holds_after, holds_data, holds_over, is_hold_of, is_kept, is_over, taken_by};
+ghost use Rattle.lab_moments.specs.Holds.{given_by, has_taken, holds_after, holds_data, holds_over, is_hold_of, is_kept, taken_by};
 
 use crate::known::{Known, made_with};
 use crate::values::{AsData, list_value};
@@ -93,22 +93,6 @@ fn is_kept(kernel: &Kernel, given: Option<Hold>, hold: Hold) -> bool
     !is_given && kernel.semaphore_at(hold.place).is_some()
 }
 
-/// The units that don't stay taken.
-fn over(
-    alloc: Global,
-    kernel: &Kernel,
-    given: Option<Hold>,
-    holds: &[Hold],
-) -> Result<Vec<Hold>, AllocError>
-    ensures over { IfOk result (λ v. v.items ≡ filter (is_over kernel.now given) holds.now) }
-{
-    holds
-        .iter()
-        .copied()
-        .filter(|hold| !is_kept(kernel, given, *hold))
-        .collect(alloc)
-}
-
 fn drop_over(holds: &mut Vec<Hold>, kernel: &Kernel, given: Option<Hold>)
     ensures kept { holds.new.items ≡ filter (is_kept kernel.now given) holds.old.items }
 {
@@ -146,5 +130,10 @@ pub fn over_value(
         ≡ holds_data (holds_over kernel.now pid act.now holds.now)) }
 {
     let given = given_by(holds, pid, act);
-    list_value(alloc, &over(alloc, kernel, given, holds)?)
+    let over: Vec<Hold> = holds
+        .iter()
+        .copied()
+        .filter(|hold| !is_kept(kernel, given, *hold))
+        .collect(alloc)?;
+    list_value(alloc, &over)
 }

@@ -27,11 +27,11 @@ pub struct Known {
 fn known_with(was: Option<Known>, named: bool, level: u16) -> Known
     ensures known { result ≡ known_with was named level }
 {
-    let made = match was {
-        Some(was) => was.made,
-        None => level,
-    };
-    Known { named, level, made }
+    Known {
+        named,
+        level,
+        made: was.map_or(level, |was| was.made),
+    }
 }
 
 /// What is known of the object in a place, by what was known of it.
@@ -49,10 +49,7 @@ fn known_of(was: Option<Known>, kernel: &Kernel, place: u8) -> Option<Known>
 fn level_made(known: Option<Known>) -> u16
     ensures level { result ≡ made_with known }
 {
-    match known {
-        Some(known) => known.made,
-        None => 0,
-    }
+    known.map_or(0, |known| known.made)
 }
 
 /// Whether an object is as it was: gone, or with a name or not and the level as before.
@@ -146,8 +143,7 @@ pub fn objects_told(
 {
     let mut told = Vec::new(alloc);
     for place in 0..OBJECT_PLACES as u8 {
-        let object = object_told(alloc, objects, taken, act, place)?;
-        push_some(&mut told, object)?;
+        push_some(&mut told, object_told(alloc, objects, taken, act, place)?)?;
     }
     Ok(told)
 }

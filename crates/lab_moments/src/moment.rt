@@ -2,7 +2,7 @@
 ghost use Rattle.std.specs.Prelude.{◌≡◌, ◌<◌, IfOk, length, option_to_list};
 ghost use Rattle.std.specs.Option.{option_map};
 ghost use Rattle.serde_json.specs.View.{view};
-ghost use Rattle.lab_moments.specs.Moments.{counted_moment, shown_moment, moment_by};
+ghost use Rattle.lab_moments.specs.Moments.{shown_moment, moment_by};
 
 use crate::between::between_value;
 use crate::event::event_value;
@@ -12,14 +12,6 @@ use lab_told::{Event, Taken, Told};
 use lab_trace::Form;
 use serde_json::{Value, json};
 use std::alloc::{AllocError, Global};
-
-#[tactic(auto, unfolding(crate::specs::Moments::counted_moment))]
-fn counted_moment(alloc: Global, taken: &Taken<'_>) -> Result<Value, AllocError>
-    ensures moment { IfOk result (λ v. view v
-        ≡ counted_moment taken.now.number taken.now.pid taken.now.world.now) }
-{
-    json!(in alloc; [taken.number, taken.pid, state_in(alloc, taken.world, taken.pid)?])
-}
 
 #[tactic(auto, unfolding(crate::specs::Moments::shown_moment))]
 fn shown_moment(
@@ -43,6 +35,7 @@ fn shown_moment(
 }
 
 /// The moment after a step, where it has one; `past` is what was kept of the steps before it.
+#[tactic(auto, unfolding(crate::specs::Moments::counted_moment))]
 pub fn moment_by(
     alloc: Global,
     taken: &Taken<'_>,
@@ -56,7 +49,10 @@ pub fn moment_by(
         taken.now.world.now taken.now.tally.now past.now) }
 {
     match taken.told {
-        Told::Counted if whole => Ok(Some(counted_moment(alloc, taken)?)),
+        Told::Counted if whole => {
+            let state = state_in(alloc, taken.world, taken.pid)?;
+            Ok(Some(json!(in alloc; [taken.number, taken.pid, state])?))
+        }
         Told::Shown(event) => Ok(Some(shown_moment(alloc, taken, past, form, event)?)),
         Told::Nothing | Told::Counted => Ok(None),
     }

@@ -6,7 +6,7 @@ ghost use Rattle.ipc_kernel.specs.Places.{place_at};
 ghost use Rattle.lab_sched.specs.Held.{process_view};
 ghost use Rattle.lab_told.specs.Origins.{is_in};
 ghost use Rattle.lab_moments.specs.Values.{or_null};
-ghost use Rattle.lab_moments.specs.Objects.{name_data, awaited, awaited_at, waiter, waiters, taker_at, takers, semaphore_data, origin_data, message_data, message_at, messages, queue_data, object_data};
+ghost use Rattle.lab_moments.specs.Objects.{name_data, awaited, awaited_at, waiters, taker_at, takers, semaphore_data, origin_data, message_data, message_at, messages, queue_data, object_data};
 
 use crate::values::{list_value, push_some};
 use ipc_kernel::Kernel;
@@ -51,24 +51,16 @@ pub fn awaited_at(world: &World, pid: usize) -> Option<(Service, u8)>
     awaited(world.kernel(), pid, world.process(pid)?)
 }
 
-fn waiter(world: &World, place: u8, pid: usize) -> Option<Value>
-    requires process { pid < length world.now.processes }
-    ensures waiter { option_to_list (option_map view result)
-        ≡ waiter place pid (awaited_at world.now pid) }
-{
-    match awaited_at(world, pid) {
-        Some((_, awaited)) if awaited == place => Some(Value::from(pid)),
-        _ => None,
-    }
-}
-
 #[tactic(auto, using(crate::proofs::ValueLemmas::below))]
 fn waiters(alloc: Global, world: &World, place: u8) -> Result<Vec<Value>, AllocError>
     ensures waiters { IfOk result (λ v. map view v.items ≡ waiters world.now place) }
 {
     let mut waiters = Vec::new(alloc);
     for pid in 0..world.count() {
-        push_some(&mut waiters, waiter(world, place, pid))?;
+        match awaited_at(world, pid) {
+            Some((_, awaited)) if awaited == place => waiters.push(Value::from(pid))?,
+            _ => {}
+        }
     }
     Ok(waiters)
 }
@@ -104,8 +96,7 @@ pub fn takers(
 {
     let mut takers = Vec::new(alloc);
     for pid in 0..world.count() {
-        let taker = taker_at(alloc, world, tally, place, pid)?;
-        push_some(&mut takers, taker)?;
+        push_some(&mut takers, taker_at(alloc, world, tally, place, pid)?)?;
     }
     Ok(takers)
 }
@@ -144,13 +135,12 @@ fn semaphore_value(
 fn origins_in(alloc: Global, tally: &Tally, place: u8) -> Result<Vec<Origin>, AllocError>
     ensures origins { IfOk result (λ v. v.items ≡ filter (is_in place) tally.now.origins) }
 {
-    let mut origins = Vec::new(alloc);
-    for origin in tally.origins() {
-        if origin.place == place {
-            origins.push(*origin)?;
-        }
-    }
-    Ok(origins)
+    tally
+        .origins()
+        .iter()
+        .copied()
+        .filter(|origin| origin.place == place)
+        .collect(alloc)
 }
 
 fn origin_value(alloc: Global, origin: Option<&Origin>) -> Result<Value, AllocError>
@@ -204,8 +194,10 @@ fn messages(alloc: Global, queue: &Queue, origins: &[Origin]) -> Result<Vec<Valu
     let (_, _, count) = queue.attr();
     let mut messages = Vec::new(alloc);
     for index in 0..count {
-        let message = message_at(alloc, queue, origins, index as usize)?;
-        push_some(&mut messages, message)?;
+        push_some(
+            &mut messages,
+            message_at(alloc, queue, origins, index as usize)?,
+        )?;
     }
     Ok(messages)
 }

@@ -48,8 +48,10 @@ fn push_descriptors(values: &mut Vec<Value>, world: &World, pid: usize) -> Resul
     let alloc = *values.allocator();
     let kernel = world.kernel();
     for number in 0..OPEN_MAX as u16 {
-        let descriptor = descriptor_value(alloc, number, kernel.mqd(pid, number))?;
-        push_some(values, descriptor)?;
+        push_some(
+            values,
+            descriptor_value(alloc, number, kernel.mqd(pid, number))?,
+        )?;
     }
     Ok(())
 }
@@ -63,8 +65,7 @@ fn push_slots(values: &mut Vec<Value>, world: &World, pid: usize) -> Result<(), 
     let alloc = *values.allocator();
     let kernel = world.kernel();
     for number in 0..OPEN_MAX as u16 {
-        let slot = slot_value(alloc, number, kernel.slot(pid, number))?;
-        push_some(values, slot)?;
+        push_some(values, slot_value(alloc, number, kernel.slot(pid, number))?)?;
     }
     Ok(())
 }

@@ -1,10 +1,9 @@
 //! A process at a moment.
-ghost use Rattle.std.specs.Prelude.{◌≡◌, ◌≤◌, ◌<◌, ◌+◌, ◌-◌, IfOk, map};
+ghost use Rattle.std.specs.Prelude.{◌≡◌, IfOk, map};
 ghost use Rattle.serde_json.specs.View.{view};
-ghost use Rattle.lc3_machine.specs.Process.{reg};
 ghost use Rattle.lab_sched.specs.Held.{process_view};
 ghost use Rattle.lab_sched.specs.Worlds.{machine_of};
-ghost use Rattle.lab_moments.specs.States.{memory_from, shown_count, words_around, shown_in, registers, state_data, state_in, states};
+ghost use Rattle.lab_moments.specs.States.{memory_from, words_around, shown_in, registers, state_data, state_in, states};
 
 use crate::values::list_value;
 use lab_sched::{Process, World};
@@ -13,35 +12,29 @@ use lc3_word::{FIRST_DEVICE, Reg};
 use serde_json::{Value, json};
 use std::alloc::{AllocError, Global};
 
+/// How many words a memory has, and how many words there are.
+pub const WORDS: usize = 65_536;
 /// How many words are shown before the next instruction.
 const BEFORE: u16 = 3;
 /// How many words are shown from the next instruction on.
 const FROM: usize = 5;
 
-/// So many words of the memory of a process, from an address on.
+/// So many words of the memory of a process from an address on, as far as there are.
 #[tactic(auto, using(crate::proofs::ValueLemmas::below), unfolding(crate::specs::States::memory_from))]
 pub fn words_from(
     alloc: Global,
     process: &Process,
-    first: usize,
+    first: u16,
     count: usize,
 ) -> Result<Vec<u16>, AllocError>
-    requires range { first + count ≤ 65536 }
     ensures words { IfOk result (λ v. v.items
         ≡ memory_from (machine_of (process_view process.now)) first count) }
 {
     let mut words = Vec::new(alloc);
-    for i in 0..count {
-        words.push(process.machine().word((first + i) as u16))?;
+    for i in 0..count.min(WORDS - usize::from(first)) {
+        words.push(process.machine().word(first + i as u16))?;
     }
     Ok(words)
-}
-
-fn register(process: &Process, number: u16) -> u16
-    requires number { number < 8 }
-    ensures word { result ≡ reg (machine_of (process_view process.now)) number }
-{
-    process.machine().reg(Reg::of_low_bits(number))
 }
 
 #[tactic(auto, using(crate::proofs::ValueLemmas::below))]
@@ -51,18 +44,9 @@ fn registers(alloc: Global, process: &Process) -> Result<Vec<Value>, AllocError>
 {
     let mut registers = Vec::new(alloc);
     for number in 0..8u16 {
-        registers.push(Value::from(register(process, number)))?;
+        registers.push(Value::from(process.machine().reg(Reg::of_low_bits(number))))?;
     }
     Ok(registers)
-}
-
-/// How many words are shown around a program counter.
-fn shown_count(pc: u16) -> usize
-    ensures count { result ≡ shown_count pc }
-    ensures range { (pc - 3) + result ≤ 65536 }
-{
-    let end = (usize::from(pc) + FROM).min(usize::from(FIRST_DEVICE));
-    end.saturating_sub(usize::from(pc.saturating_sub(BEFORE)))
 }
 
 /// The words around the program counter of a process.
@@ -72,7 +56,13 @@ fn words_around(alloc: Global, process: &Process) -> Result<Vec<u16>, AllocError
 {
     let pc = process.machine().pc();
     let first = pc.saturating_sub(BEFORE);
-    words_from(alloc, process, usize::from(first), shown_count(pc))
+    let end = (usize::from(pc) + FROM).min(usize::from(FIRST_DEVICE));
+    words_from(
+        alloc,
+        process,
+        first,
+        end.saturating_sub(usize::from(first)),
+    )
 }
 
 /// The words around the program counter of process `pid` of a world, where it is there.

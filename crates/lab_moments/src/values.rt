@@ -41,6 +41,14 @@ impl AsData for u32 {
     }
 }
 
+impl AsData for usize {
+    ghost form = { natural };
+
+    fn value(&self, _alloc: Global) -> Result<Value, AllocError> {
+        Ok(Value::from(*self))
+    }
+}
+
 /// A list of what stands in the data of a page.
 pub fn list_value<T: AsData>(alloc: Global, items: &[T]) -> Result<Value, AllocError>
     ensures value { IfOk result (λ v. view v ≡ list (map T.form items.now)) }

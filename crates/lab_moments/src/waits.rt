@@ -3,33 +3,18 @@ ghost use Rattle.std.specs.Prelude.{◌≡◌, ◌<◌, IfOk, map, length};
 ghost use Rattle.std.specs.Option.{option_map, option_to_list};
 ghost use Rattle.serde_json.specs.View.{view};
 ghost use Rattle.lab_moments.specs.Objects.{awaited_at};
-ghost use Rattle.lab_moments.specs.Waits.{other_at, others, taken_data, wait_in, waits_data};
+ghost use Rattle.lab_moments.specs.Waits.{others, taken_data, wait_in, waits_data};
 
 use crate::known::{Known, made_with};
 use crate::objects::{awaited_at, takers};
 use crate::values::push_some;
-use ipc_kernel::Kernel;
 use ipc_traps::Service;
 use lab_sched::World;
 use lab_told::{Tally, has_open};
 use serde_json::{Value, json};
 use std::alloc::{AllocError, Global};
 
-/// Process `other`, where it is another than process `pid` and could serve its call on the object in a place.
-#[tactic(auto, unfolding(crate::specs::Waits::other_at))]
-fn other_at(kernel: &Kernel, pid: usize, place: u8, service: Service, other: usize) -> Option<Value>
-    requires process { other < length kernel.now.processes }
-    ensures other { option_to_list (option_map view result)
-        ≡ other_at kernel.now pid place service other }
-{
-    if other != pid && has_open(kernel, place, service, other) {
-        Some(Value::from(other))
-    } else {
-        None
-    }
-}
-
-#[tactic(auto, using(crate::proofs::ValueLemmas::below))]
+#[tactic(auto, using(crate::proofs::ValueLemmas::below), unfolding(crate::specs::Waits::other_at))]
 fn others(
     alloc: Global,
     world: &World,
@@ -41,8 +26,9 @@ fn others(
 {
     let mut others = Vec::new(alloc);
     for other in 0..world.count() {
-        let value = other_at(world.kernel(), pid, place, service, other);
-        push_some(&mut others, value)?;
+        if other != pid && has_open(world.kernel(), place, service, other) {
+            others.push(Value::from(other))?;
+        }
     }
     Ok(others)
 }
@@ -101,8 +87,7 @@ pub fn waits_value(
 {
     let mut waits = Vec::new(alloc);
     for pid in 0..world.count() {
-        let wait = wait_at(alloc, world, tally, objects, pid)?;
-        push_some(&mut waits, wait)?;
+        push_some(&mut waits, wait_at(alloc, world, tally, objects, pid)?)?;
     }
     Ok(Value::Array(waits))
 }

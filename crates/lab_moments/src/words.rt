@@ -5,7 +5,7 @@ ghost use Rattle.serde_json.specs.View.{view};
 ghost use Rattle.lab_moments.specs.States.{shown_in};
 ghost use Rattle.lab_moments.specs.Words.{word_data, none_seen, first_seen, seen_with, text_of, texts_data};
 
-use crate::state::shown_in;
+use crate::state::{WORDS, shown_in};
 use crate::values::push_some;
 use lab_sched::World;
 use lab_told::service_of_word;
@@ -13,9 +13,6 @@ use lc3_table::text;
 use serde_json::{Value, json};
 use std::alloc::{AllocError, Global};
 use std::marker::Model;
-
-/// How many words there are.
-const WORDS: usize = 65_536;
 
 /// Of each word whether it stood around the program counter of a process.
 #[derive(Drop)]
@@ -112,8 +109,7 @@ impl SeenWords {
     {
         let mut values = Vec::new(alloc);
         for word in 0..WORDS {
-            let text = self.text_of(alloc, word as u16)?;
-            push_some(&mut values, text)?;
+            push_some(&mut values, self.text_of(alloc, word as u16)?)?;
         }
         Ok(Value::Array(values))
     }

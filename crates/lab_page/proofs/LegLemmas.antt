@@ -1,15 +1,18 @@
--- What steps tell: they have no floats, and one step more is told behind the others.
-use Rattle.std.proofs.Common.{◌≡◌, ℕ, ◌+◌, ◌++◌, List, [], ◌∷◌, false, replicate, refl, sym, ap, ◌∙◌, append-nil, append_assoc, arith}
-use Rattle.std.proofs.lemmas.List.{replicate-append-replicate}
+-- What steps tell: it has no floats, and is added step by step.
+use Rattle.std.proofs.Common.{◌≡◌, ℕ, zero, suc, ◌<◌, ◌≤◌, ◌++◌, List, [], ◌∷◌, false, replicate, length, Result, Ok, Err, refl, sym, ap, ◌∙◌, append-nil, append_assoc, arith}
+use Rattle.std.specs.Prelude.{OnOk}
 use Rattle.serde_json.specs.Data.{Data}
 use Rattle.serde_json.specs.Written.{has_float}
-use Rattle.lab_sched.specs.Worlds.{WorldState, step}
-use Rattle.lab_told.specs.Scenes.{Scene, scene_at, told, next_tally, next, scene_after}
-use Rattle.lab_told.specs.Tallies.{TallyState}
+use Rattle.lab_sched.specs.Worlds.{WorldState, nothing, step_effect_in}
+use Rattle.lab_sched.specs.declared.schedule.block.Block.{Block}
+use Rattle.lab_told.specs.Scenes.{Scene, told, next}
+use Rattle.lab_told.specs.Tellings.{AreThere, IsNext, TellsAll}
+use Rattle.lab_told.specs.declared.telling.Taken.{Taken}
 use Rattle.lab_told.specs.declared.told.Event.{Event}
 use Rattle.lab_told.specs.declared.told.Told.{Told}
 use Rattle.lab_told.specs.declared.told.Told.TheVariants.{Nothing, Counted, Shown}
-use Rattle.lab_told.proofs.SceneLemmas.{scene-append}
+use Rattle.lab_told.proofs.SceneLemmas.{renumbered, told-still}
+use Rattle.lab_told.proofs.TellingLemmas.{told-stands}
 use Rattle.lab_moments.proofs.PlainLemmas.{IsPlain, ArePlain, plain-one, plain-append}
 use Rattle.lab_moments.proofs.EventLemmas.{act-plain}
 use Rattle.lab_page.specs.Legs.{event_data, told_data, leg_events, leg_data}
@@ -33,43 +36,44 @@ pub leg_plain : (w : WorldState) (p n : ℕ) → has_float (leg_data w p n) ≡ 
 unfolding leg_data
 leg_plain w p n = simp events-plain
 
-pub leg-none : (s : Scene) → leg_events s [] ≡ []
-unfolding leg_events
-leg-none s = refl
+-- the process of a block alone
+pub there-one : (w : WorldState) (b : Block) → b.pid < length w.processes → AreThere w (b ∷ [])
+there-one w b h zero within = h
+there-one w b h (suc i) within = absurd (omega (arith, within))
 
-leg-one : (s : Scene) (p : ℕ) → leg_events s (p ∷ []) ≡ told_data s.number (told s p)
-unfolding leg_events
-leg-one s p = append-nil (told_data s.number (told s p))
+module _ {O : Type 0} (values : O → List Data) where
+  -- what the next step of a scene tells is added
+  abbrev pub AddsEvents : Scene → ℕ → O → O → Type 0
+  AddsEvents s p old new = values new ≡ values old ++ told_data s.number (told s p)
 
-leg-append : (s : Scene) (xs ys : List ℕ) → leg_events s (xs ++ ys) ≡ leg_events s xs ++ leg_events (scene_after s xs) ys
-unfolding leg_events scene_after
-leg-append s [] ys = refl
-leg-append s (x ∷ xs) ys =
-    ap (λ (l : List Data). told_data s.number (told s x) ++ l) (leg-append (next s x) xs ys)
-    ∙ sym (append_assoc (told_data s.number (told s x)) (leg_events (next s x) xs) (leg_events (scene_after (next s x) xs) ys))
+  -- a step that was taken, and the others for which it stands
+  leg-stands : (s : Scene) (p k : ℕ) (a b : O) → 1 ≤ k → ((told s p ≡ Nothing → ⊥) → k ≡ 1) → AddsEvents s p a b → TellsAll AddsEvents s (replicate k p) a b
+  unfolding told
+  leg-stands s p zero a b some one first = absurd (omega (arith, some))
+  leg-stands s p (suc k) a b some one first = told-stands AddsEvents s p (suc k) held one first each
+    where
+      held : ℕ → O
+      held zero = a
+      held (suc j) = b
 
--- what one step more tells
-leg-more : (s u : Scene) (done p : ℕ) → u ≡ scene_after s (replicate done p)
-    → leg_events s (replicate done p) ++ told_data u.number (told u p) ≡ leg_events s (replicate (done + 1) p)
-leg-more s u done p is =
-    ap (λ (l : List Data). leg_events s (replicate done p) ++ l) (sym (leg-one u p))
-    ∙ ap (λ (x : Scene). leg_events s (replicate done p) ++ leg_events x (p ∷ [])) is
-    ∙ sym (leg-append s (replicate done p) (p ∷ [])) ∙ ap (leg_events s) (replicate-append-replicate done 1 p)
+      none : (n : ℕ) → step_effect_in s.world p ≡ nothing → told_data n (told s p) ≡ []
+      none n e = ap (told_data n) (told-still s p e)
 
-pub leg-added : (s u : Scene) (done p : ℕ) (old now more : List Data) → u ≡ scene_after s (replicate done p) → now ≡ old ++ more
-    → old ≡ leg_events s (replicate done p) → more ≡ told_data u.number (told u p) → now ≡ leg_events s (replicate (done + 1) p)
-leg-added s u done p old now more is items so_far added = rw (items, so_far, added) (leg-more s u done p is)
+      each : step_effect_in s.world p ≡ nothing → (n j : ℕ) → AddsEvents (renumbered s n) p (held j) (held (suc j))
+      each e n zero = first ∙ ap (λ (l : List Data). values a ++ l) (none s.number e ∙ sym (none n e))
+      each e n (suc j) = sym (ap (λ (l : List Data). values b ++ l) (none n e) ∙ append-nil (values b))
 
-one-step : (u : Scene) (p : ℕ) → next u p ≡ scene_after u (p ∷ [])
-unfolding scene_after
-one-step u p = refl
+  pub leg-told : {T E : Type 0} (r : Result T E) (s : Scene) (x : Taken) (a b : O) → IsNext s x
+      → OnOk r (values b ≡ values a ++ told_data x.number x.told.now) → OnOk r (TellsAll AddsEvents s (replicate x.count x.pid) a b)
+  leg-told (Ok u) s x a b n added =
+      leg-stands s x.pid x.count a b n.some (λ other. n.other (λ e. other (sym n.told ∙ e)))
+      (added ∙ ap (λ (k : ℕ). values a ++ told_data k x.told.now) n.number ∙ ap (λ (t : Told). values a ++ told_data s.number t) n.told)
+  leg-told (Err e) s x a b n added = tt
 
--- the scene after it
-pub scene-step : (s : Scene) (done p : ℕ) (w x : WorldState) (t r : TallyState) → scene_at (1 + done) w t ≡ scene_after s (replicate done p)
-    → x ≡ step w p → r ≡ next_tally (scene_at (1 + done) w t) p → scene_at (1 + (done + 1)) x r ≡ scene_after s (replicate (done + 1) p)
-scene-step s done p w x t r is w-is t-is =
-    let u : Scene = scene_at (1 + done) w t in
-    let e : 1 + (done + 1) ≡ (1 + done) + 1 = omega arith in
-    ap (λ n. scene_at n x r) e ∙ ap (λ y. scene_at ((1 + done) + 1) y r) w-is ∙ ap (λ y. scene_at ((1 + done) + 1) (step w p) y) t-is
-    ∙ one-step u p ∙ ap (λ (y : Scene). scene_after y (p ∷ [])) is ∙ sym (scene-append s (replicate done p) (p ∷ []))
-    ∙ ap (scene_after s) (replicate-append-replicate done 1 p)
+  -- what these steps tell, where each was told
+  pub leg-all : (s : Scene) (ps : List ℕ) (a b : O) → TellsAll AddsEvents s ps a b → values b ≡ values a ++ leg_events s ps
+  unfolding leg_events
+  leg-all s [] a b t = ap values t ∙ sym (append-nil (values a))
+  leg-all s (p ∷ ps) a c t =
+      leg-all (next s p) ps t.0 c t.2 ∙ ap (λ (l : List Data). l ++ leg_events (next s p) ps) t.1
+      ∙ append_assoc (values a) (told_data s.number (told s p)) (leg_events (next s p) ps)

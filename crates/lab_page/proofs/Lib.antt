@@ -4,6 +4,7 @@ pub mod FaultLemmas
 pub mod WrittenLemmas
 pub mod RunLemmas
 pub mod StoreLemmas
+pub mod PairLemmas
 pub mod SourceLemmas
 pub mod LegLemmas
 pub mod WorldLemmas

@@ -9,7 +9,7 @@ use Rattle.lab_sources.specs.declared.source.Source.{Source}
 use Rattle.lab_told.specs.Scenes.{Scene, first_scene, scene_after}
 use Rattle.lab_trace.specs.Lines.{events}
 use Rattle.lab_trace.specs.Traces.{ending, trace_with, trace_text}
-use Rattle.lab_trace.specs.Forms.{Form}
+use Rattle.lab_trace.specs.Forms.{Form, form_for}
 use Rattle.lab_moments.specs.States.{states}
 use Rattle.lab_moments.specs.Pasts.{Past, first_past}
 use Rattle.lab_moments.specs.Values.{or_null}
@@ -17,11 +17,9 @@ use Rattle.lab_page.specs.Ends.{endless_shown}
 use Rattle.lab_page.specs.Faults.{IsFault}
 use Rattle.lab_page.specs.Moments.{moments, past_then}
 use Rattle.lab_page.specs.Private.Json.{more_json, run_end}
-use Rattle.lab_page.specs.Runs.{block_data, schedule_data, output_of, outputs, outcome_at, run_from, run_data}
-use Rattle.lab_page.specs.Private.Looks.{look_for}
+use Rattle.lab_page.specs.Runs.{block_data, schedule_data, output_of, outputs, outcome_at, is_whole, run_from, run_data}
 use Rattle.lab_page.specs.declared.ends.Endless.{Endless}
 use Rattle.lab_page.specs.declared.fault.PageFault.{PageFault}
-use Rattle.lab_page.specs.declared.run.Look.{Look}
 use Rattle.lab_moments.proofs.PlainLemmas.{IsPlain, number-plain, plain-one, plain-below, plain-map, plain-naturals}
 use Rattle.lab_moments.proofs.BetweenLemmas.{between-plain}
 use Rattle.lab_moments.proofs.EventLemmas.{holds-plain}
@@ -70,10 +68,10 @@ run-fault e v b x s fault =
     subst (λ (l : List ℕ). IsFault e l) (run-made v b x _ _ s (start x) _ _ refl refl refl refl refl) (fault-longer e _ _ fault)
 
 -- the run of a world, by how it is written
-pub run-first : (l : Look) (w : WorldState) (s : List Block) (ss : List (Option Source)) (x : Scene) → l ≡ look_for w s ss → x ≡ first_scene w
-    → run_from l.page l.whole x s ≡ run_data w s
+pub run-first : (v : Form) (b : Bool) (w : WorldState) (s : List Block) (x : Scene) → v ≡ form_for (length (steps_of s)) (length w.processes) []
+    → b ≡ is_whole s → x ≡ first_scene w → run_from v b x s ≡ run_data w s
 unfolding run_data
-run-first l w s ss x look first = rw (look, first) refl
+run-first v b w s x form whole first = rw (form, whole, first) refl
 
 -- its trace by what was made of its steps
 pub trace-made : (v : Form) (x u : Scene) (ps first added all : List ℕ) → first ≡ [] → added ≡ first ++ events v x ps → u ≡ scene_after x ps
@@ -81,7 +79,7 @@ pub trace-made : (v : Form) (x u : Scene) (ps first added all : List ℕ) → fi
 trace-made v x u ps first added all none added-is led all-is = rw (all-is, added-is, none, led) refl
 
 -- the trace of a world, by how it is written
-pub trace-first : (l : Look) (w : WorldState) (s : List Block) (ss : List (Option Source)) (x : Scene) → l ≡ look_for w s ss → x ≡ first_scene w
-    → trace_with l.trace x (steps_of s) ≡ trace_text w ss (steps_of s)
+pub trace-first : (v : Form) (w : WorldState) (s : List Block) (ss : List (Option Source)) (x : Scene)
+    → v ≡ form_for (length (steps_of s)) (length w.processes) ss → x ≡ first_scene w → trace_with v x (steps_of s) ≡ trace_text w ss (steps_of s)
 unfolding trace_text
-trace-first l w s ss x look first = rw (look, first) refl
+trace-first v w s ss x form first = rw (form, first) refl

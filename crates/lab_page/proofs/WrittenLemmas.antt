@@ -1,6 +1,5 @@
 -- What is written of steps, one after another.
-use Rattle.std.proofs.Common.{◌≡◌, ℕ, zero, suc, ◌≤◌, Bool, List, [], ◌∷◌, ◌++◌, Result, Ok, Err, replicate, refl, sym, ap, subst, ◌∙◌, append_assoc, append-nil, arith}
-use Rattle.std.specs.Prelude.{OnOk}
+use Rattle.std.proofs.Common.{◌≡◌, ℕ, zero, suc, ◌≤◌, Bool, List, [], ◌∷◌, ◌++◌, replicate, refl, sym, ap, subst, ◌∙◌, append_assoc, append-nil, arith}
 use Rattle.serde_json.specs.Data.{Data}
 use Rattle.lab_sched.specs.Worlds.{nothing, step_effect_in}
 use Rattle.lab_told.specs.Scenes.{Scene, told, next, scene_after}
@@ -17,11 +16,13 @@ use Rattle.lab_moments.specs.Pasts.{Past, past_after}
 use Rattle.lab_page.specs.Faults.{IsFault}
 use Rattle.lab_page.specs.Moments.{moment, moments, past_by, next_past, past_then}
 use Rattle.lab_page.specs.Private.Json.{more_json}
-use Rattle.lab_page.specs.Private.Written.{Written, AddsStep, BreaksStep}
+use Rattle.lab_page.specs.Private.Stores.{Stores, AddsStores}
+use Rattle.lab_page.specs.Private.Written.{Written, AddsStep, TellsStep, BreaksStep}
 use Rattle.lab_page.specs.declared.fault.PageFault.{PageFault}
 use Rattle.lab_page.specs.declared.run.Look.{Look}
 use Rattle.lab_page.proofs.FaultLemmas.{fault-longer, regrouped}
 use Rattle.lab_page.proofs.JsonLemmas.{more-append}
+use Rattle.lab_page.proofs.PairLemmas.{first-told}
 use Rattle.lab_page.proofs.MomentLemmas.{moments-append, moment-still, past-still, past-more}
 
 -- what is written after these steps
@@ -106,25 +107,25 @@ stands v s p (suc k) a b some one json lines past =
         (sym (ap (λ (l : List ℕ). b.lines ++ l) (line-still v.trace (renumbered s n) p e) ∙ append-nil b.lines))
         (past-more (suc j) n s p a.past e)
 
-pub step-told : {T E : Type 0} (r : Result T E) (v : Look) (s : Scene) (x : Taken) (a b : Written) → IsNext s x
-    → OnOk r (b.json ≡ a.json ++ more_json (moment_by v.page v.whole x.number x.pid x.told.now x.world.now x.tally.now a.past))
-    → OnOk r (b.lines ≡ a.lines ++ step_line v.trace x.number x.pid x.told.now)
-    → OnOk r (b.past ≡ past_after x.count x.number x.pid x.waited x.told.now x.world.now x.tally.now a.past)
-    → OnOk r (TellsAll (AddsStep v) s (replicate x.count x.pid) a b)
-step-told (Ok u) v s x a b n json lines past =
+pub step-told : (v : Look) (s : Scene) (x : Taken) (a b : Written) → IsNext s x
+    → b.json ≡ a.json ++ more_json (moment_by v.page v.whole x.number x.pid x.told.now x.world.now x.tally.now a.past)
+    → b.lines ≡ a.lines ++ step_line v.trace x.number x.pid x.told.now
+    → b.past ≡ past_after x.count x.number x.pid x.waited x.told.now x.world.now x.tally.now a.past
+    → TellsAll (AddsStep v) s (replicate x.count x.pid) a b
+step-told v s x a b n json lines past =
     stands v s x.pid x.count a b n.some (λ other. n.other (λ e. other (sym n.told ∙ e)))
     (json ∙ ap (λ (l : List Data). a.json ++ more_json l) (moment-next v.page v.whole s a.past x n))
     (lines ∙ ap (λ (l : List ℕ). a.lines ++ l) (line-next v.trace s x n)) (past ∙ past-next s a.past x n)
-step-told (Err e) v s x a b n json lines past = tt
 
 -- where the moment of one has too many bytes, those of all have
-pub broken-off : (v : Look) (s : Scene) (ps : List ℕ) (a b : Written) (e : PageFault) → BreaksOff (AddsStep v) (BreaksStep v) s ps a b e
-    → IsFault e (a.json ++ more_json (moments v.page v.whole s a.past ps))
+pub broken-off : (v : Look) (s : Scene) (ps : List ℕ) (x y : Written × Stores) (e : PageFault) → BreaksOff (TellsStep v) (BreaksStep v) s ps x y e
+    → IsFault e (x.0.json ++ more_json (moments v.page v.whole s x.0.past ps))
 unfolding moments
-broken-off v s ps a b e w =
+broken-off v s ps x y e w =
+    let a : Written = x.0 in
     let u : Scene = scene_after s w.before in
     let h : Past = past_then s w.before a.past in
-    let is : w.held ≡ after_steps v s w.before a = all-told v s w.before a w.held w.told in
+    let is : w.held.0 ≡ after_steps v s w.before a = all-told v s w.before a w.held.0 (first-told (AddsStep v) AddsStores s w.before x w.held w.told) in
     let first : List Data = moments v.page v.whole s a.past w.before in
     let more : List Data = moment v.page v.whole u h w.pid in
     let rest : List Data = moments v.page v.whole (next u w.pid) (next_past u w.pid h) w.behind in

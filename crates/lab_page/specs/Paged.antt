@@ -5,13 +5,16 @@ use Rattle.lab_sched.specs.Worlds.{WorldState}
 use Rattle.lab_page.specs.Ends.{endless_shown, ends_json}
 use Rattle.lab_page.specs.Runs.{run_json}
 use Rattle.lab_page.specs.Sources.{programs, sources_shown}
+use Rattle.lab_page.specs.Stores.{stores_of}
 use Rattle.lab_page.specs.declared.ends.Found.{Found}
 use Rattle.lab_page.specs.declared.paging.PagedRun.{PagedRun}
 use Rattle.lab_page.specs.declared.paging.Roster.{Roster}
 
 -- the JSON of what a page holds of a run of a world, whose processes are called so
 abbrev pub paged_json : WorldState → PagedRun → Roster → List ℕ
-paged_json w run roster = run_json w run.schedule.now (map string_bytes roster.names.now) (sources_shown roster.sources.now) run.stores.now
+paged_json w run roster =
+    run_json w run.schedule.now (map string_bytes roster.names.now) (sources_shown roster.sources.now)
+    (stores_of w run.schedule.now roster.sources.now)
 
 -- the JSON of what a page holds of what an exploration of so many processes found, which are called so
 abbrev pub found_json : ℕ → Roster → Found → List ℕ

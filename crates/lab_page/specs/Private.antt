@@ -1,4 +1,4 @@
 -- Definitions that only contracts inside the crate cite.
 pub mod Json
-pub mod Looks
+pub mod Stores
 pub mod Written

@@ -1,6 +1,6 @@
 -- The words that the steps of a run store.
-use Rattle.std.specs.Prelude.{ℕ, ◌+◌, ◌-◌, ◌==◌, nat_le, if◌then◌else◌, min, Option, Some, None, List, [], ◌∷◌, ◌++◌, length, map, slice_get, slice_index}
-use Rattle.std.specs.Option.{option_and_then}
+use Rattle.std.specs.Prelude.{ℕ, ◌+◌, ◌==◌, nat_le, if◌then◌else◌, min, Option, Some, None, List, [], ◌∷◌, ◌++◌, length, map, slice_get, slice_index}
+use Rattle.std.specs.Option.{option_and_then, option_map_or}
 use Rattle.serde_json.specs.Data.{Data}
 use Rattle.lab_sched.specs.Schedules.{steps_of}
 use Rattle.lab_sched.specs.Worlds.{Process, WorldState, machine_of, step}
@@ -15,14 +15,19 @@ use Rattle.lab_page.specs.declared.stores.Stored.{Stored}
 abbrev pub source_in : List (Option Source) → ℕ → Option Source
 source_in sources p = option_and_then (λ s. s) (slice_get sources p)
 
--- how many words of a source have addresses
-abbrev pub word_count : Source → ℕ
-word_count s = min (length s.words.items) (65536 - s.origin)
+-- the address of the first of its words
+abbrev pub origin_at : List (Option Source) → ℕ → ℕ
+origin_at sources p = option_map_or (λ s. s.origin) (source_in sources p) 0
 
 -- what the memory of a process holds where a source has words
-abbrev pub held_words : Option Process → Source → List ℕ
-held_words None s = []
-held_words (Some x) s = memory_from (machine_of x) s.origin (word_count s)
+abbrev pub held_words : Option Source → Option Process → List ℕ
+held_words None x = []
+held_words (Some s) None = []
+held_words (Some s) (Some x) = memory_from (machine_of x) s.origin (length s.words.items)
+
+-- what that of process p of a world holds where its source has words
+abbrev pub held_at : List (Option Source) → WorldState → ℕ → List ℕ
+held_at sources w p = held_words (source_in sources p) (slice_get w.processes p)
 
 -- a word behind a step, where it isn't the word before it
 abbrev pub changed : Stored → ℕ → List Stored
@@ -34,15 +39,9 @@ changed_words n p first before after =
     all_below (min (length after) (length before))
     (λ i. changed (record { step = n; process = p; address = first + i; word = slice_index after i }) (slice_index before i))
 
--- what step n of a world, of process p, stores where this source has words
-abbrev pub stored_in : Option Source → ℕ → WorldState → ℕ → List Stored
-stored_in None n w p = []
-stored_in (Some s) n w p =
-    changed_words n p s.origin (held_words (slice_get w.processes p) s) (held_words (slice_get (step w p).processes p) s)
-
 -- what step n of a world, of process p, stores where the source of the process has words
 abbrev pub stored_by : List (Option Source) → ℕ → WorldState → ℕ → List Stored
-stored_by sources n w p = stored_in (source_in sources p) n w p
+stored_by sources n w p = changed_words n p (origin_at sources p) (held_at sources w p) (held_at sources (step w p) p)
 
 -- what these steps of a world store, of which the first has number n
 unfoldable pub stores_from : List (Option Source) → ℕ → WorldState → List ℕ → List Stored

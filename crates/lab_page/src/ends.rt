@@ -8,6 +8,7 @@ ghost use Rattle.lab_page.specs.Faults.{Explains};
 ghost use Rattle.lab_template.specs.Limits.{most_ends};
 ghost use Rattle.lab_page.specs.Private.Json.{end_json};
 ghost use Rattle.lab_page.specs.Runs.{run_data};
+ghost use Rattle.lab_page.specs.Stores.{stores_of};
 ghost use Rattle.lab_moments.specs.Values.{or_null};
 ghost use Rattle.lab_page.specs.declared.fault.PageFault.TheVariants.{TooLarge};
 
@@ -15,8 +16,8 @@ use crate::asked::{Asked, asked_value};
 use crate::fault::PageFault;
 use crate::json::{push_behind, push_parts};
 use crate::outcome::schedule_value;
-use crate::run::written_run;
-use crate::stores::Stored;
+use crate::run::{WrittenRun, written_run};
+use crate::source::Source;
 use crate::worlds::{Worlds, push_worlds};
 use lab_moments::list_value;
 use lab_sched::{Schedule, World};
@@ -80,17 +81,13 @@ impl Model for EndList {
 }
 
 #[tactic(auto, using(crate::proofs::StoreLemmas::stores_plain), unfolding(crate::specs::Private::Json::end_json))]
-fn end_json(
-    alloc: Global,
-    number: u32,
-    run: &[u8],
-    stores: &[Stored],
-) -> Result<Vec<u8>, AllocError>
-    ensures json { IfOk result (λ v. v.items ≡ end_json number run.now stores.now) }
+fn end_json(alloc: Global, number: u32, run: &WrittenRun) -> Result<Vec<u8>, AllocError>
+    ensures json { IfOk result (λ v. v.items
+        ≡ end_json number run.now.json.items run.now.stores.items) }
 {
     let mut json = format!(in alloc; "[{number},")?.into_bytes();
-    let stores = list_value(alloc, stores)?.to_vec(alloc)?;
-    push_parts(&mut json, &[run, b",", &stores, b"]"])?;
+    let stores = list_value(alloc, &run.stores)?.to_vec(alloc)?;
+    push_parts(&mut json, &[&run.json, b",", &stores, b"]"])?;
     Ok(json)
 }
 
@@ -137,8 +134,9 @@ impl EndList {
         Ok(())
     }
 
-    /// Adds the run of a world by a schedule, with a number and what its steps store, where fewer than [`MOST_ENDS`] are there and
-    /// their JSON has no more than [`MOST_END_BYTES`] bytes with it. Once there was no room for one, none is added.
+    /// Adds the run of a world by a schedule, with a number and what its steps store where sources have words, where fewer than
+    /// [`MOST_ENDS`] are there and their JSON has no more than [`MOST_END_BYTES`] bytes with it. Once there was no room for one,
+    /// none is added.
     ///
     /// # Errors
     ///
@@ -150,10 +148,11 @@ impl EndList {
         world: &mut World,
         schedule: &Schedule,
         number: u32,
-        stores: &[Stored],
+        sources: &[Option<Source>],
     ) -> Result<(), PageFault>
         ensures list { OnOk result (self.new ≡ with_end self.old
-            (compact_text (end_data number (run_data world.old schedule.now) stores.now))) }
+            (compact_text (end_data number (run_data world.old schedule.now)
+            (stores_of world.old schedule.now sources.now)))) }
         ensures fault { IfErr result (λ e. Explains e world.old schedule.now
             (compact_text (run_data world.old schedule.now))) }
         ensures fits { result ≢ Err TooLarge }
@@ -163,9 +162,9 @@ impl EndList {
             return Ok(());
         }
         let alloc = *self.json.allocator();
-        match written_run(alloc, world, schedule, &[]) {
+        match written_run(alloc, world, schedule, &[], sources) {
             Ok(run) => {
-                let end = end_json(alloc, number, &run.json, stores)?;
+                let end = end_json(alloc, number, &run)?;
                 Ok(self.push(&end)?)
             }
             Err(PageFault::TooLarge) => {

@@ -1,14 +1,13 @@
 //! What steps of a process tell: a leg of a way from one world to another.
-ghost use Rattle.std.specs.Prelude.{◌≡◌, ◌<◌, ◌≤◌, ◌++◌, IfOk, OnOk, length, map, replicate};
+ghost use Rattle.std.specs.Prelude.{◌≡◌, ◌<◌, ◌≤◌, ◌++◌, ⊤, IfOk, OnOk, length, map, replicate};
 ghost use Rattle.serde_json.specs.View.{view};
 ghost use Rattle.lab_sched.specs.Schedules.{most_steps};
-ghost use Rattle.lab_sched.specs.Worlds.{step};
-ghost use Rattle.lab_told.specs.Scenes.{first_scene, scene_at, told, next_tally};
+ghost use Rattle.lab_told.specs.Scenes.{first_scene, told};
 ghost use Rattle.lab_page.specs.Legs.{event_data, leg_data, leg_events, told_data};
 
 use lab_moments::act_value;
-use lab_sched::World;
-use lab_told::{Event, Tally, Told, trace_step};
+use lab_sched::{Block, World};
+use lab_told::{Event, Taken, Tally, Telling, Told, tell_run};
 use lab_trace::event_text;
 use serde_json::{Value, json};
 use std::alloc::{AllocError, Global};
@@ -22,25 +21,38 @@ fn event_value(alloc: Global, number: u32, event: &Event) -> Result<Value, Alloc
     json!(in alloc; [number, pc, event_text(alloc, event)?, act_value(alloc, &event.act)?])
 }
 
-/// Takes step `number` of a leg, of process `pid`, and adds what happened in it, where it has a line in a trace.
-fn push_step(
-    events: &mut Vec<Value>,
-    world: &mut World,
-    tally: &mut Tally,
-    number: u32,
-    pid: usize,
-) -> Result<(), AllocError>
-    requires process { pid < length world.old.processes }
+/// Adds what step `number` of a leg told, where it has a line in a trace.
+fn push_told(events: &mut Vec<Value>, number: u32, told: &Told) -> Result<(), AllocError>
     ensures added { OnOk result (map view events.new.items ≡ map view events.old.items
-        ++ told_data number (told (scene_at number world.old tally.old) pid)) }
-    ensures world { OnOk result (world.new ≡ step world.old pid) }
-    ensures tally { OnOk result
-        (tally.new ≡ next_tally (scene_at number world.old tally.old) pid) }
+        ++ told_data number told.now) }
 {
     let alloc = *events.allocator();
-    match trace_step(alloc, world, tally, number, pid)? {
-        Told::Shown(event) => Ok(events.push(event_value(alloc, number, &event)?)?),
+    match told {
+        Told::Shown(event) => Ok(events.push(event_value(alloc, number, event)?)?),
         Told::Nothing | Told::Counted => Ok(()),
+    }
+}
+
+/// How a leg is told.
+struct ToldLeg;
+
+impl Telling<Vec<Value>> for ToldLeg {
+    type Fault = AllocError;
+
+    ghost tells = { λ _ s p old new. map view new.items
+        ≡ map view old.items ++ told_data s.number (told s p) };
+
+    ghost fails = { λ _ _ _ _ _ _. ⊤ };
+
+    ghost refused = { λ _ _ _ _ _ _. tt };
+
+    fn tell_step(
+        &self,
+        _alloc: Global,
+        events: &mut Vec<Value>,
+        taken: &Taken<'_>,
+    ) -> Result<(), AllocError> {
+        push_told(events, taken.number, taken.told)
     }
 }
 
@@ -58,11 +70,8 @@ fn leg_events(
 {
     let mut tally = Tally::new(alloc, world.count())?;
     let mut events = Vec::new(alloc);
-    let mut done = 0;
-    while done < steps {
-        push_step(&mut events, world, &mut tally, 1 + done, pid)?;
-        done += 1;
-    }
+    let block = Block { pid, count: steps };
+    tell_run(&ToldLeg, &mut events, world, &mut tally, &[block])?;
     Ok(events)
 }
 

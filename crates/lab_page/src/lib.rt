@@ -21,5 +21,4 @@ pub use fault::PageFault;
 pub use lab_template::Template;
 pub use paging::{PagedRun, Roster, Shown, ends_page, run_page};
 pub use source::{Source, source_of};
-pub use stores::{Stored, stores_of};
 pub use worlds::{WorldEdge, Worlds};

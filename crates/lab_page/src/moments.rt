@@ -11,7 +11,6 @@ ghost use Rattle.lab_moments.specs.Moments.{moment_by};
 ghost use Rattle.lab_moments.specs.Pasts.{first_past, past_after};
 ghost use Rattle.lab_moments.specs.States.{states};
 ghost use Rattle.lab_page.specs.Private.Json.{more_json, run_end};
-ghost use Rattle.lab_page.specs.Private.Written.{AddsStep, BreaksStep};
 ghost use Rattle.lab_page.specs.Runs.{outcome_at, schedule_data};
 
 use crate::fault::PageFault;
@@ -21,7 +20,7 @@ use crate::run::Look;
 use lab_moments::{Past, moment_by, states};
 use lab_sched::{Schedule, World};
 use lab_template::MOST_BYTES;
-use lab_told::{Taken, Tally, Telling};
+use lab_told::{Taken, Tally};
 use lab_trace::{ending, step_line};
 use serde_json::Value;
 use std::alloc::{AllocError, Global};
@@ -96,7 +95,7 @@ impl Moments {
     }
 
     /// Adds the moment after a step, where it has one, and its line, and keeps the steps that it stands for.
-    fn keep_step(&mut self, look: &Look<'_>, taken: &Taken<'_>) -> Result<(), PageFault>
+    pub fn keep_step(&mut self, look: &Look<'_>, taken: &Taken<'_>) -> Result<(), PageFault>
         requires process { taken.now.pid < length taken.now.world.now.processes }
         ensures moment { OnOk result (self.new.json ≡ self.old.json
             ++ more_json (moment_by look.now.page look.now.whole taken.now.number taken.now.pid
@@ -137,26 +136,5 @@ impl Moments {
         push_run_end(&mut self.json, &outcome, schedule, look.whole)?;
         let ending = ending(alloc, world, tally, &look.trace)?;
         self.lines.extend_from_slice(ending.as_bytes())
-    }
-}
-
-impl Telling<Moments> for Look<'_> {
-    type Fault = PageFault;
-
-    ghost use Rattle.std.proofs.Common.{subst, sym};
-
-    ghost tells = { AddsStep };
-
-    ghost fails = { BreaksStep };
-
-    ghost refused = { λ v s p m e refused. subst (λ x. BreaksStep v s p m m x) (sym refused) tt };
-
-    fn tell_step(
-        &self,
-        _alloc: Global,
-        moments: &mut Moments,
-        taken: &Taken<'_>,
-    ) -> Result<(), PageFault> {
-        moments.keep_step(self, taken)
     }
 }

@@ -17,7 +17,6 @@ use crate::fault::PageFault;
 use crate::json::{push_behind, push_parts};
 use crate::run::{WrittenRun, written_run};
 use crate::source::{Source, programs};
-use crate::stores::Stored;
 use lab_moments::list_value;
 use lab_sched::{Schedule, World};
 use lab_sources::Source as Given;
@@ -49,12 +48,11 @@ fn page_json(
     alloc: Global,
     count: usize,
     roster: &Roster<'_>,
-    run: &[u8],
-    stores: &[Stored],
+    run: &WrittenRun,
 ) -> Result<Vec<u8>, AllocError>
     ensures json { IfOk result (λ v. v.items ≡ page_json
         (programs count (map string_bytes roster.now.names.now)
-        (sources_shown roster.now.sources.now)) run.now stores.now) }
+        (sources_shown roster.now.sources.now)) run.now.json.items run.now.stores.items) }
 {
     let mut json = Vec::new(alloc);
     push_behind(
@@ -62,8 +60,8 @@ fn page_json(
         "{\"format\":\"lc3lab-page-3\",\"processes\":",
         &programs(alloc, count, roster.names, roster.sources)?,
     )?;
-    push_parts(&mut json, &[b",\"run\":", run])?;
-    push_behind(&mut json, ",\"stores\":", &list_value(alloc, stores)?)?;
+    push_parts(&mut json, &[b",\"run\":", &run.json])?;
+    push_behind(&mut json, ",\"stores\":", &list_value(alloc, &run.stores)?)?;
     json.extend_from_slice(b"}")?;
     Ok(json)
 }
@@ -74,8 +72,6 @@ pub struct PagedRun<'a> {
     pub schedule: &'a Schedule,
     /// The processes that were given as sources, whose labels the lines of its trace have.
     pub given: &'a [Option<Given>],
-    /// What its steps store.
-    pub stores: &'a [Stored],
 }
 
 /// The page of a run, and its trace.
@@ -116,13 +112,12 @@ pub fn run_page(
     ensures untouched { (done : ℕ) → result ≡ Err (NoProcess done) → world.new ≡ world.old }
 {
     let count = world.count();
-    let WrittenRun { json, trace } = written_run(alloc, world, paged.schedule, paged.given)?;
-    let page = page_of(
-        alloc,
-        template,
-        &page_json(alloc, count, roster, &json, paged.stores)?,
-    )?;
-    Ok(Shown { page, trace })
+    let run = written_run(alloc, world, paged.schedule, paged.given, roster.sources)?;
+    let page = page_of(alloc, template, &page_json(alloc, count, roster, &run)?)?;
+    Ok(Shown {
+        page,
+        trace: run.trace,
+    })
 }
 
 /// The page of ends: HTML around them as JSON, in which no `<` stands.

@@ -1,18 +1,15 @@
 //! The words that the steps of a run store.
-ghost use Rattle.std.specs.Prelude.{◌≡◌, ◌≤◌, ◌+◌, ◌++◌, IfOk, OnOk, replicate, slice_get};
-ghost use Rattle.lab_sched.specs.Schedules.{most_steps, steps_of, total_of};
-ghost use Rattle.lab_sched.specs.Worlds.{run, step};
-ghost use Rattle.lab_page.specs.Stores.{changed, changed_words, held_words, stored_by, stores_from, stores_of, word_count};
+ghost use Rattle.std.specs.Prelude.{◌≡◌, ◌++◌, IfOk, OnOk};
+ghost use Rattle.lab_page.specs.Stores.{changed, changed_words, held_at, origin_at};
+ghost use Rattle.lab_page.specs.Private.Stores.{no_stores, stores_after};
 
 use crate::source::{Source, source_in};
 use lab_moments::{AsData, words_from};
-use lab_sched::{Block, Schedule, StepFault, World};
-use lab_template::MOST_WHOLE;
+use lab_sched::World;
+use lab_told::Taken;
 use serde_json::{Value, json};
 use std::alloc::{AllocError, Global};
-
-/// What a machine can address.
-const ADDRESSES: usize = 65_536;
+use std::marker::Model;
 
 /// A word that a step stores where the source of its process has words.
 #[derive(Clone, Copy, Debug, PartialEq, Eq)]
@@ -36,22 +33,26 @@ impl AsData for Stored {
     }
 }
 
-/// A step of a run.
-#[derive(Clone, Copy)]
-struct Step {
-    number: u32,
-    process: usize,
+/// The words that the steps of a run store where the sources of its processes have words, as far as its steps are told.
+#[derive(Drop)]
+pub struct Stores<'a> {
+    sources: &'a [Option<Source>],
+    /// Of each process what its memory holds there.
+    held: Vec<Vec<u16>>,
+    stored: Vec<Stored>,
 }
 
-/// How many words of a source have addresses.
-fn word_count(source: &Source) -> usize
-    ensures count { result ≡ word_count source.now }
-    ensures range { source.now.origin + result ≤ 65536 }
-{
-    source
-        .words
-        .len()
-        .min(ADDRESSES - usize::from(source.origin))
+impl<'a> Model for Stores<'a> {
+    ghost use Rattle.std.specs.Prelude.{map};
+    ghost use Rattle.lab_page.specs.Private.Stores.{Stores as Kept};
+
+    ghost Value = { Kept };
+
+    ghost view = { λ s. record {
+      sources = s.sources.now;
+      held = map (λ v. v.items) s.held.items;
+      stored = s.stored.items;
+    } };
 }
 
 /// What the memory of process `pid` holds where its source has words.
@@ -59,21 +60,25 @@ fn held_words(
     alloc: Global,
     world: &World,
     pid: usize,
-    source: &Source,
+    sources: &[Option<Source>],
 ) -> Result<Vec<u16>, AllocError>
-    ensures words { IfOk result (λ v. v.items
-        ≡ held_words (slice_get world.now.processes pid) source.now) }
+    ensures words { IfOk result (λ v. v.items ≡ held_at sources.now world.now pid) }
 {
-    match world.process(pid) {
-        Some(process) => {
-            words_from(
-                alloc,
-                process,
-                usize::from(source.origin),
-                word_count(source),
-            )
+    match (source_in(sources, pid), world.process(pid)) {
+        (Some(source), Some(process)) => {
+            words_from(alloc, process, source.origin, source.words.len())
         }
-        None => Ok(Vec::new(alloc)),
+        _ => Ok(Vec::new(alloc)),
+    }
+}
+
+/// The address of the first word of a process's source.
+fn origin_at(sources: &[Option<Source>], pid: usize) -> u16
+    ensures origin { result ≡ origin_at sources.now pid }
+{
+    match source_in(sources, pid) {
+        Some(source) => source.origin,
+        None => 0,
     }
 }
 
@@ -91,19 +96,19 @@ fn push_changed(stores: &mut Vec<Stored>, stored: Stored, before: u16) -> Result
 #[tactic(auto, using(lab_moments::proofs::ValueLemmas::below), unfolding(crate::specs::Stores::changed_words))]
 fn push_words(
     stores: &mut Vec<Stored>,
-    step: Step,
+    taken: &Taken<'_>,
     first: u16,
     before: &[u16],
     after: &[u16],
 ) -> Result<(), AllocError>
     ensures added { OnOk result (stores.new.items ≡ stores.old.items
-        ++ changed_words step.number step.process first before.now after.now) }
+        ++ changed_words taken.now.number taken.now.pid first before.now after.now) }
 {
     for at in 0..after.len().min(before.len()) {
         let (address, word) = (usize::from(first) + at, after[at]);
         let stored = Stored {
-            step: step.number,
-            process: step.process,
+            step: taken.number,
+            process: taken.pid,
             address,
             word,
         };
@@ -112,97 +117,47 @@ fn push_words(
     Ok(())
 }
 
-/// Takes a step of process `pid`; of one that isn't there, none.
-fn take_step(world: &mut World, pid: usize) -> Result<(), AllocError>
-    ensures world { OnOk result (world.new ≡ step world.old pid) }
-{
-    match world.step(pid) {
-        Ok(_) | Err(StepFault::NoProcess) => Ok(()),
-        Err(StepFault::NoMemory) => Err(AllocError),
+impl<'a> Stores<'a> {
+    /// None before the first step of a world.
+    #[tactic(auto, using(lab_moments::proofs::ValueLemmas::below))]
+    pub fn new(
+        alloc: Global,
+        world: &World,
+        sources: &'a [Option<Source>],
+    ) -> Result<Stores<'a>, AllocError>
+        ensures none { IfOk result (λ s. s ≡ no_stores sources.now world.now) }
+    {
+        let mut held = Vec::new(alloc);
+        for pid in 0..world.count() {
+            held.push(held_words(alloc, world, pid, sources)?)?;
+        }
+        Ok(Stores {
+            sources,
+            held,
+            stored: Vec::new(alloc),
+        })
     }
-}
 
-/// Takes a step, and adds what it stores.
-fn add_step(
-    stores: &mut Vec<Stored>,
-    world: &mut World,
-    taken: Step,
-    sources: &[Option<Source>],
-) -> Result<(), AllocError>
-    ensures added { OnOk result (stores.new.items ≡ stores.old.items
-        ++ stored_by sources.now taken.number world.old taken.process) }
-    ensures world { OnOk result (world.new ≡ step world.old taken.process) }
-{
-    let alloc = *stores.allocator();
-    let pid = taken.process;
-    let Some(source) = source_in(sources, pid) else {
-        return take_step(world, pid);
-    };
-    let before = held_words(alloc, world, pid, source)?;
-    take_step(world, pid)?;
-    let after = held_words(alloc, world, pid, source)?;
-    push_words(stores, taken, source.origin, &before, &after)
-}
+    /// The words that were stored, in order of their steps.
+    pub fn into_stored(self) -> Vec<Stored>
+        ensures stored { result.items ≡ self.entry.stored }
+    {
+        self.stored
+    }
 
-/// Takes the steps of a block, of which the first has number `first`, and adds what they store.
-#[tactic(auto, using(crate::proofs::StoreLemmas::stores_and_world))]
-fn add_block(
-    stores: &mut Vec<Stored>,
-    world: &mut World,
-    first: u32,
-    block: Block,
-    sources: &[Option<Source>],
-) -> Result<(), AllocError>
-    requires room { first + block.count ≤ most_steps + 1 }
-    ensures added { OnOk result (stores.new.items ≡ stores.old.items
-        ++ stores_from sources.now first world.old (replicate block.count block.pid)) }
-    ensures world { OnOk result (world.new
-        ≡ run world.old (replicate block.count block.pid)) }
-{
-    for done in 0..block.count {
-        let step = Step {
-            number: first + done,
-            process: block.pid,
+    /// Adds the words that a step stored.
+    pub fn keep(&mut self, taken: &Taken<'_>) -> Result<(), AllocError>
+        ensures kept { OnOk result (self.new
+            ≡ stores_after taken.now.number taken.now.pid taken.now.world.now self.old) }
+    {
+        let alloc = *self.stored.allocator();
+        let after = held_words(alloc, taken.world, taken.pid, self.sources)?;
+        let first = origin_at(self.sources, taken.pid);
+        let Some(held) = self.held.get_mut(taken.pid) else {
+            return Ok(());
         };
-        add_step(stores, world, step, sources)?;
-    }
-    Ok(())
-}
-
-/// What the steps of blocks store, of which the first has number 1.
-fn stores_in(
-    alloc: Global,
-    world: &mut World,
-    blocks: &[Block],
-    sources: &[Option<Source>],
-) -> Result<Vec<Stored>, AllocError>
-    requires room { total_of blocks.now ≤ most_steps }
-    ensures stores { IfOk result (λ v. v.items
-        ≡ stores_from sources.now 1 world.old (steps_of blocks.now)) }
-{
-    let mut stores = Vec::new(alloc);
-    let mut number = 1;
-    for block in blocks {
-        add_block(&mut stores, world, number, *block, sources)?;
-        number += block.count;
-    }
-    Ok(stores)
-}
-
-/// What the steps of a schedule store that a world takes, where a page has each of them.
-#[tactic(auto, unfolding(crate::specs::Stores::stores_of))]
-pub fn stores_of(
-    alloc: Global,
-    world: &mut World,
-    schedule: &Schedule,
-    sources: &[Option<Source>],
-) -> Result<Vec<Stored>, AllocError>
-    ensures stores { IfOk result (λ v. v.items
-        ≡ stores_of world.old schedule.now sources.now) }
-{
-    if schedule.total() <= MOST_WHOLE {
-        stores_in(alloc, world, schedule.blocks(), sources)
-    } else {
-        Ok(Vec::new(alloc))
+        push_words(&mut self.stored, taken, first, held, &after)?;
+        *held = after;
+        Ok(())
     }
 }

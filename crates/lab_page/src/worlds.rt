@@ -154,8 +154,7 @@ fn standings(alloc: Global, world: &World) -> Result<Vec<Value>, AllocError>
 {
     let mut standings = Vec::new(alloc);
     for pid in 0..world.count() {
-        let standing = standing_at(alloc, world, pid)?;
-        push_some(&mut standings, standing)?;
+        push_some(&mut standings, standing_at(alloc, world, pid)?)?;
     }
     Ok(standings)
 }
@@ -191,8 +190,7 @@ fn objects_value(alloc: Global, world: &World) -> Result<Value, AllocError>
     let tally = Tally::new(alloc, world.count())?;
     let mut objects = Vec::new(alloc);
     for place in 0..OBJECT_PLACES as u8 {
-        let object = object_at(alloc, world, &tally, place)?;
-        push_some(&mut objects, object)?;
+        push_some(&mut objects, object_at(alloc, world, &tally, place)?)?;
     }
     Ok(Value::Array(objects))
 }

@@ -94,9 +94,8 @@ impl<'j, 'a, T, P> Explored<'j, 'a, T, P> {
             return Ok(None);
         }
         let before = list.count();
-        let stores = self.given.stores(schedule)?;
         let mut world = self.given.world()?;
-        list.add(&mut world, schedule, number, stores.as_slice())
+        list.add(&mut world, schedule, number, self.given.sources.as_slice())
             .at(self.given.job.alloc, "run")?;
         if list.count() > before {
             Ok(Some(before))

@@ -6,6 +6,7 @@ use Rattle.lab_moments.specs.Pasts.{Past}
 use Rattle.lab_page.specs.Faults.{IsFault}
 use Rattle.lab_page.specs.Moments.{moment, next_past}
 use Rattle.lab_page.specs.Private.Json.{more_json}
+use Rattle.lab_page.specs.Private.Stores.{Stores, AddsStores}
 use Rattle.lab_page.specs.declared.fault.PageFault.{PageFault}
 use Rattle.lab_page.specs.declared.run.Look.{Look}
 
@@ -23,6 +24,10 @@ AddsStep v s p old new = new ≡ record {
   past = next_past s p old.past;
 }
 
+-- so is what the step stores
+abbrev pub TellsStep : Look → Scene → ℕ → Written × Stores → Written × Stores → Type 0
+TellsStep v s p old new = AddsStep v s p old.0 new.0 × AddsStores s p old.1 new.1
+
 -- why the moment of the next step isn't added
-abbrev pub BreaksStep : Look → Scene → ℕ → Written → Written → PageFault → Type 0
-BreaksStep v s p old new e = IsFault e (old.json ++ more_json (moment v.page v.whole s old.past p))
+abbrev pub BreaksStep : Look → Scene → ℕ → Written × Stores → Written × Stores → PageFault → Type 0
+BreaksStep v s p old new e = IsFault e (old.0.json ++ more_json (moment v.page v.whole s old.0.past p))

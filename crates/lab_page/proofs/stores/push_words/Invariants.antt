@@ -8,4 +8,4 @@ use Rattle.lab_page.proofs.stores.push_words.Given as goal
 abbrev pub invariant-loop-at : goal.invariant-loop-at
 invariant-loop-at l =
     l.stores.items ≡ l.fn.stores.items
-    ++ all_below l.at (λ i. changed (record { step = l.step.number; process = l.step.process; address = l.first + i; word = slice_index l.after i }) (slice_index l.before i))
+    ++ all_below l.at (λ i. changed (record { step = l.taken.number; process = l.taken.pid; address = l.first + i; word = slice_index l.after i }) (slice_index l.before i))
