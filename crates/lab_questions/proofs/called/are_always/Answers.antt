@@ -1,7 +1,7 @@
 use Rattle.std.proofs.Common.{◌≡◌, true, false, refl, sym, ◌∙◌}
 use Rattle.std.proofs.lemmas.List.{get_or_default}
 use Rattle.lab_ways.specs.declared.ways.Ways.TheVariants.{Always}
-use Rattle.lab_questions.proofs.ListLemmas.{all_more, all_whole}
+use Rattle.lab_conditions.proofs.ListLemmas.{all_more, all_whole}
 use Rattle.lab_questions.proofs.called.are_always.Goals as goal
 
 pub loop-one-preserved : goal.loop-one-preserved

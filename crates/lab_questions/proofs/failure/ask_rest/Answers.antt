@@ -1,7 +1,8 @@
 use Rattle.std.proofs.Common.{◌≡◌, true, false, subst}
 use Rattle.std.proofs.lemmas.List.{get_or_default}
 use Rattle.lab_questions.specs.Programs.{AsksRest}
-use Rattle.lab_questions.proofs.ListLemmas.{all_more, all_whole, none_any}
+use Rattle.lab_conditions.proofs.ListLemmas.{all_more, all_whole}
+use Rattle.lab_questions.proofs.ListLemmas.{none_any}
 use Rattle.lab_questions.proofs.failure.ask_rest.Goals as goal
 
 pub loop-answer-preserved : goal.loop-answer-preserved

@@ -1,6 +1,7 @@
 use Rattle.std.proofs.Common.{◌≡◌, None, ap, ◌∙◌}
 use Rattle.std.proofs.lemmas.List.{get_or_default}
-use Rattle.lab_questions.proofs.ListLemmas.{all_more, all_whole, none_unless}
+use Rattle.lab_conditions.proofs.ListLemmas.{all_more, all_whole}
+use Rattle.lab_questions.proofs.ListLemmas.{none_unless}
 use Rattle.lab_questions.proofs.failure.first_unmet.Goals as goal
 
 pub loop-answer-preserved : goal.loop-answer-preserved

@@ -1,5 +1,5 @@
 use Rattle.lab_questions.specs.Judgments.{IsMet}
-use Rattle.lab_questions.proofs.ListLemmas.{all_whole}
+use Rattle.lab_conditions.proofs.ListLemmas.{all_whole}
 use Rattle.lab_questions.proofs.judging.fault_in.Goals as goal
 
 pub returns : goal.returns

@@ -1,7 +1,7 @@
 use Rattle.std.proofs.Common.{sym, subst, ◌∙◌}
 use Rattle.std.proofs.lemmas.List.{get_or_default}
 use Rattle.lab_questions.specs.Outputs.{IsWrittenAt}
-use Rattle.lab_questions.proofs.ListLemmas.{all_more, all_whole}
+use Rattle.lab_conditions.proofs.ListLemmas.{all_more, all_whole}
 use Rattle.lab_questions.proofs.output.fault_in.Goals as goal
 
 pub loop-number-preserved : goal.loop-number-preserved

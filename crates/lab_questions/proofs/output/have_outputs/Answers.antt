@@ -2,7 +2,7 @@ use Rattle.std.proofs.Common.{◌≡◌, true, false, refl, subst, sym, ◌∙�
 use Rattle.std.proofs.lemmas.List.{get_or_default}
 use Rattle.lab_questions.specs.Outputs.{HasOutput}
 use Rattle.lab_questions.specs.Requirements.{outputs}
-use Rattle.lab_questions.proofs.ListLemmas.{all_more, all_whole}
+use Rattle.lab_conditions.proofs.ListLemmas.{all_more, all_whole}
 use Rattle.lab_questions.proofs.output.have_outputs.Goals as goal
 
 pub loop-part-preserved : goal.loop-part-preserved

@@ -2,7 +2,8 @@ use Rattle.std.proofs.Common.{◌≡◌, true, false, All, refl, subst, sym, ◌
 use Rattle.std.proofs.lemmas.List.{get_or_default}
 use Rattle.lab_questions.specs.Outputs.{HasOutput}
 use Rattle.lab_questions.specs.Requirements.{outputs}
-use Rattle.lab_questions.proofs.ListLemmas.{all_more, all_whole, none_any}
+use Rattle.lab_conditions.proofs.ListLemmas.{all_more, all_whole}
+use Rattle.lab_questions.proofs.ListLemmas.{none_any}
 use Rattle.lab_questions.proofs.output.is_any_written.Goals as goal
 
 pub loop-alternative-preserved : goal.loop-alternative-preserved

@@ -4,7 +4,7 @@ use Rattle.std.proofs.lemmas.List.Elements.{All-take}
 use Rattle.std.proofs.lemmas.Option.{slice_get_within}
 use Rattle.lab_questions.specs.declared.json.left.Left.{Left}
 use Rattle.lab_questions.specs.Orders.{comes_before}
-use Rattle.lab_questions.proofs.ListLemmas.{all_more, all_whole}
+use Rattle.lab_conditions.proofs.ListLemmas.{all_more, all_whole}
 use Rattle.lab_questions.proofs.json.left.index_for.Goals as goal
 
 pub loop-at-preserved : goal.loop-at-preserved
