@@ -22,15 +22,6 @@ pub on_ok : {T E : Type 0} (r : Result T E) (P : Type 0) → P → OnOk r P
 on_ok (Ok x) P p = p
 on_ok (Err e) P p = tt
 
--- what an error brings, where the parts of a whole were written before it
-pub on_err-map : {T E : Type 0} (r : Result T E) (P Q : Type 0) → (P → Q) → OnErr r P → OnErr r Q
-on_err-map (Ok x) P Q f p = tt
-on_err-map (Err e) P Q f p = f p
-
-pub on_ok-map : {T E : Type 0} (r : Result T E) (P Q : Type 0) → (P → Q) → OnOk r P → OnOk r Q
-on_ok-map (Ok x) P Q f p = f p
-on_ok-map (Err e) P Q f p = tt
-
 -- a whole trace, by its parts
 pub trace-parts : (w : WorldState) (ss : List (Option Source)) (ps : List ℕ) (v : Form) (t : TallyState) → v ≡ form_for (length ps) (length w.processes) ss → t ≡ new_tally (length w.processes)
     → trace_text w ss ps ≡ trace_with v (scene_at 1 w t) ps

@@ -3,7 +3,7 @@ ghost use Rattle.std.specs.Prelude.{◌≡◌, ◌<◌, ◌++◌, OnOk, IfOk, le
 ghost use Rattle.lab_sched.specs.Held.{process_view};
 ghost use Rattle.lab_sched.specs.Worlds.{machine_of};
 ghost use Rattle.lab_told.specs.Services.{service_at};
-ghost use Rattle.lab_trace.specs.Ends.{object_part, since_part, wait_text, stand_line, end_lines};
+ghost use Rattle.lab_trace.specs.Ends.{object_part, wait_text, stand_line, end_lines};
 
 use crate::form::{Form, Stand};
 use crate::others::{ProcessCall, others_title, push_others};
@@ -36,15 +36,6 @@ fn push_object(
     push_others(text, world, call, place)
 }
 
-fn push_since(text: &mut String, since: Option<u32>) -> Result<(), AllocError>
-    ensures text { OnOk result (string_bytes text.new ≡ string_bytes text.old ++ since_part since) }
-{
-    if let Some(since) = since {
-        write!(text, " since {since}")?;
-    }
-    Ok(())
-}
-
 fn push_wait(
     text: &mut String,
     world: &World,
@@ -62,7 +53,9 @@ fn push_wait(
     };
     let kernel = world.kernel();
     text.push_str("waits")?;
-    push_since(text, tally.account(pid).since)?;
+    if let Some(since) = tally.account(pid).since {
+        write!(text, " since {since}")?;
+    }
     text.push_str(" in ")?;
     let arguments = arguments_of(*text.allocator(), kernel, pid, process, service)?;
     push_call(text, service, &arguments)?;

@@ -1,12 +1,12 @@
 //! How the lines of a trace are written: the columns at their beginning, and the label and the line of the
 //! source at their end.
-ghost use Rattle.std.specs.Prelude.{◌≡◌, ◌≤◌, ◌<◌, ◌^◌, ◌||◌, ◌++◌, OnOk, IfOk, IfSome, is_some, option_map, length, string_bytes};
+ghost use Rattle.std.specs.Prelude.{◌≡◌, ◌≤◌, ◌<◌, ◌^◌, ◌++◌, OnOk, IfOk, option_map, length, string_bytes};
 ghost use Rattle.std.specs.Fmt.{decimal};
-ghost use Rattle.lab_trace.specs.Forms.{form_for, process_column, local_column, head, separator, source_of, label_of, label_note, row_of, line_end};
+ghost use Rattle.lab_trace.specs.Forms.{form_for, process_column, local_column, head, separator, source_of, line_end};
 
 use crate::columns::{push_at_left, push_at_right};
-use lab_sources::{Near, Source};
-use lc3_asm::Row;
+use lab_sources::Source;
+use lab_told::Event;
 use lc3_word::Hex;
 use std::alloc::{AllocError, Global};
 use std::marker::Model;
@@ -21,6 +21,19 @@ pub struct Stand {
     pub address: u16,
     /// The word there.
     pub word: u16,
+}
+
+impl Stand {
+    /// Where process `pid` stood before an event of it.
+    pub fn before(pid: usize, event: &Event) -> Stand
+        ensures stand { result ≡ record { pid = pid; address = event.now.pc; word = event.now.word } }
+    {
+        Stand {
+            pid,
+            address: event.pc,
+            word: event.word,
+        }
+    }
 }
 
 /// How the lines of a trace are written.
@@ -82,15 +95,6 @@ impl<'a> Form<'a> {
         }
     }
 
-    /// The nearest label of an address of process `pid`, where it has a source and there is one.
-    fn near(&self, pid: usize, address: u16) -> Option<Near<'a>>
-        ensures label { option_map (λ n. (n.name.now, n.place)) result
-            ≡ label_of self.now.sources pid address }
-        ensures address { IfSome result (λ n. n.address ≡ address) }
-    {
-        self.source(pid)?.nearest(address)
-    }
-
     /// Adds the columns before what happened.
     #[tactic(auto, unfolding(crate::specs::Forms::head))]
     pub fn push_head(
@@ -111,34 +115,6 @@ impl<'a> Form<'a> {
         push_local(text, local)
     }
 
-    /// The line where a process stands, if it has a source, the first word of the line is there and memory holds this word.
-    fn row(&self, stand: Stand) -> Option<Row>
-        ensures row { result ≡ row_of self.now.sources stand.pid stand.address stand.word }
-    {
-        self.source(stand.pid)?.held_row(stand.address, stand.word)
-    }
-
-    /// Adds the nearest label of where a process stands, where there is one. `begun` says
-    /// whether a note stands before it; the answer, whether one stands behind it.
-    fn push_label_note(
-        &self,
-        text: &mut String,
-        begun: bool,
-        stand: Stand,
-    ) -> Result<bool, AllocError>
-        ensures text { OnOk result (string_bytes text.new ≡ string_bytes text.old
-            ++ label_note begun stand.address (label_of self.now.sources stand.pid stand.address)) }
-        ensures noted { IfOk result (λ noted.
-            noted ≡ (begun || is_some (label_of self.now.sources stand.pid stand.address))) }
-    {
-        let Some(near) = self.near(stand.pid, stand.address) else {
-            return Ok(begun);
-        };
-        let separator = separator(begun);
-        write!(text, "{separator}at {near}")?;
-        Ok(true)
-    }
-
     /// Adds the end of the line of where a process stands: the nearest label, and the line of the source there, where there
     /// are such. `begun` says whether a note stands before them.
     #[tactic(auto, unfolding(crate::specs::Forms::line_end))]
@@ -151,8 +127,17 @@ impl<'a> Form<'a> {
         ensures text { OnOk result (string_bytes text.new ≡ string_bytes text.old
             ++ line_end self.now begun stand.pid stand.address stand.word) }
     {
-        let noted = self.push_label_note(text, begun, stand)?;
-        if let Some(row) = self.row(stand) {
+        let Stand { pid, address, word } = stand;
+        let Some(source) = self.source(pid) else {
+            return text.push_str("\n");
+        };
+        let near = source.nearest(address);
+        let noted = begun || near.is_some();
+        if let Some(near) = near {
+            let separator = separator(begun);
+            write!(text, "{separator}at {near}")?;
+        }
+        if let Some(row) = source.held_row(address, word) {
             let (separator, line) = (separator(noted), row.line);
             write!(text, "{separator}line {line}")?;
         }

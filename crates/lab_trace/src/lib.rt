@@ -16,7 +16,6 @@ mod tracing;
 pub use ends::stands;
 pub use fault::TraceFault;
 pub use form::Form;
-pub use lab_told::service_of_word;
 pub use lines::{columns_text, event_text, step_line};
 pub use outcomes::{push_call, push_outcome};
 pub use tracing::{ending, missing_after, trace};

@@ -1,8 +1,8 @@
 //! The line of a step.
 ghost use Rattle.std.specs.Prelude.{◌≡◌, ◌++◌, OnOk, IfOk, string_bytes};
-ghost use Rattle.lab_trace.specs.Lines.{wait_note, origin_note, notes, called_text, act_text, is_noted, columns, step_line};
+ghost use Rattle.lab_trace.specs.Lines.{wait_note, notes, called_text, act_text, is_noted, columns, step_line};
 
-use crate::bytes::push_bytes;
+use crate::bytes::QuotedBytes;
 use crate::form::{Form, Stand, separator};
 use crate::outcomes::{push_call, push_level, push_outcome};
 use lab_texts::how_name;
@@ -21,31 +21,20 @@ fn push_wait_note(text: &mut String, begun: bool, since: Option<u32>) -> Result<
     Ok(())
 }
 
-fn push_origin_note(
-    text: &mut String,
-    begun: bool,
-    origin: Option<Origin>,
-) -> Result<(), AllocError>
-    ensures text { OnOk result (string_bytes text.new ≡ string_bytes text.old
-        ++ origin_note begun origin) }
-{
-    if let Some(Origin { pid, step, .. }) = origin {
-        let separator = separator(begun);
-        write!(text, "{separator}from P{pid} at {step}")?;
-    }
-    Ok(())
-}
-
 fn push_notes(text: &mut String, call: &Called) -> Result<(), AllocError>
     ensures text { OnOk result (string_bytes text.new ≡ string_bytes text.old
         ++ notes call.now) }
 {
+    let begun = call.level.is_some();
+    let separator = separator(begun);
     if let Some(level) = call.level {
-        text.push_str(separator(false))?;
+        text.push_str(" ; ")?;
         push_level(text, level)?;
     }
-    push_origin_note(text, call.level.is_some(), call.origin)?;
-    push_wait_note(text, call.level.is_some(), call.since)
+    if let Some(Origin { pid, step, .. }) = call.origin {
+        write!(text, "{separator}from P{pid} at {step}")?;
+    }
+    push_wait_note(text, begun, call.since)
 }
 
 #[tactic(auto, unfolding(crate::specs::Lines::called_text))]
@@ -69,8 +58,8 @@ fn push_act(text: &mut String, word: u16, act: &Act) -> Result<(), AllocError>
         Act::Calls(call) => push_called(text, call),
         Act::Writes(bytes) => {
             let instruction = WordText(word);
-            write!(text, "{instruction} ")?;
-            push_bytes(text, bytes.as_slice())
+            let bytes = QuotedBytes(bytes.as_slice());
+            write!(text, "{instruction} {bytes}")
         }
         Act::Ends(how) => {
             let how = how_name(*how);
@@ -103,12 +92,7 @@ pub fn columns_text(
 {
     let mut text = String::new(alloc);
     let number = format!(in alloc; "{number}")?;
-    let stand = Stand {
-        pid,
-        address: event.pc,
-        word: event.word,
-    };
-    form.push_head(&mut text, &number, stand, event.local)?;
+    form.push_head(&mut text, &number, Stand::before(pid, event), event.local)?;
     Ok(text)
 }
 
@@ -136,11 +120,7 @@ pub fn step_line(
     };
     let mut line = columns_text(alloc, form, number, pid, event)?;
     push_act(&mut line, event.word, &event.act)?;
-    let stand = Stand {
-        pid,
-        address: event.pc,
-        word: event.word,
-    };
+    let stand = Stand::before(pid, event);
     form.push_line_end(&mut line, is_noted(&event.act), stand)?;
     Ok(line)
 }

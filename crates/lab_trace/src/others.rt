@@ -1,13 +1,12 @@
 //! Who could serve a call.
-ghost use Rattle.std.specs.Prelude.{◌≡◌, ◌<◌, ◌++◌, OnOk, IfOk, length, string_bytes};
-ghost use Rattle.lab_texts.specs.Rows.{texts_below};
+ghost use Rattle.std.specs.Prelude.{◌≡◌, ◌<◌, ◌++◌, OnOk, length, string_bytes};
 ghost use Rattle.lab_trace.specs.Ends.{other_text, or_nobody, others_text, others_title};
 
 use ipc_kernel::Kernel;
 use ipc_traps::Service;
 use lab_sched::World;
 use lab_told::has_open;
-use std::alloc::{AllocError, Global};
+use std::alloc::AllocError;
 
 /// A call of a process.
 #[derive(Clone, Copy)]
@@ -36,21 +35,6 @@ fn push_other(
     Ok(())
 }
 
-/// The other processes that could serve a call, each with a blank before it.
-#[tactic(auto, unfolding(lab_texts::specs::Rows::texts_below))]
-fn others(alloc: Global, world: &World, call: ProcessCall, place: u8) -> Result<String, AllocError>
-    ensures found { IfOk result (λ s. string_bytes s
-        ≡ texts_below (length world.now.processes)
-        (other_text world.now.kernel call.pid place call.service)) }
-{
-    let mut found = String::new(alloc);
-    let kernel = world.kernel();
-    for other in 0..world.count() {
-        push_other(&mut found, kernel, call, place, other)?;
-    }
-    Ok(found)
-}
-
 /// Adds processes that were found, or that there is nobody.
 pub fn push_or_nobody(text: &mut String, found: &str) -> Result<(), AllocError>
     ensures text { OnOk result (string_bytes text.new ≡ string_bytes text.old
@@ -64,7 +48,7 @@ pub fn push_or_nobody(text: &mut String, found: &str) -> Result<(), AllocError>
 }
 
 /// Adds the other processes that could serve a call.
-#[tactic(auto, unfolding(crate::specs::Ends::others_text))]
+#[tactic(auto, unfolding(crate::specs::Ends::others_text, lab_texts::specs::Rows::texts_below))]
 pub fn push_others(
     text: &mut String,
     world: &World,
@@ -74,7 +58,11 @@ pub fn push_others(
     ensures text { OnOk result (string_bytes text.new ≡ string_bytes text.old
         ++ others_text world.now call.pid place call.service) }
 {
-    let found = others(*text.allocator(), world, call, place)?;
+    let mut found = String::new(*text.allocator());
+    let kernel = world.kernel();
+    for other in 0..world.count() {
+        push_other(&mut found, kernel, call, place, other)?;
+    }
     push_or_nobody(text, &found)
 }
 

@@ -1,6 +1,7 @@
 use Rattle.std.proofs.Common.{ℕ, List, [], ◌++◌, sym, ap, subst, ◌∙◌, append-nil}
 use Rattle.std.specs.Io.KnownBytes.{Appends}
 use Rattle.std.proofs.KnownBytes.{Appends-trans}
+use Rattle.std.proofs.lemmas.Result.{on_ok_weaker, on_err_weaker}
 use Rattle.lab_io.proofs.Prefixes.{AppendsPrefix-after}
 use Rattle.lab_sched.specs.Schedules.{steps_of}
 use Rattle.lab_told.specs.Scenes.{Scene, scene_at}
@@ -8,7 +9,7 @@ use Rattle.lab_told.specs.Tallies.{new_tally}
 use Rattle.lab_told.proofs.SceneLemmas.{scene-world}
 use Rattle.lab_trace.specs.Lines.{events}
 use Rattle.lab_trace.proofs.LineLemmas.{lines-told, lines-broke}
-use Rattle.lab_trace.proofs.WrittenLemmas.{on_err, on_ok, on_err-map, on_ok-map, trace-whole, lines-prefix, prefix-lines, form-is}
+use Rattle.lab_trace.proofs.WrittenLemmas.{on_err, on_ok, trace-whole, lines-prefix, prefix-lines, form-is}
 use Rattle.lab_trace.proofs.tracing.trace.Goals as goal
 
 pub returns-in_err-tell_run-clause-prefix : goal.returns-in_err-tell_run-clause-prefix
@@ -40,7 +41,7 @@ returns-clause-written g c =
     let s = scene_at 1 c.args.world.now c.in_ok-tally.tally in
     let whole = trace-whole c.args.world.now c.tell_run.new.world c.args.sources.now ps v c.in_ok-tally.tally c.tell_run.new.tally _ wide first led
     ∙ ap (λ (l : List ℕ). events v s ps ++ l) (sym (c.deref.ensures ∙ c.in_ok-text.ensures.text)) in
-    on_ok-map c.write_text.result _ _
+    on_ok_weaker c.write_text.result
     (λ more. subst (λ (l : List ℕ). Appends (g.W.Write.contents c.args.output.now.device) (g.W.Write.contents c.write_text.new.output.device) l) (sym whole)
     (Appends-trans _ _ _ (events v s ps) c.deref.result.now (lines-told g.W.Write.contents v s ps _ _ told) more))
     c.write_text.ensures.written
@@ -62,6 +63,6 @@ returns-clause-prefix g c =
     let s = scene_at 1 c.args.world.now c.in_ok-tally.tally in
     let whole = trace-whole c.args.world.now c.tell_run.new.world c.args.sources.now ps v c.in_ok-tally.tally c.tell_run.new.tally _ wide first led
     ∙ ap (λ (l : List ℕ). events v s ps ++ l) (sym (append-nil c.deref.result.now ∙ c.deref.ensures ∙ c.in_ok-text.ensures.text)) in
-    on_err-map c.write_text.result _ _
+    on_err_weaker c.write_text.result
     (λ part. AppendsPrefix-after _ _ _ (events v s ps) c.deref.result.now [] _ (lines-told g.W.Write.contents v s ps _ _ told) part whole)
     c.write_text.ensures.prefix

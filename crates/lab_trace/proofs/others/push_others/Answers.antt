@@ -1,7 +1,7 @@
 use Rattle.std.proofs.Common.{ℕ, List, [], ◌++◌, ap, ◌∙◌}
 use Rattle.lab_trace.specs.Ends.{other_text}
 use Rattle.lab_texts.proofs.RowLemmas.{texts_below_more}
-use Rattle.lab_trace.proofs.others.others.Goals as goal
+use Rattle.lab_trace.proofs.others.push_others.Goals as goal
 
 pub loop-other-preserved : goal.loop-other-preserved
 loop-other-preserved c =

@@ -1,7 +1,7 @@
 use Rattle.std.proofs.Common.{◌≡◌, string_bytes}
 use Rattle.lab_texts.specs.Rows.{texts_below}
 use Rattle.lab_trace.specs.Ends.{taker_text}
-use Rattle.lab_trace.proofs.takers.takers.Given as goal
+use Rattle.lab_trace.proofs.takers.push_takers.Given as goal
 
 -- those so far are found
 abbrev pub invariant-loop-pid : goal.invariant-loop-pid

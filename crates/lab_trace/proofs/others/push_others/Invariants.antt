@@ -1,7 +1,7 @@
 use Rattle.std.proofs.Common.{◌≡◌, string_bytes}
 use Rattle.lab_texts.specs.Rows.{texts_below}
 use Rattle.lab_trace.specs.Ends.{other_text}
-use Rattle.lab_trace.proofs.others.others.Given as goal
+use Rattle.lab_trace.proofs.others.push_others.Given as goal
 
 -- those so far are found
 abbrev pub invariant-loop-other : goal.invariant-loop-other
