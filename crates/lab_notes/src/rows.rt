@@ -1,6 +1,6 @@
 //! What is noted of the steps of a run.
 ghost use Rattle.std.specs.Prelude.{◌≡◌, IfOk, OnOk, slice_get};
-ghost use Rattle.lab_notes.specs.Notes.{refused_with, registers_of, refusal_of, rows_by, new_rows};
+ghost use Rattle.lab_notes.specs.Notes.{registers_of, refusal_of, rows_by, new_rows};
 
 use ipc_names::Errno;
 use ipc_traps::Service;
@@ -56,17 +56,6 @@ impl Model for Rows {
     ghost Value = { List Noted };
 
     ghost view = { λ r. r.rows.items };
-}
-
-/// The error of a call that was refused; none of one that would have to wait.
-fn refused_with(outcome: &Outcome) -> Option<Errno>
-    ensures error { result ≡ refused_with outcome.now }
-{
-    match outcome {
-        Outcome::Refused(Errno::Again) => None,
-        Outcome::Refused(error) => Some(*error),
-        Outcome::Waits | Outcome::Replied(_) => None,
-    }
 }
 
 /// What the registers of process `pid` hold.
@@ -126,7 +115,8 @@ impl Rows {
         Ok(Rows { rows })
     }
 
-    /// Keeps what is told of a step of process `pid`, by what its registers hold behind it.
+    /// Keeps what is told of a step of process `pid`, by what its registers hold behind it. EAGAIN counts
+    /// as no refusal.
     pub fn keep(
         &mut self,
         alloc: Global,
@@ -142,8 +132,9 @@ impl Rows {
         let Act::Calls(called) = &event.act else {
             return Ok(());
         };
-        let Some(error) = refused_with(&called.outcome) else {
-            return Ok(());
+        let error = match called.outcome {
+            Outcome::Refused(error) if error != Errno::Again => error,
+            _ => return Ok(()),
         };
         let Some(row) = self.rows.get_mut(pid) else {
             return Ok(());

@@ -1,6 +1,7 @@
 //! Why a call was refused, in a few words that name the argument.
 ghost use Rattle.std.specs.Prelude.{◌≡◌, ◌++◌, OnOk, string_bytes};
-ghost use Rattle.lab_notes.specs.Private.Why.{called_text, open_fault, name_size_text, greatest_text, size_text, range_text, long_name_text, has_attributes, fault_text};
+ghost use Rattle.ipc_names.specs.declared.errno.Errno.TheVariants.{Invalid};
+ghost use Rattle.lab_notes.specs.Private.Why.{range_text, long_name_text, has_attributes, fault_text, size_fault, why_text};
 
 use crate::rows::{Refusal, Registers};
 use ipc_names::{Errno, Flags, O_CREAT};
@@ -15,84 +16,47 @@ const GREATEST_PRIORITY: u16 = MQ_PRIO_MAX - 1;
 const ATTRIBUTES: u16 = 4;
 
 /// Adds why a call was refused.
-pub fn push_why(text: &mut String, refusal: &Refusal) -> Result<(), AllocError> {
+pub fn push_why(text: &mut String, refusal: &Refusal) -> Result<(), AllocError>
+    ensures text { (refusal.now.error ≡ Invalid → ⊥) → OnOk result
+        (string_bytes text.new ≡ string_bytes text.old ++ why_text refusal.now) }
+{
     let object = refusal.object.as_str();
+    let is_on_queues = refusal.service.is_on_queues();
+    let kind = if is_on_queues { "queue" } else { "semaphore" };
     match refusal.error {
-        Errno::NoEntry => push_called(text, "no", refusal.service, object),
-        Errno::BadDescriptor => match refusal.service {
-            Service::MqSend if refusal.is_open => write!(text, "{object} is not open to send"),
-            Service::MqReceive if refusal.is_open => {
-                write!(text, "{object} is not open to receive")
-            }
-            _ => write!(text, "{object} is no descriptor"),
-        },
+        Errno::NoEntry => write!(text, "no {kind} is called {object}"),
+        Errno::BadDescriptor => {
+            let fault = match refusal.service {
+                Service::MqSend if refusal.is_open => "is not open to send",
+                Service::MqReceive if refusal.is_open => "is not open to receive",
+                _ => "is no descriptor",
+            };
+            write!(text, "{object} {fault}")
+        }
         Errno::Again => text.push_str("it would have to wait"),
         Errno::Fault => push_fault(text, refusal.service, refusal.registers, object),
-        Errno::Exists => push_called(text, "a", refusal.service, object),
+        Errno::Exists => write!(text, "a {kind} is called {object}"),
         Errno::Invalid => push_invalid(text, refusal),
-        Errno::TooManyOpen => text.push_str(open_fault(refusal.service)),
+        Errno::TooManyOpen if is_on_queues => text.push_str("no descriptor is free"),
+        Errno::TooManyOpen => text.push_str("no slot, or no open of it, is free"),
         Errno::NoSpace => text.push_str("no place for objects is free"),
-        Errno::NameTooLong => push_name_size(text, object),
-        Errno::Overflow => push_greatest(text, object),
-        Errno::MessageSize => push_size(text, refusal.service, refusal.registers.r2),
+        Errno::NameTooLong => write!(text, "the name at {object} has more than 255 characters"),
+        Errno::Overflow => write!(text, "{object} has its greatest value"),
+        Errno::MessageSize => {
+            let (length, fault) = (refusal.registers.r2, size_fault(refusal.service));
+            write!(text, "length {length}: {fault}")
+        }
     }
 }
 
-/// Adds that some object of the call's kind has this name.
-fn push_called(
-    text: &mut String,
-    article: &str,
-    service: Service,
-    name: &str,
-) -> Result<(), AllocError>
-    ensures text { OnOk result (string_bytes text.new ≡ string_bytes text.old
-        ++ called_text article.now service name.now) }
+/// What is wrong with a length.
+fn size_fault(service: Service) -> &'static str
+    ensures text { result.now ≡ size_fault service }
 {
-    let kind = if service.is_on_queues() {
-        "queue"
-    } else {
-        "semaphore"
-    };
-    write!(text, "{article} {kind} is called {name}")
-}
-
-/// What is wrong where too many are open.
-fn open_fault(service: Service) -> &'static str
-    ensures text { result.now ≡ open_fault service }
-{
-    if service.is_on_queues() {
-        "no descriptor is free"
-    } else {
-        "no slot, or no open of it, is free"
-    }
-}
-
-/// Adds that a name, which is shown so, has too many characters.
-fn push_name_size(text: &mut String, object: &str) -> Result<(), AllocError>
-    ensures text { OnOk result (string_bytes text.new ≡ string_bytes text.old
-        ++ name_size_text object.now) }
-{
-    write!(text, "the name at {object} has more than 255 characters")
-}
-
-/// Adds that a semaphore, which is shown so, can't be posted.
-fn push_greatest(text: &mut String, object: &str) -> Result<(), AllocError>
-    ensures text { OnOk result (string_bytes text.new ≡ string_bytes text.old
-        ++ greatest_text object.now) }
-{
-    write!(text, "{object} has its greatest value")
-}
-
-/// Adds which length is wrong.
-fn push_size(text: &mut String, service: Service, length: u16) -> Result<(), AllocError>
-    ensures text { OnOk result (string_bytes text.new ≡ string_bytes text.old
-        ++ size_text service length) }
-{
-    let fault = match service {
+    match service {
         Service::MqReceive => "the buffer is too short",
         _ => "the message is too long",
-    };
-    write!(text, "length {length}: {fault}")
+    }
 }
 
 /// Adds a range of memory that reaches the devices; a word is none of memory.

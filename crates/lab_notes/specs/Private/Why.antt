@@ -1,5 +1,5 @@
 -- Why a call was refused, in words that name the argument.
-use Rattle.std.specs.Prelude.{ℕ, Bool, not, ◌==◌, ◌&&◌, if◌then◌else◌, List, ◌++◌, codes}
+use Rattle.std.specs.Prelude.{ℕ, Bool, true, not, ◌==◌, ◌&&◌, if◌then◌else◌, List, [], ◌++◌, codes}
 use Rattle.std.specs.Fmt.{decimal}
 use Rattle.lc3_word.specs.Words.{hexadecimal_text}
 use Rattle.ipc_names.specs.Flags.{has_flag, o_creat}
@@ -7,36 +7,14 @@ use Rattle.ipc_traps.specs.Names.{is_in_memory}
 use Rattle.ipc_traps.specs.Services.{is_on_queues}
 use Rattle.ipc_traps.specs.declared.service.Service.{Service}
 use Rattle.ipc_traps.specs.declared.service.Service.TheVariants.{MqOpen, MqSend, MqReceive, MqGetattr, MqSetattr, SemGetvalue}
+use Rattle.ipc_names.specs.declared.errno.Errno.{Errno}
+use Rattle.ipc_names.specs.declared.errno.Errno.TheVariants.{NoEntry, BadDescriptor, Again, Fault, Exists, Invalid, TooManyOpen, NoSpace, NameTooLong, Overflow, MessageSize}
+use Rattle.lab_notes.specs.declared.rows.Refusal.{Refusal}
 use Rattle.lab_notes.specs.declared.rows.Registers.{Registers}
 
 -- what a call is on
 abbrev pub kind_of : Service → List ℕ
 kind_of s = if is_on_queues s then codes "queue" else codes "semaphore"
-
--- that some object of the call's kind has this name
-abbrev pub called_text : List ℕ → Service → List ℕ → List ℕ
-called_text article s name = article ++ (codes " " ++ (kind_of s ++ (codes " is called " ++ name)))
-
--- what is wrong where too many are open
-abbrev pub open_fault : Service → List ℕ
-open_fault s = if is_on_queues s then codes "no descriptor is free" else codes "no slot, or no open of it, is free"
-
--- that a name, which is shown so, has too many characters
-abbrev pub name_size_text : List ℕ → List ℕ
-name_size_text object = codes "the name at " ++ object ++ codes " has more than 255 characters"
-
--- that a semaphore, which is shown so, has its greatest value
-abbrev pub greatest_text : List ℕ → List ℕ
-greatest_text object = object ++ codes " has its greatest value"
-
--- what is wrong with a length
-abbrev pub size_fault : Service → List ℕ
-size_fault MqReceive = codes "the buffer is too short"
-size_fault other = codes "the message is too long"
-
--- which length is wrong
-abbrev pub size_text : Service → ℕ → List ℕ
-size_text s length = codes "length " ++ decimal length ++ codes ": " ++ size_fault s
 
 -- several words of memory that reach the devices
 abbrev pub words_text : ℕ → ℕ → List ℕ
@@ -73,3 +51,35 @@ fault_text MqSetattr r object = if is_in_memory r.r1 4 then range_text r.r2 4 el
 fault_text SemGetvalue r object = range_text r.r1 1
 fault_text MqOpen r object = open_range_text r object
 fault_text other r object = long_name_text object
+
+-- what is wrong with a descriptor: it may be open without the access that the call needs
+abbrev pub descriptor_fault : Service → Bool → List ℕ
+descriptor_fault MqSend true = codes "is not open to send"
+descriptor_fault MqReceive true = codes "is not open to receive"
+descriptor_fault other is_open = codes "is no descriptor"
+
+-- what is wrong where too many are open
+abbrev pub open_fault : Service → List ℕ
+open_fault s = if is_on_queues s then codes "no descriptor is free" else codes "no slot, or no open of it, is free"
+
+-- what is wrong with a length
+abbrev pub size_fault : Service → List ℕ
+size_fault MqReceive = codes "the buffer is too short"
+size_fault other = codes "the message is too long"
+
+-- why a call was refused, but for EINVAL
+abbrev pub fault_of : Errno → Refusal → List ℕ
+fault_of NoEntry r = codes "no " ++ kind_of r.service ++ codes " is called " ++ r.object
+fault_of BadDescriptor r = r.object ++ codes " " ++ descriptor_fault r.service r.is_open
+fault_of Again r = codes "it would have to wait"
+fault_of Fault r = fault_text r.service r.registers r.object
+fault_of Exists r = codes "a " ++ kind_of r.service ++ codes " is called " ++ r.object
+fault_of Invalid r = []
+fault_of TooManyOpen r = open_fault r.service
+fault_of NoSpace r = codes "no place for objects is free"
+fault_of NameTooLong r = codes "the name at " ++ r.object ++ codes " has more than 255 characters"
+fault_of Overflow r = r.object ++ codes " has its greatest value"
+fault_of MessageSize r = codes "length " ++ decimal r.registers.r2 ++ codes ": " ++ size_fault r.service
+
+abbrev pub why_text : Refusal → List ℕ
+why_text r = fault_of r.error r
