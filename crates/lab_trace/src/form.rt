@@ -26,7 +26,8 @@ pub struct Stand {
 impl Stand {
     /// Where process `pid` stood before an event of it.
     pub fn before(pid: usize, event: &Event) -> Stand
-        ensures stand { result ≡ record { pid = pid; address = event.now.pc; word = event.now.word } }
+        ensures stand { result
+            ≡ record { pid = pid; address = event.now.pc; word = event.now.word } }
     {
         Stand {
             pid,

@@ -26,12 +26,12 @@ fn push_notes(text: &mut String, call: &Called) -> Result<(), AllocError>
         ++ notes call.now) }
 {
     let begun = call.level.is_some();
-    let separator = separator(begun);
     if let Some(level) = call.level {
-        text.push_str(" ; ")?;
+        text.push_str(separator(false))?;
         push_level(text, level)?;
     }
     if let Some(Origin { pid, step, .. }) = call.origin {
+        let separator = separator(begun);
         write!(text, "{separator}from P{pid} at {step}")?;
     }
     push_wait_note(text, begun, call.since)

@@ -119,7 +119,8 @@ pub(crate) fn findings(
     requires read { source.now.reader ≡ reading content.now }
     ensures told { IfOk result (λ found. Tells
         (faults_of (length source.now.lines.items) (reading content.now))
-        (told_warnings wish.entry.profile (map (λ name. name.now) wish.entry.allowed.now) content.now)
+        (told_warnings wish.entry.profile (map (λ name. name.now) wish.entry.allowed.now)
+        content.now)
         found.items) }
     ensures ordered { IfOk result (λ found. IsNonDecreasingBy (λ f. f.line) found.items) }
 {
