@@ -1,21 +1,17 @@
 -- Steps at calls: what a process makes in a world it makes in the advance of the world, too.
-use Rattle.std.proofs.Common.{ℕ, ◌≡◌, Option, Some, None, refl, sym, ap, subst, ◌∙◌, slice_get}
+use Rattle.std.proofs.Common.{ℕ, ◌≡◌, Option, Some, None, refl, ap, subst, ◌∙◌, slice_get}
 use Rattle.lc3_machine.specs.Process.{Process as Machine}
-use Rattle.ipc_kernel.specs.Alike.{IsConsistent}
-use Rattle.lab_sched.specs.Worlds.{Process, Running, Waiting, Ended, WorldState, NextAction, moves, calls, next_action, StepEffect, nothing, local_step, kernel_step, step_effect, step_effect_in}
+use Rattle.lab_sched.specs.Worlds.{Process, Running, Waiting, Ended, WorldState, NextAction, moves, calls, next_action, StepEffect, nothing, local_step, kernel_step, step_effect_in}
 use Rattle.lab_sched.proofs.Executions.{effect_local}
 use Rattle.lab_worlds.specs.Calls.{IsAtCall, IsAhead, Both, IsAdvance}
-use Rattle.lab_worlds.proofs.AlikeWorlds.{effect_alike}
 use Rattle.lab_worlds.proofs.AfterLocalSteps.{stays}
+use Rattle.lab_worlds.proofs.UnwaitingWorlds.{effect_at}
 
 -- a call of the kernel
 abbrev pub IsCall : StepEffect → Type 0
 IsCall nothing = ⊥
 IsCall (local_step n) = ⊥
 IsCall (kernel_step m c a) = Unit {0}
-
-pub effect_at : (w : WorldState) (p : ℕ) (o : Option Process) → slice_get w.processes p ≡ o → step_effect_in w p ≡ step_effect w.kernel p o
-effect_at w p o a = ap (λ x. step_effect w.kernel p x) a
 
 -- its process is at a call
 running_asks : (w : WorldState) (p : ℕ) (m : Machine) (a : NextAction) → next_action m ≡ a → slice_get w.processes p ≡ Some (Running m) → IsCall (step_effect_in w p) → IsAtCall (Running m)
@@ -36,9 +32,3 @@ stands w v p advance call = by (slice_get w.processes p) (slice_get v.processes 
     by None b a c i = absurd (subst IsCall (effect_at w p None a) call)
     by (Some s) None a c i = absurd i
     by (Some s) (Some u) a c i = (s, a, c ∙ ap (λ x. Some x) (stays s u (at_call w p s a call) i))
-
--- where it makes the same step
-pub same_in_advance : (w v : WorldState) (p : ℕ) (s : Process) → IsConsistent w.kernel → IsAdvance w v → slice_get w.processes p ≡ Some s → slice_get v.processes p ≡ Some s
-    → step_effect_in v p ≡ step_effect_in w p
-same_in_advance w v p s consistent advance here there =
-    effect_alike w.kernel v.kernel p (slice_get v.processes p) consistent advance.kernel ∙ ap (λ o. step_effect w.kernel p o) (there ∙ sym here)

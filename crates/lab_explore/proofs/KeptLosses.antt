@@ -22,11 +22,11 @@ use Rattle.lab_search.specs.Stored.{IsAt, HasEdge, IsSearched}
 use Rattle.lab_explore.specs.Private.Judged.{IsLoss, NoEdgeLoses}
 use Rattle.lab_worlds.proofs.AlikeWorlds.{kernel_alike, consistent_run}
 use Rattle.lab_worlds.proofs.Pushes.{all_at}
-use Rattle.lab_worlds.proofs.UnwaitingWorlds.{tells, same_step, still_unwaiting}
-use Rattle.lab_worlds.proofs.HeldAdvances.{asks_run, reaches_world}
+use Rattle.lab_worlds.proofs.UnwaitingWorlds.{effect_at, tells, same_step, still_unwaiting}
+use Rattle.lab_worlds.proofs.HeldAdvances.{same_in_advance, asks_run, reaches_world}
 use Rattle.lab_search.proofs.FirstWorlds.{at_unique}
 use Rattle.lab_explore.proofs.KeptConditions.{IsSomeRow, row_levels}
-use Rattle.lab_explore.proofs.CallSteps.{IsCall, effect_at, stands, same_in_advance}
+use Rattle.lab_explore.proofs.CallSteps.{IsCall, stands}
 
 -- a step of this kind leaves fewer messages
 abbrev Fewer : WorldState → ℕ → StepEffect → Type 0

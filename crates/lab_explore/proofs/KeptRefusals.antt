@@ -10,7 +10,7 @@ use Rattle.ipc_kernel.specs.Answer.{answer}
 use Rattle.ipc_kernel.specs.Alike.{IsConsistent}
 use Rattle.lab_sched.specs.declared.stepped.Stepped.{Stepped}
 use Rattle.lab_sched.specs.declared.stepped.Stepped.TheVariants as stepped
-use Rattle.lab_sched.specs.Worlds.{Process, Running, Waiting, Ended, WorldState, NextAction, moves, calls, next_action, StepEffect, nothing, local_step, kernel_step, step_effect, step_effect_in, first_try, retry, process_made, processes_with, process_after, process_after_answer, after, step, run}
+use Rattle.lab_sched.specs.Worlds.{Process, Running, Waiting, Ended, WorldState, NextAction, moves, calls, next_action, StepEffect, nothing, local_step, kernel_step, step_effect, step_effect_in, first_try, retry, process_made, processes_with, process_after, process_after_answer, step, run}
 use Rattle.ipc_traps.specs.Asked.{Request, next_request}
 use Rattle.lab_sched.specs.Held.{asked_by, stepped_of, told_in}
 use Rattle.lab_sched.proofs.ListPlaces.{get-set_same, get_past}
@@ -26,11 +26,11 @@ use Rattle.lab_worlds.specs.Unwaiting.{GoesOn, unwaiting, AskAgain}
 use Rattle.lab_worlds.specs.Reached.{NeverBreaks}
 use Rattle.lab_worlds.proofs.AlikeWorlds.{consistent_run}
 use Rattle.lab_worlds.proofs.AfterLocalSteps.{same_some}
-use Rattle.lab_worlds.proofs.UnwaitingWorlds.{same_step}
-use Rattle.lab_worlds.proofs.HeldAdvances.{asks_run, reaches_world}
+use Rattle.lab_worlds.proofs.UnwaitingWorlds.{effect_at, same_step}
+use Rattle.lab_worlds.proofs.HeldAdvances.{same_in_advance, asks_run, reaches_world}
 use Rattle.lab_explore.specs.Private.Judged.{IsQuiet, IsCalmAt, BeginsQuietly, NoneRefuses}
 use Rattle.lab_explore.proofs.KeptConditions.{IsSomeRow, row_levels}
-use Rattle.lab_explore.proofs.CallSteps.{IsCall, effect_at, stands, same_in_advance}
+use Rattle.lab_explore.proofs.CallSteps.{IsCall, stands}
 use Rattle.lab_explore.proofs.QuietSteps.{quiet_on, quiet_waiting}
 
 -- a world whose advance is that of a row

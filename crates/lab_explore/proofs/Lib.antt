@@ -8,5 +8,5 @@ pub mod QuietSteps
 mod KeptRefusals
 pub mod CalmRows
 pub mod LossesOfRows
-mod JudgedRows
+pub mod JudgedRows
 mod FirstRows

@@ -46,8 +46,7 @@ impl Alone {
         ensures count { length self.new.kernel.processes ≡ length self.old.kernel.processes }
         ensures pid { self.new.pid ≡ self.old.pid }
     {
-        let stepped = take_step(alloc, &mut self.process, &mut self.kernel, self.pid)?;
-        Ok(stepped)
+        Ok(take_step(alloc, &mut self.process, &mut self.kernel, self.pid)?)
     }
 
     /// Looks at the local steps of the process up to its next call, if they aren't more than so many.

@@ -1,7 +1,7 @@
 //! Weakly fair cycles: ways through strongly connected components in which each process is treated fairly. Nothing that is proved rests
 //! on what stands here: the steps along them are taken again (`fair`).
 use crate::visited::Visited;
-use lab_states::{Edge, Edges, Sets, going_from, number_at, only, path_of, place_of, put};
+use lab_states::{Edge, Edges, Sets, going_from, only, shortest_path};
 use lab_worlds::{ClosedWalk, ExploreFault, WalkPart};
 use std::alloc::{AllocError, Global};
 
@@ -26,56 +26,10 @@ fn is_there(edges: &Edges, row: usize, goal: Goal) -> bool {
 }
 
 /// Whether an edge is what is looked for, or leads to it.
-fn leads_there(edges: &Edges, edge: &Edge, goal: Goal) -> bool {
+fn leads_there(edges: &Edges, edge: Edge, goal: Goal) -> bool {
     match goal {
         Goal::Step(pid) => edge.pid as u32 == pid,
         _ => is_there(edges, edge.to as usize, goal),
-    }
-}
-
-/// Rows that are reached along edges from one of them, inside its set, up to what is looked for.
-#[derive(Drop)]
-struct Reach<'a> {
-    sets: &'a Sets,
-    edges: &'a Edges,
-    goal: Goal,
-    /// For each row the place of the edge by which it was reached, plus 1, or 0.
-    places: Vec<u32>,
-    rows: Vec<u32>,
-}
-
-impl<'a> Reach<'a> {
-    /// Follows the edges from a row; with the place of one that is looked for, or leads to it.
-    fn follow(&mut self, row: usize) -> Result<Option<usize>, AllocError> {
-        for at in self.edges.places_from(row) {
-            if let Some(edge) = self.edges.get_after(at, row) {
-                let to = edge.to as usize;
-                if self.sets.set_of(to) == self.sets.set_of(row) {
-                    if leads_there(self.edges, &edge, self.goal) {
-                        return Ok(Some(at));
-                    }
-                    if number_at(&self.places, to) == 0 {
-                        put(&mut self.places, to, place_of(at)?.saturating_add(1));
-                        self.rows.push(edge.to)?;
-                    }
-                }
-            }
-        }
-        Ok(None)
-    }
-
-    /// Follows the edges from one row after the other.
-    fn follow_all(&mut self) -> Result<Option<usize>, AllocError> {
-        for place in 0..self.sets.of_rows.len() {
-            let Some(row) = self.rows.get(place).copied() else {
-                return Ok(None);
-            };
-            let last = self.follow(row as usize)?;
-            if last.is_some() {
-                return Ok(last);
-            }
-        }
-        Ok(None)
     }
 }
 
@@ -114,30 +68,19 @@ impl<'a> Way<'a> {
         Ok(())
     }
 
-    /// The edges of a shortest way on to what is looked for, the last of which comes first.
-    fn path_to(&self, goal: Goal) -> Result<Option<Vec<Edge>>, AllocError> {
-        let alloc = *self.walk_parts.allocator();
-        let edges = &self.visited.store.edges;
-        let mut reach = Reach {
-            sets: self.sets,
-            edges,
-            goal,
-            places: vec![in alloc; 0; self.sets.of_rows.len()]?,
-            rows: vec![in alloc; place_of(self.row)?]?,
-        };
-        let Some(last) = reach.follow_all()? else {
-            return Ok(None);
-        };
-        let path = path_of(alloc, edges, reach.places.as_slice(), self.row, last)?;
-        Ok(Some(path))
-    }
-
     /// Goes on to what is looked for; with whether it is there.
     fn go_on(&mut self, goal: Goal) -> Result<bool, ExploreFault> {
-        if is_there(&self.visited.store.edges, self.row, goal) {
+        let edges = &self.visited.store.edges;
+        if is_there(edges, self.row, goal) {
             return Ok(true);
         }
-        let Some(path) = self.path_to(goal)? else {
+        let sets = self.sets;
+        let alloc = *self.walk_parts.allocator();
+        let set = sets.set_of(self.row);
+        let path = shortest_path(alloc, edges, sets.of_rows.len(), self.row, |edge| {
+            (sets.set_of(edge.to as usize) == set).then(|| leads_there(edges, edge, goal))
+        })?;
+        let Some(path) = path else {
             return Ok(false);
         };
         self.go(path.as_slice())?;
@@ -162,10 +105,9 @@ impl<'a> Way<'a> {
     /// it; with whether there is one for each.
     fn go_to_steps(&mut self, count: u32) -> Result<bool, ExploreFault> {
         for pid in 0..count {
-            if self.sets.moves(self.row, pid) && self.moved & only(pid) == 0 {
-                if !self.go_on(Goal::Step(pid))? {
-                    return Ok(false);
-                }
+            let missing = self.sets.moves(self.row, pid) && self.moved & only(pid) == 0;
+            if missing && !self.go_on(Goal::Step(pid))? {
+                return Ok(false);
             }
         }
         Ok(true)

@@ -89,16 +89,9 @@ pub fn explore<O: Observer, R: Threads + Sync>(
     // for ends there is what is left, and where that is little a sixteenth of the limit beyond it
     let left = limits.memory.saturating_sub(visited.store.size());
     let room = left.max(limits.memory / 16);
-    match visited.report(alloc, &processes, room, nevers, fair, workers) {
-        Ok(found) => {
-            discard(visited);
-            Ok(found)
-        }
-        Err(fault) => {
-            discard(visited);
-            Err(fault)
-        }
-    }
+    let found = visited.report(alloc, &processes, room, nevers, fair, workers);
+    discard(visited);
+    Ok(found?)
 }
 
 impl Visited {

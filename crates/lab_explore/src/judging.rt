@@ -35,10 +35,7 @@ fn stands_before(at: usize, first: Option<usize>) -> bool
     ensures yes { IsTrue result → StandsBefore first at }
     ensures no { result ≡ false → StandsBefore first at → ⊥ }
 {
-    match first {
-        Some(found) => at < found,
-        None => true,
-    }
+    first.is_none_or(|found| at < found)
 }
 
 /// That of two rows that stands first, of those that were found.
@@ -96,8 +93,10 @@ fn whole_kernel(store: &Store, alloc: Global, number: u32) -> Result<Whole, Expl
     ensures exactly { IfOk result (λ whole. IsExactly store.now whole.number whole.kernel) }
     ensures number { IfOk result (λ whole. whole.number ≡ number) }
 {
-    let found = store.kernels.get(alloc, number)?;
-    let kernel = found.ok_or(ExploreFault::Unvouched)?;
+    let kernel = store
+        .kernels
+        .get(alloc, number)?
+        .ok_or(ExploreFault::Unvouched)?;
     Ok(Whole { number, kernel })
 }
 
@@ -142,16 +141,12 @@ fn row_holds(
     };
     put_for(store, alloc, last, number, condition)?;
     let processes = processes_in(store, alloc, states)?;
-    let holds = condition.holds_in(alloc, &last.kernel, processes.as_slice())?;
-    Ok(holds)
+    Ok(condition.holds_in(alloc, &last.kernel, processes.as_slice())?)
 }
 
 /// The number of the kernel of a row, or 0.
 fn kernel_of(store: &Store, at: usize) -> u32 {
-    match store.rows.get(at) {
-        Some((kernel, _)) => kernel,
-        None => 0,
-    }
+    store.rows.get(at).map_or(0, |row| row.0)
 }
 
 /// The numbers of the rows from one up to another, of which those over the same kernel stand beside

@@ -24,8 +24,7 @@ fn messages(store: &Store, alloc: Global) -> Result<Vec<usize>, ExploreFault>
         let Some(kernel) = found else {
             return Err(ExploreFault::Unvouched);
         };
-        let count = messages_in(&kernel);
-        counts.push(count)?;
+        counts.push(messages_in(&kernel))?;
     }
     Ok(counts)
 }
@@ -40,8 +39,7 @@ fn receiving(store: &Store, alloc: Global) -> Result<Vec<bool>, ExploreFault>
         let Some(process) = store.states.collapsed(number) else {
             return Err(ExploreFault::Unvouched);
         };
-        let receives = is_receiving(alloc, process)?;
-        receiving.push(receives)?;
+        receiving.push(is_receiving(alloc, process)?)?;
     }
     Ok(receiving)
 }

@@ -51,12 +51,8 @@ impl Visited {
         match found {
             Found::Calm => Ok(None),
             Found::Behind(before) => Ok(Some(Turn { row, pid, before })),
-            Found::More => {
-                if self.complete {
-                    return Err(ExploreFault::Unvouched);
-                }
-                Ok(None)
-            }
+            Found::More if self.complete => Err(ExploreFault::Unvouched),
+            Found::More => Ok(None),
         }
     }
 

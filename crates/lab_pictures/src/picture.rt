@@ -71,14 +71,7 @@ pub fn draw(alloc: Global, fresh: Fresh, limits: Limits) -> Result<Option<Pictur
     };
     let mut nobody = Nobody;
     let visited = visit(alloc, &processes, &kernel, limits, &mut nobody, false)?;
-    match picture_of(&visited, alloc, &processes) {
-        Ok(picture) => {
-            discard(visited);
-            Ok(picture)
-        }
-        Err(fault) => {
-            discard(visited);
-            Err(fault)
-        }
-    }
+    let picture = picture_of(&visited, alloc, &processes);
+    discard(visited);
+    Ok(picture?)
 }

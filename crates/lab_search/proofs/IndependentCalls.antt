@@ -19,7 +19,6 @@ use Rattle.lab_search.proofs.Growths.{state_kept}
 use Rattle.lab_worlds.proofs.Pushes.{all_at}
 use Rattle.lab_search.proofs.StepsOfRows.{process_at}
 use Rattle.lab_worlds.proofs.OwnCalls.{standing_independent}
-use Rattle.lab_sched.specs.declared.process.Process.TheVariants as kept
 use Rattle.lab_worlds.specs.Closed.{HasAdvance}
 use Rattle.lab_search.specs.Reduced.{AreExpandedIn, IsSearchedIn}
 

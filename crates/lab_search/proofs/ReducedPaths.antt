@@ -1,6 +1,6 @@
 -- Where rows are tried by one independent step alone, a row has the world at rest to which any steps lead.
-use Rattle.std.proofs.Common.{ℕ, zero, suc, ◌+◌, ◌<◌, ◌≤◌, ◌≡◌, arith, Bool, true, false, List, [], ◌∷◌, ◌++◌, Some, refl, sym, ap, subst, ◌∙◌, length, slice_get, inl, inr, ◌⊎◌}
-use Rattle.std.proofs.lemmas.Bool.{cases_lt}
+use Rattle.std.proofs.Common.{ℕ, zero, suc, ◌+◌, ◌<◌, ◌≤◌, ◌≡◌, arith, true, List, [], ◌∷◌, ◌++◌, Some, refl, sym, ap, subst, ◌∙◌, length, slice_get, inl, inr, ◌⊎◌}
+use Rattle.std.proofs.lemmas.Bool.{cases_lt, false_from_ne_true}
 use Rattle.std.proofs.lemmas.List.{append_assoc}
 use Rattle.ipc_kernel.specs.Kernel.{KernelState}
 use Rattle.ipc_kernel.specs.declared.call.Call.{Call}
@@ -88,10 +88,6 @@ unfolding run
 run_push [] q w = refl
 run_push (x ∷ xs) q w = run_push xs q (step w x)
 
-pub not_true : (b : Bool) → (b ≡ true → ⊥) → b ≡ false
-not_true true h = absurd (h refl)
-not_true false h = refl
-
 -- what holds of a value where it holds of all that are less by a first number, or as much and less by a second
 pub by_less : {A : Type 0} (f g : A → ℕ) (P : A → Type 0) → ((a : A) → ((b : A) → (f b < f a) ⊎ ((f b ≡ f a) × (g b < g a)) → P b) → P a) → (a : A) → P a
 by_less {A} f g P each a = outer (suc (f a)) a (omega arith)
@@ -119,7 +115,7 @@ pub record Path : Type 0 where
 -- each object has a name still, after an independent step
 pub named_alone : StayNamed → (t : Store) (w : WorldState) (s : Place) → are_named w.kernel.places ≡ true → (a : TakesAlone t w s) → are_named (step w a.process).kernel.places ≡ true
 named_alone stay t w s named a =
-    named_after stay w a.process named (λ y at. not_true (unlinks y) (λ yes. independent_keeps w.kernel a.process y (subst (λ o. IsIndependent w.kernel (step_effect w.kernel a.process o)) at a.independent) yes))
+    named_after stay w a.process named (λ y at. false_from_ne_true (unlinks y) (λ yes. independent_keeps w.kernel a.process y (subst (λ o. IsIndependent w.kernel (step_effect w.kernel a.process o)) at a.independent) yes))
 
 module _ (law : OwnCallsCommute) (stay : StayNamed) (alike : OwnAlike) (t : Store) (start : WorldState) (searched : IsSearchedByReduction start t) where
   -- the steps don't lead to a process that is about to take a name away
@@ -180,7 +176,7 @@ module _ (law : OwnCallsCommute) (stay : StayNamed) (alike : OwnAlike) (t : Stor
   unfolding run
   all_keep done [] w s stands named onward keep = tt
   all_keep done (q ∷ rest) w s stands named onward keep =
-      let here : KeepsNames (run w done) q = λ x at. not_true (unlinks x) (never (record { world = w; place = s; steps = done }) q x stands named (onward_front done (q ∷ rest) w onward) keep at) in
+      let here : KeepsNames (run w done) q = λ x at. false_from_ne_true (unlinks x) (never (record { world = w; place = s; steps = done }) q x stands named (onward_front done (q ∷ rest) w onward) keep at) in
       let longer = names_push done q w keep here in
       let onward-is = subst (λ ps. AreOnward w ps) (sym (append_assoc done (q ∷ []) rest)) onward in
       (here, subst (λ v. AllKeepNames v rest) (run_push done q w) (all_keep (done ++ q ∷ []) rest w s stands named onward-is longer))

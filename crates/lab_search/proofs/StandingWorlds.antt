@@ -20,6 +20,7 @@ use Rattle.lab_worlds.specs.Calls.{IsAtCall, IsAhead, Both, Alongside}
 use Rattle.lab_worlds.specs.Closed.{HasAdvance}
 use Rattle.lab_search.specs.Stored.{IsAt, HasEdge, IsSearched}
 use Rattle.lab_worlds.specs.Stepped.{IsReached, AreReached}
+use Rattle.lab_worlds.proofs.UnwaitingWorlds.{effect_at}
 use Rattle.lab_worlds.proofs.AfterLocalSteps.{none_local}
 use Rattle.lab_search.proofs.FirstWorlds.{at_unique}
 use Rattle.ipc_kernel.specs.Alike.{IsAlike, IsConsistent}
@@ -60,9 +61,6 @@ pub running_waits : (w : WorldState) (p : ℕ) → IsEffective (step_effect_in w
 unfolding process_after_answer
 running_waits w p h g = by (slice_get w.processes p) refl
   where
-    effect_at : (o : Option Process) → slice_get w.processes p ≡ o → step_effect_in w p ≡ step_effect w.kernel p o
-    effect_at o a = ap (λ x. step_effect w.kernel p x) a
-
     expanded_in : (m : Machine) (c : Call) (a : Answer) → slice_get w.processes p ≡ Some (Running m) → step_effect_in w p ≡ kernel_step m c a → running (step w p) + 1 ≡ running w
     expanded_in m c Wait at e =
         let sums = count_set is_running w.processes p (Running m) (Waiting m c) at in
@@ -74,14 +72,14 @@ running_waits w p h g = by (slice_get w.processes p) refl
     again m c (Done r) e = absurd (g (subst GoesOn (sym e) tt))
 
     runs : (m : Machine) (a : NextAction) → next_action m ≡ a → slice_get w.processes p ≡ Some (Running m) → running (step w p) + 1 ≡ running w
-    runs m (moves q) e at = absurd (g (subst GoesOn (sym (effect_at (Some (Running m)) at ∙ ap (first_try w.kernel p m) e)) tt))
-    runs m (calls c) e at = expanded_in m c (answer w.kernel p c).0 at (effect_at (Some (Running m)) at ∙ ap (first_try w.kernel p m) e)
+    runs m (moves q) e at = absurd (g (subst GoesOn (sym (effect_at w p (Some (Running m)) at ∙ ap (first_try w.kernel p m) e)) tt))
+    runs m (calls c) e at = expanded_in m c (answer w.kernel p c).0 at (effect_at w p (Some (Running m)) at ∙ ap (first_try w.kernel p m) e)
 
     by : (o : Option Process) → slice_get w.processes p ≡ o → running (step w p) + 1 ≡ running w
-    by None a = absurd (subst IsEffective (effect_at None a) h)
+    by None a = absurd (subst IsEffective (effect_at w p None a) h)
     by (Some (Running m)) a = runs m (next_action m) refl a
-    by (Some (Waiting m c)) a = again m c (answer w.kernel p c).0 (effect_at (Some (Waiting m c)) a)
-    by (Some (Ended e)) a = absurd (subst IsEffective (effect_at (Some (Ended e)) a) h)
+    by (Some (Waiting m c)) a = again m c (answer w.kernel p c).0 (effect_at w p (Some (Waiting m c)) a)
+    by (Some (Ended e)) a = absurd (subst IsEffective (effect_at w p (Some (Ended e)) a) h)
 
 -- a process takes so many local steps to the state in which it is at a call
 abbrev pub TakesAt : Option ℕ → Option Process → Option Process → Type 0

@@ -82,10 +82,7 @@ impl Moves {
     }
 
     fn newest(&self, mover: Mover) -> u32 {
-        match self.newest.get(mover.newest_at()) {
-            Some(number) => *number,
-            None => 0,
-        }
+        self.newest.get(mover.newest_at()).copied().unwrap_or(0)
     }
 
     pub(crate) fn find(&self, mover: Mover) -> Option<Next>

@@ -39,8 +39,13 @@ impl Store {
             → IsNextAt self.now at pid Limit) }
     {
         let (kernel, state) = self.places(at, pid)?;
-        let goes = self.known_to_go_on(Mover { kernel, pid, state })?;
-        Some(goes)
+        self.known_to_go_on(Mover { kernel, pid, state })
+    }
+
+    /// Whether each move from the world of a row was made, and is none.
+    pub fn is_still(&self, at: usize) -> bool {
+        self.width(at).is_some_and(|count| (0..count).all(|pid| self.goes_on(at, pid)
+            == Some(false)))
     }
 
     /// How many local steps process `pid` takes after its step from the world of a row, as far as that
@@ -129,15 +134,15 @@ impl Store {
         Ok(kept)
     }
 
-    /// Keeps the world to which the step of process `pid` from the world of a row leads, and the edge to
-    /// it, by what the process does next; with whether that could be done.
-    fn go_to(&mut self, at: usize, pid: u32, next: Next, most: u32) -> Result<bool, ExploreFault>
+    /// Tries process `pid` from the world of a row, and keeps the world where it comes; with
+    /// whether that could be done.
+    fn try_process(&mut self, at: usize, pid: u32, limits: Limits) -> Result<bool, ExploreFault>
         requires store { IsStore self.old }
-        requires next { IsNextAt self.old at pid next }
         ensures later { OnOk result (IsLater self.old self.new) }
         ensures expanded_in { IfOk result (λ whole. IsTrue whole → (w : WorldState)
             → IsAt self.old at w → HasEdgeIfEnabled self.new at w pid) }
     {
+        let next = self.next(at, pid, limits.steps)?;
         match next {
             Next::Nothing => Ok(true),
             Next::Limit => Ok(false),
@@ -148,23 +153,10 @@ impl Store {
                     kernel,
                     state,
                 };
-                let kept = self.keep_next(change, most)?;
+                let kept = self.keep_next(change, limits.worlds)?;
                 Ok(kept)
             }
         }
-    }
-
-    /// Tries process `pid` from the world of a row, and keeps the world where it comes; with
-    /// whether that could be done.
-    fn try_process(&mut self, at: usize, pid: u32, limits: Limits) -> Result<bool, ExploreFault>
-        requires store { IsStore self.old }
-        ensures later { OnOk result (IsLater self.old self.new) }
-        ensures expanded_in { IfOk result (λ whole. IsTrue whole → (w : WorldState)
-            → IsAt self.old at w → HasEdgeIfEnabled self.new at w pid) }
-    {
-        let next = self.next(at, pid, limits.steps)?;
-        let expanded_in = self.go_to(at, pid, next, limits.worlds)?;
-        Ok(expanded_in)
     }
 
     /// Tries each process from the world of a row; with whether that could be done.

@@ -100,23 +100,8 @@ impl Store {
         Ok(kept)
     }
 
-    /// Tries a process alone from the world of a row of which the step depends on no other's, where it
-    /// leads to a later row, and else each process; with whether that could be done.
-    fn expand_ample(&mut self, at: usize, limits: Limits) -> Result<bool, ExploreFault>
-        requires store { IsStore self.old }
-        ensures later { OnOk result (IsLater self.old self.new) }
-        ensures expanded_in { IfOk result (λ whole. IsTrue whole → IsExpandedIn true self.new at) }
-    {
-        let alone = self.try_independent(at, limits)?;
-        if alone {
-            return Ok(true);
-        }
-        let expanded = self.expand(at, limits)?;
-        Ok(expanded)
-    }
-
-    /// Tries what is to be tried from the world of a row, in a search that is reduced or isn't; with
-    /// whether that could be done.
+    /// Tries each process from the world of a row, or in a search that is reduced one alone of which the
+    /// step depends on no other's, where it leads to a later row; with whether that could be done.
     pub(crate) fn expand_in(
         &mut self,
         at: usize,
@@ -128,9 +113,12 @@ impl Store {
         ensures expanded_in { IfOk result (λ whole. IsTrue whole
             → IsExpandedIn reduced self.new at) }
     {
-        if reduced {
-            let expanded_in = self.expand_ample(at, limits)?;
-            return Ok(expanded_in);
+        if !reduced {
+            return self.expand(at, limits);
+        }
+        let alone = self.try_independent(at, limits)?;
+        if alone {
+            return Ok(true);
         }
         let expanded = self.expand(at, limits)?;
         Ok(expanded)

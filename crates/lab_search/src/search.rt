@@ -79,8 +79,7 @@ impl Store {
     {
         let process = process.copy(self.alloc)?;
         let ahead = advance(self.alloc, process, most)?;
-        let successor = self.keep_ahead(ahead)?;
-        Ok(successor)
+        self.keep_ahead(ahead)
     }
 
     /// Keeps the states that processes come to by all their local steps, if they may take so many.
@@ -210,18 +209,14 @@ impl Search {
         ensures names { OnOk result (IsTrue self.new.complete → IsTrue self.old.reduced
             → StatesKeepNames self.new.store) }
     {
-        match self.store.expand_all(limits, observer, self.reduced) {
-            Ok(true) => {
-                self.store.close();
-                self.complete = true;
-                Ok(())
-            }
-            Ok(false) => {
-                self.store.close();
+        let expanded = self.store.expand_all(limits, observer, self.reduced);
+        self.store.close();
+        match expanded {
+            Ok(whole) => {
+                self.complete = whole;
                 Ok(())
             }
             Err(ExploreFault::NoMemory) => {
-                self.store.close();
                 self.refused = true;
                 Ok(())
             }
@@ -303,6 +298,5 @@ pub fn search_all<O: Observer>(
         return Ok(search);
     }
     discard(search);
-    let whole = search_in(alloc, processes, kernel, limits, observer, false)?;
-    Ok(whole)
+    search_in(alloc, processes, kernel, limits, observer, false)
 }

@@ -131,10 +131,7 @@ impl CollapsedStates {
         ensures stands { IfSome result (λ call. (s : One) × (slice_get self.now number ≡ Some s)
             × StandsAt (process_view s.process) call.now) }
     {
-        match self.calls.get(number as usize) {
-            Some(Some(call)) => Some(call),
-            _ => None,
-        }
+        self.calls.get(number as usize)?.as_ref()
     }
 
     /// Whether the process has ended in the state with a number.
@@ -142,10 +139,9 @@ impl CollapsedStates {
         ensures ended { IsTrue result → (s : One) → slice_get self.now number ≡ Some s
             → HasEnded (process_view s.process) }
     {
-        match self.states.get(number as usize) {
-            Some(state) => matches!(state.process, Process::Ended(_)),
-            None => false,
-        }
+        self.states
+            .get(number as usize)
+            .is_some_and(|state| matches!(state.process, Process::Ended(_)))
     }
 
     /// Whether one of the processes is about to take a name away.
@@ -202,12 +198,10 @@ impl CollapsedStates {
         let digest = collapsed.digest();
         if let Some(at) = self.find(&collapsed, digest) {
             discard(collapsed);
-            let number = place_of(at)?;
-            return Ok(number);
+            return place_of(at);
         }
         let call = call_of(alloc, &collapsed.process)?;
-        let number = self.add(collapsed, call, digest)?;
-        Ok(number)
+        self.add(collapsed, call, digest)
     }
 
     /// About how many bytes they take.

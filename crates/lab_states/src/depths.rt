@@ -8,15 +8,12 @@ use crate::edges::{Edge, Edges};
 pub fn depth_of(depths: &[u32], at: usize) -> u32
     ensures depth { result ≡ depth_of depths.now at }
 {
-    match depths.get(at) {
-        Some(depth) => *depth,
-        None => 0,
-    }
+    depths.get(at).copied().unwrap_or(0)
 }
 
 /// Whether an edge leads to a row that is at most one deeper.
-fn is_near(depths: &[u32], edge: &Edge) -> bool
-    ensures yes { IsTrue result → IsNear depths.now edge.now }
+fn is_near(depths: &[u32], edge: Edge) -> bool
+    ensures yes { IsTrue result → IsNear depths.now edge }
 {
     let from = depth_of(depths, edge.from as usize);
     let to = depth_of(depths, edge.to as usize);
@@ -27,15 +24,5 @@ fn is_near(depths: &[u32], edge: &Edge) -> bool
 pub fn are_near(depths: &[u32], edges: &Edges) -> bool
     ensures yes { IsTrue result → All (IsNear depths.now) edges.now }
 {
-    let mut row = 0;
-    for at in 0..edges.len() {
-        let Some(edge) = edges.get_after(at, row) else {
-            return false;
-        };
-        if !is_near(depths, &edge) {
-            return false;
-        }
-        row = edge.from as usize;
-    }
-    true
+    edges.all(|edge| is_near(depths, edge))
 }

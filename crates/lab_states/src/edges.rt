@@ -1,5 +1,5 @@
 //! The edges between the worlds that a search keeps.
-ghost use Rattle.std.specs.Prelude.{◌≡◌, false, Some, IsTrue, IfOk, IfSome, slice_get, ◌≤◌, ℕ, [], ◌∷◌, ◌++◌, OnErr, length};
+ghost use Rattle.std.specs.Prelude.{◌≡◌, All, false, true, Some, IsTrue, IfOk, IfSome, slice_get, ◌≤◌, ℕ, [], ◌∷◌, ◌++◌, OnErr, length};
 ghost use Rattle.lab_states.specs.declared.edges.Edge.{Edge};
 ghost use Rattle.lab_states.specs.Edges.{from_of};
 ghost use Rattle.lab_states.specs.Private.Edges.{AreBetween, ArePast};
@@ -106,6 +106,24 @@ impl Edges {
         })
     }
 
+    /// Whether each of them passes.
+    pub fn all<F: Fn(Edge) -> bool>(&self, passes: F) -> bool
+        requires { F.IsAlwaysCallable passes }
+        ensures yes { IsTrue result → All (λ e. F.post passes e true) self.now }
+    {
+        let mut row = 0;
+        for at in 0..self.len() {
+            let Some(edge) = self.get_after(at, row) else {
+                return false;
+            };
+            if !passes(edge) {
+                return false;
+            }
+            row = edge.from as usize;
+        }
+        true
+    }
+
     /// The edge at a place.
     pub fn get(&self, at: usize) -> Option<Edge>
         ensures edge { IfSome result (λ e. slice_get self.now at ≡ Some e) }
@@ -148,18 +166,14 @@ impl Edges {
 
     /// The place of the first edge from a row.
     pub(crate) fn first_of(&self, row: usize) -> usize {
-        match row.checked_sub(1) {
-            Some(before) => self.end_of(before),
-            None => 0,
-        }
+        row.checked_sub(1).map_or(0, |before| self.end_of(before))
     }
 
     /// The place behind the edges from a row.
     pub(crate) fn end_of(&self, row: usize) -> usize {
-        match self.ends.get(row) {
-            Some(end) => *end as usize,
-            None => self.tos.len(),
-        }
+        self.ends
+            .get(row)
+            .map_or(self.tos.len(), |end| *end as usize)
     }
 
     /// Whether an edge leads from a row.
@@ -167,10 +181,8 @@ impl Edges {
         ensures yes { IsTrue result → (i : ℕ) × (e : Edge)
             × (slice_get self.now i ≡ Some e) × (e.from ≡ row) }
     {
-        match self.get_after(self.first_of(row), row) {
-            Some(edge) => edge.from as usize == row,
-            None => false,
-        }
+        self.get_after(self.first_of(row), row)
+            .is_some_and(|edge| edge.from as usize == row)
     }
 
     /// The places of the edges from a row.
@@ -180,11 +192,7 @@ impl Edges {
 
     /// The rows to which the edges from a row lead.
     pub(crate) fn tos_from(&self, row: usize) -> &[u32] {
-        let places = self.places_from(row);
-        match self.tos().get(places) {
-            Some(tos) => tos,
-            None => &[],
-        }
+        self.tos().get(self.places_from(row)).unwrap_or(&[])
     }
 
     /// About how many bytes they take.

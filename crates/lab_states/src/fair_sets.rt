@@ -27,10 +27,7 @@ pub fn only(pid: u32) -> u64 {
 
 /// The processes at a place, or none.
 fn some_at(numbers: &[Processes], at: usize) -> Processes {
-    match numbers.get(at) {
-        Some(processes) => *processes,
-        None => 0,
-    }
+    numbers.get(at).copied().unwrap_or(0)
 }
 
 /// Adds processes at a place, if there is such a place.

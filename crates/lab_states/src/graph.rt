@@ -1,6 +1,6 @@
 //! Topological order and cycles: the order of worlds along the edges between them, and cycles. That an order is one is checked; a
 //! cycle is run again (`lassos`).
-ghost use Rattle.std.specs.Prelude.{All, IsTrue};
+ghost use Rattle.std.specs.Prelude.{IsTrue};
 ghost use Rattle.lab_states.specs.Rising.{IsRising, Rises, AreRising};
 ghost use Rattle.lab_states.specs.Private.Rising.{IsOnward};
 
@@ -18,10 +18,7 @@ pub struct Cycle {
 
 /// The number at a place, or 0.
 pub fn number_at(numbers: &[u32], at: usize) -> u32 {
-    match numbers.get(at) {
-        Some(number) => *number,
-        None => 0,
-    }
+    numbers.get(at).copied().unwrap_or(0)
 }
 
 /// Puts a number in its place, if there is such a place.
@@ -100,13 +97,10 @@ pub fn order_of(alloc: Global, edges: &Edges, count: usize) -> Result<Vec<u32>, 
 }
 
 /// Whether an edge leads to a row with a greater number, which isn't above the count of rows.
-fn is_rising(edge: &Edge, order: &[u32]) -> bool
-    ensures yes { IsTrue result → IsRising order.now edge.now }
+fn is_rising(edge: Edge, order: &[u32]) -> bool
+    ensures yes { IsTrue result → IsRising order.now edge }
 {
-    let Some(from) = order.get(edge.from as usize) else {
-        return false;
-    };
-    let Some(to) = order.get(edge.to as usize) else {
+    let (Some(from), Some(to)) = (order.get(edge.from as usize), order.get(edge.to as usize)) else {
         return false;
     };
     *from < *to && *to as usize <= order.len()
@@ -116,48 +110,21 @@ fn is_rising(edge: &Edge, order: &[u32]) -> bool
 pub fn is_order(order: &[u32], edges: &Edges) -> bool
     ensures yes { IsTrue result → Rises order.now edges.now }
 {
-    let mut row = 0;
-    for at in 0..edges.len() {
-        let Some(edge) = edges.get_after(at, row) else {
-            return false;
-        };
-        if !is_rising(&edge, order) {
-            return false;
-        }
-        row = edge.from as usize;
-    }
-    true
+    edges.all(|edge| is_rising(edge, order))
 }
 
 /// Whether an edge leads from a row to one after it, of so many.
-fn is_onward(edge: &Edge, count: usize) -> bool
-    ensures yes { IsTrue result → IsOnward count edge.now }
+fn is_onward(edge: Edge, count: usize) -> bool
+    ensures yes { IsTrue result → IsOnward count edge }
 {
     edge.from < edge.to && (edge.to as usize) < count
-}
-
-/// Whether each edge does.
-fn are_onward(edges: &Edges, count: usize) -> bool
-    ensures yes { IsTrue result → All (IsOnward count) edges.now }
-{
-    let mut row = 0;
-    for at in 0..edges.len() {
-        let Some(edge) = edges.get_after(at, row) else {
-            return false;
-        };
-        if !is_onward(&edge, count) {
-            return false;
-        }
-        row = edge.from as usize;
-    }
-    true
 }
 
 /// Whether the rows, of which there are so many, are in order by their own numbers.
 pub fn is_order_by_number(edges: &Edges, count: usize) -> bool
     ensures yes { IsTrue result → AreRising edges.now }
 {
-    are_onward(edges, count)
+    edges.all(|edge| is_onward(edge, count))
 }
 
 /// Puts down a row, plus 1, as the one before each to which it leads and that has none.
@@ -211,32 +178,8 @@ fn least_on_cycle(before: &[u32], row: usize) -> usize {
     least
 }
 
-/// Follows the edges from a row: those to rows that weren't reached are written down, with the
-/// place of the edge plus 1; with the place of an edge to the goal, if there is one.
-fn follow(
-    edges: &Edges,
-    row: usize,
-    goal: usize,
-    reached: &mut Vec<u32>,
-    rows: &mut Vec<u32>,
-) -> Result<Option<usize>, AllocError> {
-    for at in edges.places_from(row) {
-        if let Some(edge) = edges.get_after(at, row) {
-            let to = edge.to as usize;
-            if to == goal {
-                return Ok(Some(at));
-            }
-            if number_at(reached, to) == 0 {
-                put(reached, to, place_of(at)?.saturating_add(1));
-                rows.push(edge.to)?;
-            }
-        }
-    }
-    Ok(None)
-}
-
 /// The edges from a row up to this edge, the last of which comes first.
-pub fn path_of(
+fn path_of(
     alloc: Global,
     edges: &Edges,
     reached: &[u32],
@@ -259,20 +202,49 @@ pub fn path_of(
     Ok(path)
 }
 
-/// Follows the edges from rows, one row after the other, of at most so many; with the place of an edge to
-/// the goal, if there is one.
-fn follow_all(
+/// Follows the edges from a row that a way may take: those to rows that weren't reached are written down,
+/// with the place of the edge plus 1; with the place of one that ends the way, if there is one.
+fn follow<F: Fn(Edge) -> Option<bool>>(
     edges: &Edges,
-    count: usize,
-    goal: usize,
+    row: usize,
+    ends: &F,
     reached: &mut Vec<u32>,
     rows: &mut Vec<u32>,
-) -> Result<Option<usize>, AllocError> {
+) -> Result<Option<usize>, AllocError>
+    requires { F.IsAlwaysCallable ends.now }
+{
+    for at in edges.places_from(row) {
+        if let Some(edge) = edges.get_after(at, row) {
+            let to = edge.to as usize;
+            match ends(edge) {
+                Some(true) => return Ok(Some(at)),
+                Some(false) if number_at(reached, to) == 0 => {
+                    put(reached, to, place_of(at)?.saturating_add(1));
+                    rows.push(edge.to)?;
+                }
+                _ => {}
+            }
+        }
+    }
+    Ok(None)
+}
+
+/// Follows the edges that a way may take from rows, one row after the other, of at most so many; with the
+/// place of one that ends the way, if there is one.
+fn follow_all<F: Fn(Edge) -> Option<bool>>(
+    edges: &Edges,
+    count: usize,
+    ends: &F,
+    reached: &mut Vec<u32>,
+    rows: &mut Vec<u32>,
+) -> Result<Option<usize>, AllocError>
+    requires { F.IsAlwaysCallable ends.now }
+{
     for place in 0..count {
         let Some(row) = rows.get(place).copied() else {
             return Ok(None);
         };
-        let last = follow(edges, row as usize, goal, reached, rows)?;
+        let last = follow(edges, row as usize, ends, reached, rows)?;
         if last.is_some() {
             return Ok(last);
         }
@@ -280,20 +252,24 @@ fn follow_all(
     Ok(None)
 }
 
-/// The shortest cycle through a row, if there is one.
-fn cycle_through(
+/// The edges of a shortest way from a row, of so many, the last of which comes first. Which edges it takes
+/// is told of each: none for one that it doesn't follow, and else whether it ends with it.
+pub fn shortest_path<F: Fn(Edge) -> Option<bool>>(
     alloc: Global,
     edges: &Edges,
     count: usize,
-    goal: usize,
-) -> Result<Option<Cycle>, AllocError> {
+    start: usize,
+    ends: F,
+) -> Result<Option<Vec<Edge>>, AllocError>
+    requires { F.IsAlwaysCallable ends }
+{
     let mut reached = vec![in alloc; 0; count]?;
-    let mut rows = vec![in alloc; place_of(goal)?]?;
-    let Some(last) = follow_all(edges, count, goal, &mut reached, &mut rows)? else {
+    let mut rows = vec![in alloc; place_of(start)?]?;
+    let Some(last) = follow_all(edges, count, &ends, &mut reached, &mut rows)? else {
         return Ok(None);
     };
-    let edges = path_of(alloc, edges, reached.as_slice(), goal, last)?;
-    Ok(Some(Cycle { at: goal, edges }))
+    let path = path_of(alloc, edges, reached.as_slice(), start, last)?;
+    Ok(Some(path))
 }
 
 /// The least row of a cycle among the rows to which the order gives no number.
@@ -310,6 +286,7 @@ pub fn cycle_of(
     order: Vec<u32>,
 ) -> Result<Option<Cycle>, AllocError> {
     let count = order.len();
-    let least = least_of_cycle(alloc, edges, order)?;
-    cycle_through(alloc, edges, count, least)
+    let at = least_of_cycle(alloc, edges, order)?;
+    let path = shortest_path(alloc, edges, count, at, |edge| Some(edge.to as usize == at))?;
+    Ok(path.map(|edges| Cycle { at, edges }))
 }

@@ -18,7 +18,9 @@ pub use collapsed_states::CollapsedState;
 pub use depths::{are_near, depth_of};
 pub use edges::{Edge, Edges};
 pub use fair_sets::{Sets, going_from, only};
-pub use graph::{Cycle, cycle_of, is_order, is_order_by_number, number_at, order_of, path_of, put};
+pub use graph::{
+    Cycle, cycle_of, is_order, is_order_by_number, number_at, order_of, put, shortest_path,
+};
 pub use parents::{Parent, Parents};
 pub use places::place_of;
 pub use ranks::{are_falling, rank_at, starved_at};

@@ -7,8 +7,5 @@ use std::alloc::AllocError;
 pub fn place_of(at: usize) -> Result<u32, AllocError>
     ensures value { IfOk result (λ place. place ≡ at) }
 {
-    match u32::try_from(at) {
-        Ok(place) => Ok(place),
-        Err(_) => Err(AllocError),
-    }
+    u32::try_from(at).map_err(|_| AllocError)
 }

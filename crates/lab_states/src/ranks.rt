@@ -8,26 +8,23 @@ use crate::edges::{Edge, Edges};
 pub fn rank_at(ranks: &[u32], at: usize) -> u32
     ensures rank { result ≡ rank_of ranks.now at }
 {
-    match ranks.get(at) {
-        Some(rank) => *rank,
-        None => 0,
-    }
+    ranks.get(at).copied().unwrap_or(0)
 }
 
 /// The process of a rank, if it has one.
 pub fn starved_at(starved_processes: &[Option<u8>], rank: u32) -> Option<u8>
     ensures starved { result ≡ starved_of starved_processes.now rank }
 {
-    match starved_processes.get(rank as usize) {
-        Some(starved) => *starved,
-        None => None,
-    }
+    starved_processes
+        .get(rank as usize)
+        .copied()
+        .unwrap_or(None)
 }
 
 /// Whether an edge leads to a lesser rank, or from one that has a process to the same by a step of
 /// another.
-fn is_falling(ranks: &[u32], starved_processes: &[Option<u8>], edge: &Edge) -> bool
-    ensures yes { IsTrue result → IsFalling ranks.now starved_processes.now edge.now }
+fn is_falling(ranks: &[u32], starved_processes: &[Option<u8>], edge: Edge) -> bool
+    ensures yes { IsTrue result → IsFalling ranks.now starved_processes.now edge }
 {
     let from = rank_at(ranks, edge.from as usize);
     let to = rank_at(ranks, edge.to as usize);
@@ -44,15 +41,5 @@ fn is_falling(ranks: &[u32], starved_processes: &[Option<u8>], edge: &Edge) -> b
 pub fn are_falling(ranks: &[u32], starved_processes: &[Option<u8>], edges: &Edges) -> bool
     ensures yes { IsTrue result → All (IsFalling ranks.now starved_processes.now) edges.now }
 {
-    let mut row = 0;
-    for at in 0..edges.len() {
-        let Some(edge) = edges.get_after(at, row) else {
-            return false;
-        };
-        if !is_falling(ranks, starved_processes, &edge) {
-            return false;
-        }
-        row = edge.from as usize;
-    }
-    true
+    edges.all(|edge| is_falling(ranks, starved_processes, edge))
 }

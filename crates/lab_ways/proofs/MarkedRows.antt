@@ -1,17 +1,17 @@
 -- Where pairs of rows and states are marked so, what is asked is so on every way.
-use Rattle.std.proofs.Common.{ℕ, ◌≡◌, ◌<◌, ◌⊎◌, inl, inr, Bool, IsTrue, List, [], ◌∷◌, Option, Some, None, refl, sym, ap, subst, ◌∙◌, slice_get}
+use Rattle.std.proofs.Common.{ℕ, ◌≡◌, ◌<◌, inl, inr, Bool, IsTrue, List, [], ◌∷◌, Option, Some, None, refl, sym, ap, subst, ◌∙◌, slice_get}
 use Rattle.lc3_machine.specs.Process.{Process as Machine}
 use Rattle.ipc_kernel.specs.Alike.{IsConsistent}
-use Rattle.lab_sched.specs.Worlds.{Process, Running, Waiting, Ended, WorldState, NextAction, moves, calls, next_action, local_step, step_effect, step_effect_in, after, step, run}
+use Rattle.lab_sched.specs.Worlds.{Process, Running, Waiting, Ended, WorldState, NextAction, moves, calls, next_action, step_effect_in, step, run}
 use Rattle.lab_sched.proofs.ListPlaces.{get_past}
 use Rattle.lab_sched.proofs.Executions.{effect_local}
 use Rattle.lab_worlds.specs.Calls.{IsAhead, Both, Alongside, IsAdvance}
 use Rattle.lab_worlds.specs.Unwaiting.{GoesOn, unwaiting, AskAgain}
 use Rattle.lab_worlds.specs.Closed.{HasAdvance}
-use Rattle.lab_worlds.proofs.AlikeWorlds.{effect_alike, consistent_after, consistent_run}
+use Rattle.lab_worlds.proofs.AlikeWorlds.{consistent_after, consistent_run}
 use Rattle.lab_worlds.proofs.AfterLocalSteps.{stays, same_some}
-use Rattle.lab_worlds.proofs.HeldAdvances.{both_step, local_keeps, asks_run}
-use Rattle.lab_worlds.proofs.UnwaitingWorlds.{tells, same_step, none_goes, still_unwaiting, goes_unwaiting, asks_on}
+use Rattle.lab_worlds.proofs.HeldAdvances.{same_in_advance, stays_or_steps, asks_run}
+use Rattle.lab_worlds.proofs.UnwaitingWorlds.{effect_at, tells, same_step, none_goes, still_unwaiting, goes_unwaiting, asks_on}
 use Rattle.lab_worlds.proofs.Pushes.{both_weaker}
 use Rattle.lab_states.specs.declared.edges.Edge.{Edge}
 use Rattle.lab_search.specs.declared.store.Store.{Store}
@@ -26,45 +26,12 @@ use Rattle.lab_ways.specs.Ways.{state_from, state_after, IsEveryWay, AreWays, Ar
 use Rattle.lab_ways.specs.Private.Marked.{IsMarked, KeepsMarks, KeepsMarksAt, AreShown, IsFound}
 use Rattle.lab_ways.proofs.NextStates.{next_alike, no_step}
 
-effect_at : (w : WorldState) (p : ℕ) (o : Option Process) → slice_get w.processes p ≡ o → step_effect_in w p ≡ step_effect w.kernel p o
-effect_at w p o a = ap (λ x. step_effect w.kernel p x) a
-
--- a process that stands in both worlds takes the same step
-same_in : (w v : WorldState) (p : ℕ) (s : Process) → IsConsistent w.kernel → IsAdvance w v → slice_get w.processes p ≡ Some s → slice_get v.processes p ≡ Some s → step_effect_in v p ≡ step_effect_in w p
-same_in w v p s consistent h a b = effect_alike w.kernel v.kernel p (slice_get v.processes p) consistent h.kernel ∙ ap (λ o. step_effect w.kernel p o) (b ∙ sym a)
-
--- a step is local and keeps the advance, or is taken in the advance, too
-abbrev StaysOrSteps : WorldState → WorldState → ℕ → Type 0
-StaysOrSteps w v p = ((q : Machine) × (step_effect_in w p ≡ local_step q) × IsAdvance (step w p) v) ⊎ ((step_effect_in v p ≡ step_effect_in w p) × ((u : WorldState) → IsAdvance (step v p) u → IsAdvance (step w p) u))
-
-stays_or_steps : (w v : WorldState) (p : ℕ) → IsConsistent w.kernel → IsAdvance w v → GoesOn (step_effect_in w p) → StaysOrSteps w v p
-stays_or_steps w v p consistent h goes = by (slice_get w.processes p) (slice_get v.processes p) refl refl (h.processes p)
-  where
-    at_call : (s : Process) → slice_get w.processes p ≡ Some s → slice_get v.processes p ≡ Some s → StaysOrSteps w v p
-    at_call s a b =
-        let same = same_in w v p s consistent h a b in
-        inr (same, λ u next. both_step w v u p s (step_effect_in w p) a b consistent h (subst (λ t. IsAdvance (after v p t) u) same next))
-
-    running : (m : Machine) (u : Process) (a : NextAction) → next_action m ≡ a → slice_get w.processes p ≡ Some (Running m) → slice_get v.processes p ≡ Some u → IsAhead (Running m) u → StaysOrSteps w v p
-    running m u (moves q) e a b i =
-        let is : step_effect_in w p ≡ local_step q = effect_local w p m q a e in
-        let here : step w p ≡ after w p (local_step q) = ap (λ t. after w p t) is in
-        inl (q, is, subst (λ x. IsAdvance x v) (sym here) (local_keeps w v p m q u a b e h i))
-    running m u (calls c) e a b i = at_call (Running m) a (b ∙ ap (λ x. Some x) (stays (Running m) u (c, e) i))
-
-    by : (a b : Option Process) → slice_get w.processes p ≡ a → slice_get v.processes p ≡ b → Both IsAhead a b → StaysOrSteps w v p
-    by None b a c i = absurd (subst GoesOn (effect_at w p None a) goes)
-    by (Some s) None a b i = absurd i
-    by (Some (Running m)) (Some u) a b i = running m u (next_action m) refl a b i
-    by (Some (Waiting m c)) (Some u) a b i = at_call (Waiting m c) a (b ∙ ap (λ x. Some x) (stays (Waiting m c) u tt i))
-    by (Some (Ended e)) (Some u) a b i = at_call (Ended e) a (b ∙ ap (λ x. Some x) (stays (Ended e) u tt i))
-
 -- a process that doesn't go on doesn't in the advance, either
 still_ahead : (w v : WorldState) (p : ℕ) → IsConsistent w.kernel → IsAdvance w v → (GoesOn (step_effect_in w p) → ⊥) → GoesOn (step_effect_in v p) → ⊥
 still_ahead w v p consistent h none goes = by (slice_get w.processes p) (slice_get v.processes p) refl refl (h.processes p)
   where
     at_call : (s : Process) → slice_get w.processes p ≡ Some s → slice_get v.processes p ≡ Some s → ⊥
-    at_call s a b = none (subst GoesOn (same_in w v p s consistent h a b) goes)
+    at_call s a b = none (subst GoesOn (same_in_advance w v p s consistent h a b) goes)
 
     running : (m : Machine) (u : Process) (a : NextAction) → next_action m ≡ a → slice_get w.processes p ≡ Some (Running m) → slice_get v.processes p ≡ Some u → IsAhead (Running m) u → ⊥
     running m u (moves q) e a b i = none (subst GoesOn (sym (effect_local w p m q a e)) tt)
@@ -93,14 +60,14 @@ marked_on x start t m s searched shown w p consistent goes has =
       | inr moved ↦
           let done = searched.expanded i (get_past t.rows i has.1.1.0 has.1.1.1) in
           let world : v ≡ done.0 = at_unique t i v done.0 has.1.1 done.1 in
-          let edge : HasEdge t i v p = subst (λ y. HasEdge t i y p) (sym world) (done.2 p (subst (λ y. GoesOn (step_effect_in y p)) world (subst GoesOn (sym moved.0) goes))) in
+          let edge : HasEdge t i v p = subst (λ y. HasEdge t i y p) (sym world) (done.2 p (subst (λ y. GoesOn (step_effect_in y p)) world (subst GoesOn (sym moved.1) goes))) in
           let at : IsAt t edge.1.from v = subst (λ n. IsAt t n v) (sym edge.4) has.1.1 in
           let kept = shown.edges edge.0 edge.1 edge.3 s has.1.3 (subst (λ n. IsMarked m n s) (sym edge.4) has.1.2) v at in
-          let same : next_in x s v p ≡ next_in x s w p = ap (next_state x s v.kernel p) moved.0 ∙ next_alike x s w.kernel v.kernel p (step_effect_in w p) has.2.kernel in
+          let same : next_in x s v p ≡ next_in x s w p = ap (next_state x s v.kernel p) moved.1 ∙ next_alike x s w.kernel v.kernel p (step_effect_in w p) has.2.kernel in
           let by : next_in x s v edge.1.pid ≡ next_in x s w p = ap (λ q. next_in x s v q) edge.7 ∙ same in (
             edge.2,
             subst (λ n. IsMarkedRow t m n edge.2) by (edge.1.to, edge.5, kept.1, kept.0),
-            moved.1 edge.2 (reached_advance (step v p) edge.2 edge.6),
+            moved.2 edge.2 (reached_advance (step v p) edge.2 edge.6),
           )
     ]
 

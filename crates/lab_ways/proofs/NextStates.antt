@@ -1,6 +1,7 @@
 -- What a step makes of the state: of a process that stands at a call, and over kernels that are alike.
 use Rattle.std.proofs.Common.{ℕ, ◌≡◌, ◌+◌, ◌*◌, ◌/◌, ◌%◌, ◌&&◌, ◌||◌, Bool, true, false, nat_lt, if◌then◌else◌, List, [], ◌∷◌, Option, Some, None, option_and_then, length, slice_get, refl, sym, ap, ◌∙◌, arith}
 use Rattle.std.specs.Option.{option_map}
+use Rattle.std.proofs.lemmas.Bool.{or_parts}
 use Rattle.std.specs.List.{list_any}
 use Rattle.lc3_machine.specs.Process.{Process as Machine}
 use Rattle.ipc_kernel.specs.declared.call.Call.{Call}
@@ -108,10 +109,6 @@ next_alike x s k j p nothing a = refl
 next_alike x s k j p (local_step n) a = refl
 next_alike x s k j p (kernel_step m c r) a = ap (λ n. if is_process x.process p && is_success r then n else s) (by_alike x.pattern s k j p c a)
 
-or_false : (a b : Bool) → (a || b) ≡ false → (a ≡ false) × (b ≡ false)
-or_false true b e = absurd (cc)
-or_false false b e = (refl, e)
-
 -- a call that waits is not read
 unread : (b : Bool) (n s : ℕ) → (if b && false then n else s) ≡ s
 unread true n s = refl
@@ -155,7 +152,7 @@ uncalled x s k p (kernel_step m c a) none = absurd (omega (arith, none))
 uncalled_kinds : (xs : List CallKind) (k : KernelState) (p : ℕ) (c : Call) → list_any (λ x. is_called x.service c) xs ≡ false → is_of_any xs k p c ≡ false
 uncalled_kinds [] k p c none = refl
 uncalled_kinds (x ∷ xs) k p c none =
-    let both = or_false (is_called x.service c) (list_any (λ y. is_called y.service c) xs) none in
+    let both = or_parts (is_called x.service c) (list_any (λ y. is_called y.service c) xs) none in
     ap (λ b. b && is_on x.object k p c || is_of_any xs k p c) both.0 ∙ uncalled_kinds xs k p c both.1
 
 -- units stay where no unit is moved
@@ -183,7 +180,7 @@ unread_turn xs s k p c none = ap (λ b. if b then (if is_of_next xs s k p c then
 pub unread_units : (names : List (List ℕ)) (s : ℕ) (k : KernelState) (p : ℕ) (c : Call) → (is_called service.SemWait c || is_called service.SemTrywait c || is_called service.SemPost c) ≡ false
     → (if are_held names s then s else next_units names s k p c) ≡ s
 unread_units names s k p c none =
-    let both = or_false (is_called service.SemWait c || is_called service.SemTrywait c) (is_called service.SemPost c) none in
+    let both = or_parts (is_called service.SemWait c || is_called service.SemTrywait c) (is_called service.SemPost c) none in
     ap (λ n. if are_held names s then s else n) (units_stay names s k p c both.0 both.1) ∙ either_same (are_held names s) s
 
 pub unread_none : (xs : List CallKind) (s : ℕ) (k : KernelState) (p : ℕ) (c : Call) → list_any (λ x. is_called x.service c) xs ≡ false → (if is_of_any xs k p c then 1 else s) ≡ s

@@ -1,18 +1,16 @@
 -- Walks, and the state after their steps.
-use Rattle.std.proofs.Common.{ℕ, ◌≡◌, ◌<◌, ◌+◌, ◌++◌, Bool, true, false, not, arith, inl, inr, IsTrue, List, [], ◌∷◌, refl, sym, ap, subst, ◌∙◌, length, take, get_or}
-use Rattle.std.proofs.lemmas.List.{length-append, take_more}
+use Rattle.std.proofs.Common.{ℕ, ◌≡◌, ◌++◌, false, arith, inl, inr, IsTrue, List, [], ◌∷◌, refl, sym, ap, subst, ◌∙◌, length}
+use Rattle.std.proofs.lemmas.List.{length-append}
 use Rattle.lab_sched.specs.declared.verdict.Verdict.{Verdict}
 use Rattle.lab_sched.specs.declared.verdict.Verdict.TheVariants as verdict
 use Rattle.lab_sched.specs.Worlds.{WorldState, step_effect_in, step, run, entries}
 use Rattle.lab_sched.specs.Schedules.{steps_of}
 use Rattle.lab_sched.specs.Verdicts.{IsVerdict}
 use Rattle.lab_sched.proofs.Executions.{entries-append}
-use Rattle.lab_worlds.specs.Calls.{Alongside}
 use Rattle.lab_worlds.specs.Closed.{AreAtRest}
 use Rattle.lab_worlds.specs.Walked.{IsWalk, KeepsStart}
 use Rattle.lab_worlds.proofs.FewestCalls.{calls_in}
 use Rattle.lab_worlds.proofs.OnwardSteps.{calls_more}
-use Rattle.lab_worlds.proofs.Pushes.{alongside_push}
 use Rattle.lab_worlds.proofs.WalkedEnds.{verdict_rests}
 use Rattle.lab_ways.specs.declared.wanted.Wanted.{Wanted}
 use Rattle.lab_ways.specs.declared.watching.WatchedWalk.{WatchedWalk}
@@ -76,18 +74,7 @@ broken x old new p allowed breaks keeps steps start h =
       ),
     )
 
-pub is_false : (b : Bool) → IsTrue (not b) → b ≡ false
-is_false true is = absurd (cc)
-is_false false is = refl
-
 -- so is rest at a state that isn't accepted
 pub rested : (x : Wanted) (walk : WatchedWalk) (v : Verdict) → IsVerdict walk.walk.world v → (v ≡ verdict.Open → ⊥) → is_accepted x.pattern walk.state ≡ false → ComesToEnd x walk walk
 rested x walk v stands closed against start h =
     (h, inr (subst AreAtRest (sym h.walk.leads) (verdict_rests walk.walk.world v stands closed), ap (is_accepted x.pattern) h.state ∙ against))
-
--- what is found of one more
-pub next_along : {A B : Type 0} (R : A → B → Type 0) (xs : List A) (ys zs : List B) (n : ℕ) (x : A) (y : B) → Alongside R (take n xs) ys → n < length xs → x ≡ get_or xs n x → R x y → zs ≡ ys ++ y ∷ []
-    → Alongside R (take (n + 1) xs) zs
-next_along R xs ys zs n x y h within read here pushed =
-    let more = take_more xs n x within ∙ ap (λ z. take n xs ++ z ∷ []) (sym read) in
-    subst (λ vs. Alongside R (take (n + 1) xs) vs) (sym pushed) (subst (λ us. Alongside R us (ys ++ y ∷ [])) (sym more) (alongside_push R (take n xs) ys x y h here))

@@ -48,10 +48,7 @@ fn is_text(text: &str, other: &str) -> bool
 fn is_name(name: &Name, other: Option<&Name>) -> bool
     ensures same { result ≡ is_name name.now (option_copied other.entry) }
 {
-    match other {
-        Some(other) => is_text(name.text(), other.text()),
-        None => false,
-    }
+    other.is_some_and(|other| is_text(name.text(), other.text()))
 }
 
 /// Whether the object in a place has this name.

@@ -14,10 +14,7 @@ use lab_worlds::ExploreFault;
 fn is_marked(marks: &Marks, row: usize, state: u32) -> bool
     ensures yes { IsTrue result → IsMarked marks.now row state }
 {
-    match marks.get(row, state) {
-        Some(mark) => mark >= 1,
-        None => false,
-    }
+    marks.get(row, state).is_some_and(|mark| mark >= 1)
 }
 
 fn is_unmarked(marks: &Marks, row: usize, state: u32) -> bool
@@ -122,17 +119,18 @@ fn are_right(visited: &Visited, wanted: &Wanted, marks: &Marks) -> Result<bool, 
     Ok(true)
 }
 
-/// Whether the marks show that what is asked is so on every way.
+/// Whether the search is complete, and the marks show that what is asked is so on every way.
 pub(crate) fn are_shown(
     visited: &Visited,
     wanted: &Wanted,
     marks: &Marks,
 ) -> Result<bool, ExploreFault>
-    requires store { IsStore visited.now.store }
+    requires store { IsTrue visited.now.complete → IsStore visited.now.store }
+    ensures complete { IfOk result (λ is. IsTrue is → IsTrue visited.now.complete) }
     ensures shown { IfOk result (λ is. IsTrue is
         → AreShown wanted.now visited.now.store marks.now) }
 {
-    if marks.states == 0 || !is_marked(marks, 0, 0) {
+    if !visited.complete || marks.states == 0 || !is_marked(marks, 0, 0) {
         return Ok(false);
     }
     if !are_right(visited, wanted, marks)? {
@@ -150,12 +148,10 @@ fn is_still(store: &Store, at: usize) -> bool {
     (0..count).all(|pid| store.goes_on(at, pid) == Some(false))
 }
 
-fn is_against(visited: &Visited, wanted: &Wanted, row: usize, state: u32) -> bool {
-    !wanted.pattern.allows(state)
-        || (!wanted.pattern.accepts(state) && is_still(&visited.store, row))
-}
-
 /// The place of the first pair that was reached and isn't right.
 pub(crate) fn first_against(visited: &Visited, wanted: &Wanted, marks: &Marks) -> Option<usize> {
-    marks.reached.iter().position(|pair| is_against(visited, wanted, pair.row as usize, pair.state))
+    marks.reached.iter().position(|pair| {
+        !wanted.pattern.allows(pair.state)
+            || (!wanted.pattern.accepts(pair.state) && is_still(&visited.store, pair.row as usize))
+    })
 }

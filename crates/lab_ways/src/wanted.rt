@@ -51,10 +51,9 @@ fn is_of_next(kinds: &[CallKind], turn: u32, kernel: &Kernel, pid: usize, call: 
     requires process { pid < length kernel.now.processes }
     ensures value { result ≡ is_of_next kinds.now turn kernel.now pid call.now }
 {
-    match kinds.get(turn as usize) {
-        Some(kind) => kind.is_of(kernel, pid, call),
-        None => false,
-    }
+    kinds
+        .get(turn as usize)
+        .is_some_and(|kind| kind.is_of(kernel, pid, call))
 }
 
 fn next_turn(
@@ -158,10 +157,7 @@ impl Wanted {
     fn is_process(&self, pid: usize) -> bool
         ensures value { result ≡ is_process self.now.process pid }
     {
-        match self.process {
-            Some(process) => pid == process,
-            None => true,
-        }
+        self.process.is_none_or(|process| pid == process)
     }
 
     /// Whether a call of process `pid` may make another state, by its process and name.

@@ -1,8 +1,7 @@
 //! Walks, and the state of what is asked after their steps.
-ghost use Rattle.std.specs.Prelude.{◌≡◌, ◌++◌, [], ◌∷◌, false, IsTrue, IfOk, OnOk};
+ghost use Rattle.std.specs.Prelude.{◌≡◌, ◌++◌, [], ◌∷◌, IsTrue, IfOk, OnOk};
 ghost use Rattle.lab_sched.specs.Schedules.{steps_of};
 ghost use Rattle.lab_sched.specs.Starts.{AreStarts, initial_world};
-ghost use Rattle.lab_sched.specs.declared.verdict.Verdict.TheVariants.{Open};
 ghost use Rattle.lab_ways.specs.declared.wanted.Wanted.{Wanted as Asked};
 ghost use Rattle.lab_ways.specs.Wanted.{next_in};
 ghost use Rattle.lab_ways.specs.Private.Marked.{IsWatched, KeepsWatched, ComesToEnd};
@@ -18,12 +17,6 @@ use std::alloc::Global;
 pub(crate) struct WatchedWalk {
     pub walk: Walk,
     pub state: u32,
-}
-
-fn is_open(verdict: Verdict) -> bool
-    ensures closed { result ≡ false → verdict ≡ Open → ⊥ }
-{
-    matches!(verdict, Verdict::Open)
 }
 
 impl WatchedWalk {
@@ -116,7 +109,7 @@ impl WatchedWalk {
     pub fn rests_unaccepted(&self, wanted: &Wanted) -> bool
         ensures against { IsTrue result → ComesToEnd wanted.now self.now self.now }
     {
-        if is_open(self.walk.world.verdict()) {
+        if let Verdict::Open = self.walk.world.verdict() {
             return false;
         }
         !wanted.pattern.accepts(self.state)

@@ -4,7 +4,7 @@ ghost use Rattle.lab_sched.specs.Starts.{AreStarts, initial_world};
 ghost use Rattle.lab_worlds.specs.Calls.{Alongside};
 ghost use Rattle.lab_search.specs.Stored.{IsStore};
 ghost use Rattle.lab_ways.specs.Ways.{AreAllWays};
-ghost use Rattle.lab_ways.specs.Private.Marked.{AreShown, IsFound};
+ghost use Rattle.lab_ways.specs.Private.Marked.{IsFound};
 
 use crate::checking::{are_shown, first_against};
 use crate::marking::{Marks, mark};
@@ -25,19 +25,6 @@ pub enum Ways {
     Without(Schedule),
     /// Not every way was gone.
     Unknown,
-}
-
-/// Whether the search shows that what is asked is so on every way.
-fn is_always(visited: &Visited, wanted: &Wanted, marks: &Marks) -> Result<bool, ExploreFault>
-    requires store { IsTrue visited.now.complete → IsStore visited.now.store }
-    ensures complete { IfOk result (λ is. IsTrue is → IsTrue visited.now.complete) }
-    ensures shown { IfOk result (λ is. IsTrue is
-        → AreShown wanted.now visited.now.store marks.now) }
-{
-    if !visited.complete {
-        return Ok(false);
-    }
-    are_shown(visited, wanted, marks)
 }
 
 /// A way on which what is asked isn't so, as the marks have it, if there is one.
@@ -77,11 +64,10 @@ fn ways_of(
         IsFound visited.now.complete (initial_world processes.now) visited.now.store wanted.now found) }
 {
     let marks = mark(&visited.store, alloc, wanted)?;
-    if is_always(visited, wanted, &marks)? {
+    if are_shown(visited, wanted, &marks)? {
         return Ok(Ways::Always);
     }
-    let found = way_against(visited, alloc, processes, wanted, &marks)?;
-    Ok(found)
+    way_against(visited, alloc, processes, wanted, &marks)
 }
 
 /// What a search shows of all that is asked, in order.
@@ -123,14 +109,7 @@ pub fn ask_ways<O: Observer>(
     let processes = fresh.processes();
     let kernel = Kernel::new(alloc, processes.len())?;
     let visited = visit(alloc, &processes, &kernel, limits, observer, false)?;
-    match all_ways(&visited, alloc, &processes, wanted) {
-        Ok(found) => {
-            discard(visited);
-            Ok(found)
-        }
-        Err(fault) => {
-            discard(visited);
-            Err(fault)
-        }
-    }
+    let found = all_ways(&visited, alloc, &processes, wanted);
+    discard(visited);
+    Ok(found?)
 }

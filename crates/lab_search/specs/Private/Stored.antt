@@ -2,13 +2,16 @@
 use Rattle.std.specs.Prelude.{ℕ, ◌≡◌, List, [], Some, get_or, slice_get, slice_set}
 use Rattle.ipc_kernel.specs.Kernel.{KernelState, IsSettled}
 use Rattle.ipc_store.specs.Kept.{GrowsKept}
-use Rattle.lab_sched.specs.Worlds.{Process}
-use Rattle.lab_worlds.specs.declared.trying.Attempt.{Attempt}
+use Rattle.lab_sched.specs.Worlds.{Process, step_effect}
+use Rattle.lab_sched.specs.Held.{step_of}
 use Rattle.lab_worlds.specs.Calls.{IsAhead, Alongside}
 use Rattle.lab_worlds.specs.Private.Kept.{Keeps}
-use Rattle.lab_worlds.specs.Stepped.{IsStepped}
+use Rattle.lab_worlds.specs.Stepped.{IsReached}
+use Rattle.lab_worlds.specs.Unwaiting.{GoesOn}
 use Rattle.lab_states.specs.Rows.{Row}
 use Rattle.lab_search.specs.declared.known.Mover.{Mover}
+use Rattle.lab_search.specs.declared.making.KeptAttempt.{KeptAttempt}
+use Rattle.lab_search.specs.declared.making.KeptAttempt.TheVariants.{Still, Runs, Came}
 use Rattle.lab_search.specs.declared.rows.Change.{Change}
 use Rattle.lab_search.specs.declared.store.Store.{Store}
 use Rattle.lab_search.specs.declared.store.Next.{Next}
@@ -57,10 +60,20 @@ IsNextBy t u m i effect next =
     (k : KernelState) (s : Process) → IsExactly t m.kernel k → IsSettled k
     → IsEffect t k m.pid s i effect → IsNext u k m.pid s next
 
--- what comes of a step where the kernel is given by its place
-abbrev pub IsKeptStep : Store → ℕ → ℕ → Process → Attempt → Type 0
-IsKeptStep t kernel p s expanded_in =
-    (k : KernelState) × IsExactly t kernel k × IsSettled k × IsStepped k p s expanded_in
+-- what a step of process p makes of the kernel, and the state of p after it and all its local steps, by its place
+abbrev pub IsKeptStep : Store → KernelState → ℕ → Process → KeptAttempt → Type 0
+IsKeptStep t k p s Still = GoesOn (step_effect k p (Some s)) → ⊥
+IsKeptStep t k p s Runs = GoesOn (step_effect k p (Some s))
+IsKeptStep t k p s (Came kernel state taken) =
+    (u : Process) × (kernel ≡ (step_of k p s).kernel) × IsState t state u
+    × IsReached (step_of k p s).process u × GoesOn (step_effect k p (Some s))
+
+-- the same where the kernel, which is settled, and the process are given by their places in a store, and what comes of the step
+-- by its place in a later one
+abbrev pub IsKeptAttempt : Store → Store → Mover → KeptAttempt → Type 0
+IsKeptAttempt t u m attempt =
+    (k : KernelState) × (s : Process) × IsExactly t m.kernel k × IsState t m.state s × IsSettled k
+    × IsKeptStep u k m.pid s attempt
 
 -- the state at a place is the process after all its local steps
 abbrev pub IsLocalSuccessor : Store → ℕ → Process → Type 0

@@ -10,8 +10,8 @@ returns-clause-holds c =
     let t = c.args.store.now in
     let kernel = c.put_for.new.last.kernel in
     let condition = c.args.condition.now in
-    let holds = c.in_ok-holds.holds in
+    let holds = c.in_ok-holds_in.field-0 in
     let processes = c.in_ok-processes.processes.items in
     row_judged t _ c.args.at condition kernel (map (λ s. process_view s.now) processes) holds c.in-Some.ensures.row c.in_ok-put_for.ensures.judges
     (λ ss along. map_twice silent (λ s. process_view s.now) processes ∙ c.in_ok-processes.ensures.processes ss along)
-    (subst (λ xs. IsTrue holds ↔ Holds condition (world_of kernel (map (λ s. process_view s.now) xs))) c.as_slice.ensures.value c.in_ok-holds.ensures.holds)
+    (subst (λ xs. IsTrue holds ↔ Holds condition (world_of kernel (map (λ s. process_view s.now) xs))) c.as_slice.ensures.value c.in_ok-holds_in.ensures.holds)

@@ -3,6 +3,7 @@ use Rattle.lab_ways.proofs.checking.are_shown.Goals as goal
 
 pub returns : goal.returns
 returns c = record {
+  complete = λ is. c.if-not-visited.false;
   shown = λ is. record {
     some = omega (arith, c.if-marks-eq0.false);
     first = c.is_marked.ensures.yes c.if-not-is_marked.false;

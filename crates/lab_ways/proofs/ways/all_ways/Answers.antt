@@ -1,6 +1,6 @@
 use Rattle.lab_sched.specs.Starts.{initial_world}
 use Rattle.lab_ways.specs.Private.Marked.{IsFound}
-use Rattle.lab_ways.proofs.WatchedWalks.{next_along}
+use Rattle.lab_explore.proofs.JudgedRows.{next_along}
 use Rattle.lab_ways.proofs.ways.all_ways.Goals as goal
 
 pub loop-one-preserved : goal.loop-one-preserved

@@ -12,11 +12,11 @@ use Rattle.lab_ways.proofs.ways.ask_ways.Goals as goal
 pub visit-requires : goal.visit-requires
 visit-requires g c = record { held = starts_held c.processes-processes.result.items c.deref.result.now c.deref.ensures.value c.processes-processes.ensures.starts }
 
-pub all_ways-requires : goal.all_ways-requires
-all_ways-requires g c = record { starts = subst AreStarts (sym c.deref-2.ensures.value) c.processes-processes.ensures.starts; store = c.in_ok-visited.ensures.store }
+pub all_ways-found-requires : goal.all_ways-found-requires
+all_ways-found-requires g c = record { starts = subst AreStarts (sym c.deref-2.ensures.value) c.processes-processes.ensures.starts; store = c.in_ok-visited.ensures.store }
 
-pub returns-in-Ok : goal.returns-in-Ok
-returns-in-Ok g c =
+pub returns : goal.returns
+returns g c =
     let qs = c.processes-processes.result.items in
     let ps = c.deref.result.now in
     let visited = c.in_ok-visited.visited in
@@ -26,8 +26,8 @@ returns-in-Ok g c =
     let starts = c.processes-processes.ensures.starts in
     let first : c.args.fresh ≡ initial_world c.deref-2.result.now = sym c.processes-processes.ensures.world ∙ ap initial_world (sym c.deref-2.ensures.value) in
     record {
-      ways = all_found visited.complete c.args.fresh start visited.store c.args.wanted.now c.in-Ok.found.items same (fresh_consistent start c.len.result c.in_ok-kernel.ensures.empty)
+      ways = all_found visited.complete c.args.fresh start visited.store c.args.wanted.now c.in_ok-found.field-0.items same (fresh_consistent start c.len.result c.in_ok-kernel.ensures.empty)
           (starts_ask qs ps c.in_ok-kernel.kernel c.deref.ensures.value starts) (starts_unwaiting qs ps c.in_ok-kernel.kernel c.deref.ensures.value starts)
           (λ is. whole_search visited.reduced start visited.store (c.in_ok-visited.ensures.reduced refl) (c.in_ok-visited.ensures.complete is))
-          (subst (λ w. Alongside (IsFound visited.complete w visited.store) c.args.wanted.now c.in-Ok.found.items) (sym first) c.in-Ok.ensures.found);
+          (subst (λ w. Alongside (IsFound visited.complete w visited.store) c.args.wanted.now c.in_ok-found.field-0.items) (sym first) c.in_ok-found.ensures.found);
     }

@@ -1,47 +1,47 @@
 use Rattle.std.proofs.Common.{subst}
-use Rattle.lab_sched.specs.Held.{process_view}
+use Rattle.ipc_kernel.specs.Operands.{HasOperand}
 use Rattle.lab_search.specs.declared.footprints.Effect.TheVariants as effect
-use Rattle.lab_states.specs.CollapsedStates.{behind}
-use Rattle.lab_worlds.specs.Stepped.{IsStepped}
-use Rattle.lab_search.specs.Private.Stored.{output_at}
-use Rattle.lab_search.proofs.Growths.{grows_same}
-use Rattle.lab_search.proofs.StepsBehind.{goes_behind, held_apart, state_behind, went_behind}
+use Rattle.lab_search.specs.Private.Stored.{IsKeptStep}
+use Rattle.lab_search.proofs.Growths.{grows_more, later_more, state_grows}
 use Rattle.lab_search.proofs.FootprintLemmas.{footprint_effect_made}
 use Rattle.lab_search.proofs.store.Store.make_effect.Goals as goal
 
-pub try_next-requires : goal.try_next-requires
-try_next-requires c = record { held = held_apart c.args.self.now c.args.footprint.state c.in-Some.collapsed.now c.requires.store c.in-Some.ensures.whole }
-
-pub returns-in-Ok-Still-clause-footprint_effect : goal.returns-in-Ok-Still-clause-footprint_effect
-returns-in-Ok-Still-clause-footprint_effect c =
+pub returns-in-Still-clause-footprint_effect : goal.returns-in-Still-clause-footprint_effect
+returns-in-Still-clause-footprint_effect c =
     let t = c.args.self.now in
-    let collapsed = c.in-Some.collapsed.now in
-    let s = process_view collapsed.process in
-    let o = output_at t collapsed.before in
-    let here = state_behind t c.args.footprint.state collapsed c.in-Some.ensures.whole in
-    let h = c.in-Ok-Still.ensures.expanded_in in
-    let still = subst (λ x. IsStepped h.0 c.args.mover.pid s x) c.in-Ok-Still.field-0-is h.3 in
-    footprint_effect_made t t h.0 c.args.mover.pid (behind o s) c.args.footprint effect.Nothing (grows_same t) h.2 here (c.requires.operand h.0 h.1) (λ goes. still (went_behind h.0 c.args.mover.pid s o goes))
+    let u = c.try_move.new.self in
+    let h = c.in_ok-try_move.ensures.attempt in
+    let still = subst (λ x. IsKeptStep u h.0 c.args.mover.pid h.1 x) c.in-Still.is h.5 in
+    footprint_effect_made t u h.0 c.args.mover.pid h.1 c.args.footprint effect.Nothing c.in_ok-try_move.ensures.later.grows h.4 h.3 (c.requires.operand h.0 h.2) still
 
-pub returns-in-Ok-Runs-clause-footprint_effect : goal.returns-in-Ok-Runs-clause-footprint_effect
-returns-in-Ok-Runs-clause-footprint_effect c =
+pub returns-in-Runs-clause-footprint_effect : goal.returns-in-Runs-clause-footprint_effect
+returns-in-Runs-clause-footprint_effect c =
     let t = c.args.self.now in
-    let collapsed = c.in-Some.collapsed.now in
-    let s = process_view collapsed.process in
-    let o = output_at t collapsed.before in
-    let here = state_behind t c.args.footprint.state collapsed c.in-Some.ensures.whole in
-    let h = c.in-Ok-Runs.ensures.expanded_in in
-    let runs = subst (λ x. IsStepped h.0 c.args.mover.pid s x) c.in-Ok-Runs.field-0-is h.3 in
-    footprint_effect_made t t h.0 c.args.mover.pid (behind o s) c.args.footprint effect.Limit (grows_same t) h.2 here (c.requires.operand h.0 h.1) (goes_behind h.0 c.args.mover.pid s o runs)
+    let u = c.try_move.new.self in
+    let h = c.in_ok-try_move.ensures.attempt in
+    let runs = subst (λ x. IsKeptStep u h.0 c.args.mover.pid h.1 x) c.in-Runs.is h.5 in
+    footprint_effect_made t u h.0 c.args.mover.pid h.1 c.args.footprint effect.Limit c.in_ok-try_move.ensures.later.grows h.4 h.3 (c.requires.operand h.0 h.2) runs
 
-pub returns-in_ok-effect-in-Ok-Came-clause-footprint_effect : goal.returns-in_ok-effect-in-Ok-Came-clause-footprint_effect
-returns-in_ok-effect-in-Ok-Came-clause-footprint_effect c =
+pub returns-in-Some-object_at-clause-later : goal.returns-in-Some-object_at-clause-later
+returns-in-Some-object_at-clause-later c =
+    later_more c.args.self.now c.try_move.new.self c.keep_kernel.new.self c.in_ok-try_move.ensures.later c.in_ok-number-in-Came.ensures.later
+
+pub returns-in-Some-object_at-clause-footprint_effect : goal.returns-in-Some-object_at-clause-footprint_effect
+returns-in-Some-object_at-clause-footprint_effect c =
     let t = c.args.self.now in
-    let collapsed = c.in-Some.collapsed.now in
-    let s = process_view collapsed.process in
-    let o = output_at t collapsed.before in
-    let here = state_behind t c.args.footprint.state collapsed c.in-Some.ensures.whole in
-    let h = c.in-Ok-Came.ensures.expanded_in in
-    let stepped = subst (λ x. IsStepped h.0 c.args.mover.pid s x) c.in-Ok-Came.field-0-is h.3 in
-    footprint_effect_made t c.keep_parts.new.self h.0 c.args.mover.pid (behind o s) c.args.footprint c.in_ok-effect-in-Ok-Came.effect c.in_ok-effect-in-Ok-Came.ensures.later.grows h.2 here
-    (c.requires.operand h.0 h.1) (c.in_ok-effect-in-Ok-Came.ensures.effect h.0 s stepped)
+    let u = c.try_move.new.self in
+    let v = c.keep_kernel.new.self in
+    let kernel = c.in-Came.kernel in
+    let pid = c.args.mover.pid in
+    let place = c.args.footprint.place in
+    let first = c.in_ok-try_move.ensures.later in
+    let then = c.in_ok-number-in-Came.ensures.later in
+    let h = c.in_ok-try_move.ensures.attempt in
+    let made = subst (λ x. IsKeptStep u h.0 pid h.1 x) c.in-Came.is h.5 in
+    let at = c.in_ok-number-in-Came.ensures.kernel in
+    let x = c.in-Some.ensures.tables kernel at in
+    let q = c.in-Some-object_at.ensures.object kernel at in
+    let has : HasOperand kernel pid place x.0 q.0 = record { tables = x.2; object = q.2 } in
+    footprint_effect_made t v h.0 pid h.1 c.args.footprint (effect.To c.in-Some.tables c.in-Some-object_at.object c.in-Came.state c.in-Came.taken)
+    (grows_more t u v first.grows then.grows) h.4 h.3 (c.requires.operand h.0 h.2)
+    (x.0, q.0, made.0, (x.1, q.1), state_grows u v c.in-Came.state made.0 then.grows made.2, subst (λ j. HasOperand j pid place x.0 q.0) made.1 has, made.3, made.4)
