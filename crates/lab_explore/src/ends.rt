@@ -43,10 +43,7 @@ impl Visited {
         if self.complete {
             return self.may_rest(at);
         }
-        let Some(count) = self.store.width(at) else {
-            return false;
-        };
-        (0..count).all(|pid| self.store.goes_on(at, pid) == Some(false))
+        self.store.is_still(at)
     }
 
     /// The end of a row of this depth, reached again. It is compiled by itself, so that the room for an

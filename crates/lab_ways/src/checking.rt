@@ -140,18 +140,10 @@ pub(crate) fn are_shown(
     Ok(kept)
 }
 
-/// Whether each move from the world of a row was made, and is none.
-fn is_still(store: &Store, at: usize) -> bool {
-    let Some(count) = store.width(at) else {
-        return false;
-    };
-    (0..count).all(|pid| store.goes_on(at, pid) == Some(false))
-}
-
 /// The place of the first pair that was reached and isn't right.
 pub(crate) fn first_against(visited: &Visited, wanted: &Wanted, marks: &Marks) -> Option<usize> {
     marks.reached.iter().position(|pair| {
         !wanted.pattern.allows(pair.state)
-            || (!wanted.pattern.accepts(pair.state) && is_still(&visited.store, pair.row as usize))
+            || (!wanted.pattern.accepts(pair.state) && visited.store.is_still(pair.row as usize))
     })
 }
