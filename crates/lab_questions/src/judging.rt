@@ -1,6 +1,5 @@
 //! Ends, judged.
 ghost use Rattle.std.specs.Prelude.{◌↔◌, IsTrue, Some};
-ghost use Rattle.lab_sched.specs.Verdicts.{AreStuck};
 ghost use Rattle.lab_questions.specs.Judgments.{Meets, IsFaultIn};
 
 use crate::processes::{have_same_outputs, have_settled};
@@ -9,20 +8,13 @@ use lab_conditions::messages_in;
 use lab_sched::{Verdict, World};
 use lab_worlds::End;
 
-/// Whether some process waits, and none can go on.
-fn is_stuck(world: &World) -> bool
-    ensures stuck { IsTrue result ↔ AreStuck world.now }
-{
-    matches!(world.verdict(), Verdict::Stuck)
-}
-
 /// Whether a world is as a word requires, beside another.
 fn is_met(word: Word, waiters: &[Waiter], other: &World, world: &World) -> bool
     ensures met { IsTrue result ↔ Meets word waiters.now other.now world.now }
 {
     match word {
         Word::Ended => have_settled(false, waiters, world),
-        Word::Stuck => is_stuck(world),
+        Word::Stuck => matches!(world.verdict(), Verdict::Stuck),
         Word::Halted => have_settled(true, waiters, world),
         Word::Empty => messages_in(world.kernel()) == 0,
         Word::Same => have_same_outputs(world, other),
