@@ -1,7 +1,7 @@
 //! What is required of what processes have written, and the ends that are judged by it.
-ghost use Rattle.std.specs.Prelude.{◌≡◌, ◌≤◌, ◌↔◌, false, All, Any, IfOk, IsTrue, bytes_eq, drop, length, take};
+ghost use Rattle.std.specs.Prelude.{◌↔◌, All, IfOk, IsTrue};
 ghost use Rattle.lab_worlds.specs.Calls.{Alongside};
-ghost use Rattle.lab_questions.specs.Outputs.{IsWithin, Fits, HasOutput, HasWritten, IsWrittenAt, IsOutputAnswer};
+ghost use Rattle.lab_questions.specs.Outputs.{IsWithin, Fits, HasOutput, HasWritten, IsOutputAnswer};
 ghost use Rattle.lab_questions.specs.Requirements.{outputs};
 
 use crate::processes::output_of;
@@ -40,20 +40,12 @@ pub struct OutputNeed {
     pub alternatives: Vec<Alternative>,
 }
 
-fn stand_at(bytes: &[u8], output: &[u8], place: usize) -> bool
-    requires within { place ≤ length output.now }
-    ensures value { result
-        ≡ bytes_eq bytes.now (take (length bytes.now) (drop place output.now)) }
-{
-    output[place..].starts_with(bytes)
-}
-
 /// Whether bytes stand in an output, one behind the other.
 fn are_within(bytes: &[u8], output: &[u8]) -> bool
     ensures within { IsTrue result ↔ IsWithin bytes.now output.now }
 {
     for place in 0..output.len() + 1 {
-        if stand_at(bytes, output, place) {
+        if output[place..].starts_with(bytes) {
             return true;
         }
     }
@@ -69,33 +61,25 @@ fn fits(part: &OutputPart, output: &[u8]) -> bool
     }
 }
 
-fn has_output(part: &OutputPart, world: &World) -> bool
-    ensures written { IsTrue result ↔ HasOutput part.now (outputs world.now) }
-{
-    match output_of(world, part.process) {
-        Some(output) => fits(part, output),
-        None => false,
-    }
-}
-
 fn have_outputs(parts: &[OutputPart], world: &World) -> bool
     ensures written { IsTrue result
         ↔ All (λ part. HasOutput part (outputs world.now)) parts.now }
 {
     for part in parts {
-        if !has_output(part, world) {
+        let Some(output) = output_of(world, part.process) else {
+            return false;
+        };
+        if !fits(part, output) {
             return false;
         }
     }
     true
 }
 
-fn is_any_written(alternatives: &[Alternative], world: &World) -> bool
-    ensures written { IsTrue result
-        ↔ Any (λ a. All (λ part. HasOutput part (outputs world.now)) a.parts.items)
-        alternatives.now }
+fn has_written(need: &OutputNeed, world: &World) -> bool
+    ensures written { IsTrue result ↔ HasWritten need.now world.now }
 {
-    for alternative in alternatives {
+    for alternative in &need.alternatives {
         if have_outputs(&alternative.parts, world) {
             return true;
         }
@@ -103,25 +87,12 @@ fn is_any_written(alternatives: &[Alternative], world: &World) -> bool
     false
 }
 
-fn has_written(need: &OutputNeed, world: &World) -> bool
-    ensures written { IsTrue result ↔ HasWritten need.now world.now }
-{
-    is_any_written(&need.alternatives, world)
-}
-
-fn lacks(need: &OutputNeed, end: &End) -> bool
-    ensures no { result ≡ false → IsWrittenAt need.now end.now }
-    ensures yes { IsTrue result → IsWrittenAt need.now end.now → ⊥ }
-{
-    !has_written(need, &end.world)
-}
-
 /// The number of the first end, counted from 0, that hasn't what is needed, if there is one.
 fn fault_in(need: &OutputNeed, ends: &[End]) -> Option<usize>
     ensures fault { IsOutputAnswer ends.now need.now result }
 {
     for number in 0..ends.len() {
-        if lacks(need, &ends[number]) {
+        if !has_written(need, &ends[number].world) {
             return Some(number);
         }
     }

@@ -1,14 +1,16 @@
-use Rattle.std.proofs.Common.{◌≡◌, true, false, refl, sym, ◌∙◌, arith}
+use Rattle.std.proofs.Common.{◌≡◌, ◌-◌, true, false, ap, bytes_eq, drop, length, take, refl, sym, ◌∙◌, arith}
+use Rattle.std.proofs.lemmas.List.{length-drop, take_all}
 use Rattle.lab_questions.proofs.WithinLemmas.{within_from, within_nowhere}
 use Rattle.lab_questions.proofs.output.are_within.Goals as goal
 
-pub returns-then-stand_at : goal.returns-then-stand_at
-returns-then-stand_at c = record {
-  within = (
-    λ yes. within_from c.args.bytes.now c.args.output.now c.loop-place.place (sym c.stand_at.ensures.value ∙ c.if-stand_at.true),
-    λ within. refl,
-  );
-}
+pub returns-then-starts_with : goal.returns-then-starts_with
+returns-then-starts_with c =
+    let bytes = c.args.bytes.now in
+    let output = c.args.output.now in
+    let place = c.loop-place.place in
+    let value : c.starts_with.result ≡ bytes_eq bytes (take (length bytes) (drop place output)) =
+    c.starts_with.ensures.value ∙ ap (λ rest. bytes_eq bytes (take (length bytes) rest)) (take_all (length output - place) (drop place output) (omega (arith, length-drop place output))) in
+    record { within = (λ yes. within_from bytes output place (sym value ∙ c.if-starts_with.true), λ within. refl) }
 
 pub returns : goal.returns
 returns c = record {
