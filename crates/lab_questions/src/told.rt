@@ -1,6 +1,5 @@
 //! The ends that are told: each text once.
-ghost use Rattle.std.specs.Prelude.{◌≡◌, map, IfOk, OnOk, string_bytes, bytes_eq};
-ghost use Rattle.std.specs.List.{list_any};
+ghost use Rattle.std.specs.Prelude.{◌≡◌, map, IfOk, OnOk, string_bytes};
 ghost use Rattle.lab_questions.specs.EndTexts.{text_of, told_ends, ends_text, AreTold};
 ghost use Rattle.lab_questions.specs.Private.Told.{TellsNext};
 
@@ -19,19 +18,13 @@ pub(crate) struct Told {
     pub numbers: Vec<usize>,
 }
 
-fn is_among(text: &str, texts: &[String]) -> bool
-    ensures value { result ≡ list_any (λ other. bytes_eq (string_bytes other) text.now) texts.now }
-{
-    texts.iter().any(|other| other.as_str() == text)
-}
-
 impl Told {
     /// Tells the end with a number among all, unless one with its text was told.
     fn add(&mut self, alloc: Global, show: Show, at: usize, end: &End) -> Result<(), AllocError>
         ensures told { OnOk result (TellsNext show at self.old self.new end.now) }
     {
         let text = shown_text(alloc, &end.world, show)?;
-        if is_among(&text, &self.texts) {
+        if self.texts.iter().any(|told| told.as_str() == text.as_str()) {
             return Ok(());
         }
         let number = self.texts.len() + 1;

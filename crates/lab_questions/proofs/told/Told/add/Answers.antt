@@ -1,5 +1,7 @@
-use Rattle.std.proofs.Common.{ℕ, ◌≡◌, ◌∙◌, ◌+◌, [], ◌∷◌, ◌++◌, Bool, Global, List, String, map, length, string_bytes, bytes_eq, sym, ap, arith}
+use Rattle.std.proofs.Common.{ℕ, ◌≡◌, ◌∙◌, ◌+◌, [], ◌∷◌, ◌++◌, Bool, Global, List, String, map, length, string_bytes, bytes_eq, sym, ap, arith, rules, tests}
 use Rattle.std.specs.List.{list_any}
+use Rattle.std.proofs.lemmas.Iterator.{YieldsList-from_slice}
+use Rattle.std.proofs.lemmas.Iterator.Search.{any_from_yields_List}
 use Rattle.std.proofs.lemmas.List.{map_push, length-map}
 use Rattle.lab_worlds.specs.declared.ends.End.{End}
 use Rattle.lab_questions.specs.declared.asked.Show.{Show}
@@ -17,14 +19,14 @@ answered show es e others text r known told is value here =
     let test = λ (other : List ℕ). bytes_eq other (text_of show e) in
     ap (list_any test) (sym told) ∙ any-map string_bytes test others ∙ ap (λ x. list_any (λ other. bytes_eq (string_bytes other) x) others) (sym is) ∙ sym value ∙ here
 
-pub returns-then-is_among : goal.returns-then-is_among
-returns-then-is_among c = record {
+pub returns-then-any : goal.returns-then-any
+returns-then-any c = record {
   told = λ ends at told.
       let e = c.args.end.now in
       let show = c.args.show in
-      let others = ap (map string_bytes) c.deref-2.ensures.value ∙ told.texts in
-      let text = c.deref.ensures ∙ c.in_ok-text.ensures.text in
-      let known = told-known show ends e (answered show ends e _ _ _ _ others text c.is_among.ensures.value c.if-is_among.true) in
+      let others = ap (map string_bytes) c.deref.ensures.value ∙ told.texts in
+      let among = any_from_yields_List (λ other. bytes_eq (string_bytes other) (string_bytes c.in_ok-text.text)) _ _ c.any.result c.any.ensures.ran (YieldsList-from_slice c.deref.result.now cc) (λ x b q k. search (rules, tests)) in
+      let known = told-known show ends e (answered show ends e _ _ _ _ others c.in_ok-text.ensures.text among c.if-any.true) in
       record {
         text = told.text ∙ ap (ends_text show 1) (sym known);
         texts = told.texts ∙ ap (map (text_of show)) (sym known);
@@ -38,9 +40,9 @@ returns c = record {
       let e = c.args.end.now in
       let show = c.args.show in
       let old = c.args.self.now in
-      let others = ap (map string_bytes) c.deref-2.ensures.value ∙ told.texts in
-      let text = c.deref.ensures ∙ c.in_ok-text.ensures.text in
-      let is_new = told-new show ends e (answered show ends e _ _ _ _ others text c.is_among.ensures.value c.if-is_among.false) in
+      let others = ap (map string_bytes) c.deref.ensures.value ∙ told.texts in
+      let among = any_from_yields_List (λ other. bytes_eq (string_bytes other) (string_bytes c.in_ok-text.text)) _ _ c.any.result c.any.ensures.ran (YieldsList-from_slice c.deref.result.now cc) (λ x b q k. search (rules, tests)) in
+      let is_new = told-new show ends e (answered show ends e _ _ _ _ others c.in_ok-text.ensures.text among c.if-any.false) in
       let count : c.len.result + 1 ≡ 1 + length (told_ends show ends) =
       let same = ap length told.texts in
       omega (arith, same, length-map old.texts.items string_bytes, length-map (told_ends show ends) (text_of show), c.len.ensures, old.texts.ok.0) in
