@@ -1,7 +1,6 @@
 //! Semaphores and queues that conditions name.
 ghost use Rattle.std.specs.Prelude.{◌≡◌, ◌++◌, All, AllPairs, Contains, IfOk, OnOk, flat_map};
 ghost use Rattle.lab_questions.specs.Objects.{objects_in, named, StandsBefore};
-ghost use Rattle.lab_questions.specs.Private.Presences.{AddsNew};
 
 use ipc_names::Name;
 use lab_conditions::{Never, Part};
@@ -29,25 +28,17 @@ impl fmt::Display for Object {
     }
 }
 
-/// Adds the object that a part of a condition names, if it names one.
-fn push_object(objects: &mut Vec<Object>, part: &Part) -> Result<(), AllocError>
-    ensures objects { OnOk result
-        (objects.new.items ≡ objects.old.items ++ objects_in part.now) }
-{
-    match part {
-        Part::Semaphore { name, .. } => objects.push(Object::Semaphore(name.clone()?))?,
-        Part::Queue { name, .. } => objects.push(Object::Queue(name.clone()?))?,
-        Part::Of { .. } | Part::MoreThan { .. } => {}
-    }
-    Ok(())
-}
-
+/// Adds the objects that the parts of a condition name.
 fn push_objects(objects: &mut Vec<Object>, parts: &[Part]) -> Result<(), AllocError>
     ensures objects { OnOk result
         (objects.new.items ≡ objects.old.items ++ flat_map objects_in parts.now) }
 {
     for part in parts {
-        push_object(objects, part)?;
+        match part {
+            Part::Semaphore { name, .. } => objects.push(Object::Semaphore(name.clone()?))?,
+            Part::Queue { name, .. } => objects.push(Object::Queue(name.clone()?))?,
+            Part::Of { .. } | Part::MoreThan { .. } => {}
+        }
     }
     Ok(())
 }
@@ -66,18 +57,6 @@ fn all_named(alloc: Global, conditions: &[Never]) -> Result<Vec<Object>, AllocEr
     Ok(objects)
 }
 
-fn push_new(objects: &mut Vec<Object>, object: &Object) -> Result<(), AllocError>
-    ensures added { OnOk result
-        (AddsNew objects.old.items object.now objects.new.items) }
-{
-    if objects.contains(object) {
-        return Ok(());
-    }
-    let copy = object.clone()?;
-    objects.push(copy)?;
-    Ok(())
-}
-
 /// The objects that conditions name, each once, in the order in which they first do.
 pub(crate) fn named_in(alloc: Global, conditions: &[Never]) -> Result<Vec<Object>, AllocError>
     ensures all { IfOk result (λ objects. All (Contains objects.items) (named conditions.now)) }
@@ -88,7 +67,10 @@ pub(crate) fn named_in(alloc: Global, conditions: &[Never]) -> Result<Vec<Object
     let repeated = all_named(alloc, conditions)?;
     let mut objects = Vec::new(alloc);
     for object in &repeated {
-        push_new(&mut objects, object)?;
+        if objects.contains(object) {
+            continue;
+        }
+        objects.push(object.clone()?)?;
     }
     Ok(objects)
 }
