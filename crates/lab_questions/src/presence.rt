@@ -4,7 +4,7 @@ ghost use Rattle.lab_worlds.specs.Calls.{Alongside};
 ghost use Rattle.lab_conditions.specs.declared.never.Never.{Never as Asking};
 ghost use Rattle.lab_questions.specs.declared.object.Object.{Object as Seen};
 ghost use Rattle.lab_questions.specs.Objects.{named, presence, StandsBefore};
-ghost use Rattle.lab_questions.specs.Private.Presences.{AsksFor, AddsUnseen, IsUnseen};
+ghost use Rattle.lab_questions.specs.Private.Presences.{AsksFor, IsUnseen};
 
 use crate::Object;
 use crate::object::named_in;
@@ -33,27 +33,16 @@ fn part_of(object: &Object) -> Result<Part, AllocError>
     }
 }
 
-/// The condition that holds of each world which has an object.
-fn presence_of(alloc: Global, object: &Object) -> Result<Never, AllocError>
-    ensures asks { IfOk result (λ condition. AsksFor object.now condition) }
-{
-    let mut parts = Vec::new(alloc);
-    let part = part_of(object)?;
-    parts.push(part)?;
-    Ok(Never::Holds(Condition {
-        text: String::new(alloc),
-        parts,
-    }))
-}
-
 /// For each object, in order, the condition that holds of each world which has it.
 fn presences_of(alloc: Global, objects: &[Object]) -> Result<Vec<Never>, AllocError>
     ensures asks { IfOk result (λ conditions. Alongside AsksFor objects.now conditions.items) }
 {
     let mut conditions = Vec::with_capacity(alloc, objects.len())?;
     for object in objects {
-        let condition = presence_of(alloc, object)?;
-        conditions.push(condition)?;
+        let part = part_of(object)?;
+        let parts = vec![in alloc; part]?;
+        let text = String::new(alloc);
+        conditions.push(Never::Holds(Condition { text, parts }))?;
     }
     Ok(conditions)
 }
@@ -77,23 +66,6 @@ pub(crate) fn watch(alloc: Global, conditions: &mut Vec<Never>) -> Result<Vec<Ob
     Ok(objects)
 }
 
-fn push_unseen(
-    unseen: &mut Vec<Object>,
-    object: &Object,
-    schedule: &Option<Schedule>,
-) -> Result<(), AllocError>
-    ensures added { OnOk result
-        (AddsUnseen unseen.old.items object.now schedule.now unseen.new.items) }
-{
-    match schedule {
-        Some(_) => Ok(()),
-        None => {
-            unseen.push(object.clone()?)?;
-            Ok(())
-        }
-    }
-}
-
 fn unseen(
     alloc: Global,
     objects: &[Object],
@@ -108,7 +80,11 @@ fn unseen(
 {
     let mut unseen = Vec::new(alloc);
     for number in 0..objects.len().min(seen.len()) {
-        push_unseen(&mut unseen, &objects[number], &seen[number])?;
+        let object = &objects[number];
+        match &seen[number] {
+            Some(_) => {}
+            None => unseen.push(object.clone()?)?,
+        }
     }
     Ok(unseen)
 }

@@ -1,10 +1,11 @@
-use Rattle.std.proofs.Common.{ℕ, ◌≡◌, ◌<◌, ◌+◌, Some, None, All, Contains, get_or, length, slice_get, below_more, inl, inr, arith, ap, subst, sym, ◌∙◌}
+use Rattle.std.proofs.Common.{ℕ, ◌≡◌, ◌<◌, ◌+◌, Some, None, All, Contains, get_or, length, slice_get, below_more, inl, inr, arith, ap, rules, subst, sym, ◌∙◌}
 use Rattle.std.proofs.lemmas.List.Elements.{All-contains, Contains-get_or}
 use Rattle.std.proofs.lemmas.Option.{slice_get-get_or, slice_get_within}
 use Rattle.lab_questions.specs.declared.object.Object.{Object}
 use Rattle.lab_questions.specs.Objects.{StandsBefore}
-use Rattle.lab_questions.specs.Private.Presences.{IsUnseen}
+use Rattle.lab_questions.specs.Private.Presences.{AddsUnseen, IsUnseen}
 use Rattle.lab_questions.proofs.OrderLemmas.{behind_all, unseen_new, unseen_old, unseen_only, unseen_order, unseen_within}
+use Rattle.lab_questions.proofs.presence.unseen.Goals.{in-Some, in-None+in_ok-clone-in-None+in_ok-push-in-None}
 use Rattle.lab_questions.proofs.presence.unseen.Goals as goal
 
 pub loop-number-preserved : goal.loop-number-preserved
@@ -13,10 +14,13 @@ loop-number-preserved c =
     let seen = c.args.seen.now in
     let n = c.loop-number.number in
     let olds = c.loop-number.unseen.items in
-    let news = c.push_unseen.new.unseen.items in
+    let news = c.match-seen-number.unseen.items in
     let object = c.index-objects-number.result in
     let schedule = c.index-seen-number.result in
-    let adds = c.in_ok-push_unseen.ensures.added in
+    let adds : AddsUnseen olds object schedule news = elim c.match-seen-number.branch [
+      | in-Some w ↦ subst (λ s. AddsUnseen olds object s news) (sym w.in-Some.is) (ap (λ v. v.items) w.unseen-is)
+      | in-None+in_ok-clone-in-None+in_ok-push-in-None w ↦ subst (λ s. AddsUnseen olds object s news) (sym w.in-None.is) (search rules)
+    ] in
     let object_within : n < length objects = omega (arith, c.loop-number-test.true) in
     let seen_within : n < length seen = omega (arith, c.loop-number-test.true) in
     let object_at : slice_get objects n ≡ Some object = slice_get-get_or objects n object object_within ∙ ap Some (sym c.index-objects-number.is) in
