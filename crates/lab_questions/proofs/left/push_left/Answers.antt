@@ -1,8 +1,17 @@
-use Rattle.std.proofs.Common.{◌<◌, Some, ◌++◌, ap, ap₂, sym, ◌∙◌, arith, length, map, string_bytes}
+use Rattle.std.proofs.Common.{◌<◌, Some, ◌++◌, ap, ap₂, sym, ◌∙◌, arith, length, map, rules, string_bytes}
 use Rattle.std.proofs.lemmas.List.{get_or-map, length-map}
 use Rattle.std.proofs.lemmas.Option.{slice_get-get_or}
 use Rattle.lab_texts.proofs.RowLemmas.{flat_map-next}
+use Rattle.lab_questions.specs.Orders.{in_order}
+use Rattle.lab_questions.proofs.Ordered.{sorted_texts}
 use Rattle.lab_questions.proofs.left.push_left.Goals as goal
+
+pub loop-part-init : goal.loop-part-init
+loop-part-init c = record {
+  order = ap (map string_bytes) c.deref-part-items.ensures.value ∙ sorted_texts c.in_ok-texts.texts.items c.sort.new.self.items c.sort.ensures.permutation c.in_ok-sort.ensures.sorted
+      ∙ ap in_order c.in_ok-texts.ensures.texts;
+  text = search rules;
+}
 
 pub loop-part-preserved : goal.loop-part-preserved
 loop-part-preserved c =
