@@ -1,5 +1,5 @@
 -- Places in the order of the lines of their messages.
-use Rattle.std.proofs.Common.{ℕ, zero, suc, ◌≡◌, ◌+◌, ◌==◌, true, false, not, cond, List, [], ◌∷◌, insert, length, map, Result, Ok, Err, OnOk, string_bytes, refl, subst, sym, ap, ◌∙◌, arith}
+use Rattle.std.proofs.Common.{ℕ, zero, suc, ◌≡◌, ◌+◌, ◌==◌, true, false, not, cond, List, [], ◌∷◌, insert, length, map, string_bytes, refl, subst, sym, ap, ◌∙◌, arith}
 use Rattle.std.proofs.lemmas.Bool.Decides.{nat_tests}
 use Rattle.ipc_kernel.specs.declared.place.Place.{Place}
 use Rattle.ipc_kernel.specs.Kernel.{KernelState}
@@ -56,14 +56,6 @@ puts-more k n olds i left lines place some for = λ ps these.
       lines = map-insert told olds i left ∙ ap (λ ts. insert ts i (told left)) these.lines ∙ ap (λ t. insert (map left_lines ps) i t) lines
           ∙ sym (map-insert left_lines ps i p) ∙ ap (map left_lines) put;
     }
-
--- the same, where there was memory for it
-pub put_told : {X E : Type 0} (r : Result X E) (k : KernelState) (n : ℕ) (olds news : List Left) (left : Left) → string_bytes left.lines ≡ left_lines (place_at k.places n)
-    → left.place ≡ n → is_text (left_lines (place_at k.places n)) ≡ true
-    → OnOk r ((i : ℕ) × IsFor (string_bytes left.lines) (map (λ l. string_bytes l.lines) olds) i × (news ≡ insert olds i left)) → OnOk r (PutsLeft k n olds news)
-put_told (Ok x) k n olds news left lines place some put =
-    subst (PutsLeft k n olds) (sym put.2) (puts-more k n olds put.0 left lines place some put.1)
-put_told (Err e) k n olds news left lines place some put = put
 
 -- at first there is none
 pub lefts-none : (k : KernelState) → AreLeft k 0 []

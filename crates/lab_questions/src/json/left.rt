@@ -1,12 +1,11 @@
 //! Messages that are left, as JSON.
-ghost use Rattle.std.specs.Prelude.{ℕ, ◌≡◌, false, true, Some, OnOk, IfOk, IsTrue, map, insert, string_bytes};
+ghost use Rattle.std.specs.Prelude.{◌≡◌, Some, IfOk, map, string_bytes};
 ghost use Rattle.std.specs.Option.{option_copied};
 ghost use Rattle.ipc_kernel.specs.Limits.{object_places};
 ghost use Rattle.ipc_kernel.specs.Places.{place_at};
-ghost use Rattle.lab_questions.specs.Left.{is_text};
 ghost use Rattle.lab_questions.specs.LeftMembers.{place_json, left_json};
 ghost use Rattle.lab_questions.specs.ProcessMembers.{name_or_null, word_json, message_json};
-ghost use Rattle.lab_questions.specs.Private.Lefts.{IsFor, AreLeft, PutsLeft};
+ghost use Rattle.lab_questions.specs.Private.Lefts.{IsFor, AreLeft};
 
 use crate::json::values::{Array, Listed, Text, WordValue};
 use crate::left::left_lines;
@@ -113,47 +112,18 @@ fn index_for(lefts: &[Left], lines: &str) -> usize
     lefts.len()
 }
 
-/// Puts a place among others that are in the order of their lines.
-fn insert_left(lefts: &mut Vec<Left>, left: Left) -> Result<(), AllocError>
-    ensures put { OnOk result ((i : ℕ)
-        × IsFor (string_bytes left.lines) (map (λ l. string_bytes l.lines) lefts.old.items) i
-        × (lefts.new.items ≡ insert lefts.old.items i left)) }
-{
-    let at = index_for(lefts, &left.lines);
-    lefts.insert(at, left)?;
-    Ok(())
-}
-
-#[tactic(auto, using(crate::proofs::LeftOrder::text_is))]
-fn has_text(lines: &String) -> bool
-    ensures some { IsTrue result → is_text (string_bytes lines.now) ≡ true }
-    ensures none { result ≡ false → is_text (string_bytes lines.now) ≡ false }
-{
-    !lines.as_bytes().is_empty()
-}
-
-/// Puts a place among others that are in the order of their lines, if messages are left in it.
-fn put_left(
-    alloc: Global,
-    lefts: &mut Vec<Left>,
-    kernel: &Kernel,
-    place: u8,
-) -> Result<(), AllocError>
-    ensures put { OnOk result (PutsLeft kernel.now place lefts.old.items lefts.new.items) }
-{
-    let lines = left_lines(alloc, kernel, place)?;
-    if !has_text(&lines) {
-        return Ok(());
-    }
-    insert_left(lefts, Left { lines, place })
-}
-
+/// The places in which messages are left, in the order of their lines.
 fn lefts_of(alloc: Global, kernel: &Kernel) -> Result<Vec<Left>, AllocError>
     ensures lefts { IfOk result (λ lefts. AreLeft kernel.now object_places lefts.items) }
 {
     let mut lefts = Vec::new(alloc);
     for place in 0..OBJECT_PLACES as u8 {
-        put_left(alloc, &mut lefts, kernel, place)?;
+        let lines = left_lines(alloc, kernel, place)?;
+        if lines.is_empty() {
+            continue;
+        }
+        let at = index_for(&lefts, &lines);
+        lefts.insert(at, Left { lines, place })?;
     }
     Ok(lefts)
 }

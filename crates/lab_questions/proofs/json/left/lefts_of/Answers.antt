@@ -1,11 +1,31 @@
-use Rattle.std.proofs.Common.{subst, sym}
-use Rattle.lab_questions.specs.Private.Lefts.{AreLeft}
-use Rattle.lab_questions.proofs.LeftOrder.{lefts-none, lefts-next}
+use Rattle.std.proofs.Common.{◌≡◌, ◌∙◌, ap, arith, false, map, refl, string_bytes, subst, sym, true}
+use Rattle.ipc_kernel.specs.Places.{place_at}
+use Rattle.std.proofs.lemmas.Grind.{common_steps}
+use Rattle.lab_questions.specs.Left.{is_text, left_lines}
+use Rattle.lab_questions.specs.Private.Lefts.{IsFor, AreLeft, PutsLeft}
+use Rattle.lab_questions.proofs.LeftOrder.{lefts-none, lefts-next, puts-more, puts-none, text_is}
 use Rattle.lab_questions.proofs.json.left.lefts_of.Goals as goal
 
 pub loop-place-init : goal.loop-place-init
 loop-place-init c = subst (AreLeft c.args.kernel.now 0) (sym c.new-lefts.ensures.items) (lefts-none c.args.kernel.now)
 
+pub loop-place-preserved-then-is_empty : goal.loop-place-preserved-then-is_empty
+loop-place-preserved-then-is_empty c =
+    let k = c.args.kernel.now in
+    let olds = c.loop-place.lefts.items in
+    let none : is_text (left_lines (place_at k.places c.loop-place.place)) ≡ false = sym (ap is_text c.in_ok-lines.ensures.lines) ∙ grind (arith, text_is, common_steps) in
+    lefts-next k c.loop-place.place olds olds (puts-none k c.loop-place.place olds none) c.loop-place.invariant
+
 pub loop-place-preserved : goal.loop-place-preserved
 loop-place-preserved c =
-    lefts-next c.args.kernel.now c.loop-place.place c.loop-place.lefts.items c.put_left.new.lefts.items c.in_ok-put_left.ensures.put c.loop-place.invariant
+    let k = c.args.kernel.now in
+    let place = c.loop-place.place in
+    let olds = c.loop-place.lefts.items in
+    let lines = c.in_ok-lines.lines in
+    let some : is_text (left_lines (place_at k.places place)) ≡ true = sym (ap is_text c.in_ok-lines.ensures.lines) ∙ grind (arith, text_is, common_steps) in
+    let at : IsFor (string_bytes lines) (map (λ l. string_bytes l.lines) olds) c.index_for-at.result =
+    subst (λ ls. IsFor (string_bytes lines) (map (λ l. string_bytes l.lines) ls) c.index_for-at.result) c.deref.ensures.value
+    (subst (λ t. IsFor t (map (λ l. string_bytes l.lines) c.deref.result.now) c.index_for-at.result) c.deref-in-loop-place.ensures c.index_for-at.ensures.index) in
+    lefts-next k place olds c.insert.new.self.items
+    (subst (PutsLeft k place olds) (sym c.in_ok-insert.ensures.items) (puts-more k place olds c.index_for-at.result (record { lines = lines; place = place }) c.in_ok-lines.ensures.lines refl some at))
+    c.loop-place.invariant
