@@ -115,22 +115,22 @@ extent_row search limits limit unit worlds =
     ++ (codes ",\"" ++ (unit ++ (codes "\":" ++ decimal worlds))))))))
 
 -- the same, member by member
-pub extent_told : (text next : List ℕ) (found : Exploration) (reach : Reach) (limit : Option LimitMet) (search limits unit : List ℕ)
+pub extent_told : (next : List ℕ) (found : Exploration) (reach : Reach) (limit : Option LimitMet) (search limits unit : List ℕ)
     → search ≡ extent_text found.complete → limits ≡ array_json (map name_json (limits_met found reach.limits reach.is_stage reach.walks)) → unit ≡ unit_text reach.walks
-    → next ≡ text ++ extent_row search limits (limit_json limit) unit found.worlds → next ≡ text ++ codes "{" ++ values_json (extent_members found reach limit)
+    → next ≡ extent_row search limits (limit_json limit) unit found.worlds → next ≡ codes "{" ++ values_json (extent_members found reach limit)
 unfolding extent_members
-extent_told text next found reach limit search limits unit s l u told =
+extent_told next found reach limit search limits unit s l u told =
     let met = array_json (map name_json (limits_met found reach.limits reach.is_stage reach.walks)) in
     told
-    ∙ ap (λ v. text ++ extent_row v limits (limit_json limit) unit found.worlds) s
-    ∙ ap (λ v. text ++ extent_row (extent_text found.complete) v (limit_json limit) unit found.worlds) l
-    ∙ ap (λ v. text ++ extent_row (extent_text found.complete) met (limit_json limit) v found.worlds) u
-    ∙ sym (around text (codes "{") (codes ",") (member (codes "search") (name_json (extent_text found.complete))) (member (codes "limits") met)
+    ∙ ap (λ v. extent_row v limits (limit_json limit) unit found.worlds) s
+    ∙ ap (λ v. extent_row (extent_text found.complete) v (limit_json limit) unit found.worlds) l
+    ∙ ap (λ v. extent_row (extent_text found.complete) met (limit_json limit) v found.worlds) u
+    ∙ sym (around (codes "{") (codes ",") (member (codes "search") (name_json (extent_text found.complete))) (member (codes "limits") met)
     (member (codes "limit") (limit_json limit)) (codes "\"") (unit_text reach.walks) (codes "\":") (decimal found.worlds))
   where
-    around : (t o k a b c q u w n : List ℕ) → t ++ o ++ (a ++ (k ++ b ++ (k ++ c ++ (k ++ (q ++ u ++ w ++ n) ++ []))))
-        ≡ t ++ (o ++ (a ++ (k ++ (b ++ (k ++ (c ++ (k ++ (q ++ (u ++ (w ++ n))))))))))
-    around t o k a b c q u w n = simp (append_assoc, append-nil)
+    around : (o k a b c q u w n : List ℕ) → o ++ (a ++ (k ++ b ++ (k ++ c ++ (k ++ (q ++ u ++ w ++ n) ++ []))))
+        ≡ o ++ (a ++ (k ++ (b ++ (k ++ (c ++ (k ++ (q ++ (u ++ (w ++ n)))))))))
+    around o k a b c q u w n = simp (append_assoc, append-nil)
 
 -- what was found, member by member
 pub found_told : (text : List ℕ) (a : Answers) → text ++ further_json (found_members a)

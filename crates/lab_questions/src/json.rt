@@ -1,9 +1,9 @@
 //! The answers as one object.
 ghost use Rattle.std.specs.Prelude.{◌≡◌, ◌++◌, IfOk, OnOk, codes, map, string_bytes};
 ghost use Rattle.std.specs.Option.{option_copied};
-ghost use Rattle.lab_questions.specs.Findings.{unit_text, extent_members, found_members, answers_line};
+ghost use Rattle.lab_questions.specs.Findings.{found_members, answers_line};
 ghost use Rattle.lab_questions.specs.Members.{last_members};
-ghost use Rattle.lab_questions.specs.Values.{array_json, further_json, member, values_json};
+ghost use Rattle.lab_questions.specs.Values.{array_json, further_json, member};
 
 mod closing;
 mod ends;
@@ -21,41 +21,8 @@ use crate::json::reasons::limits_json;
 use crate::json::values::{Array, Quoted, Truth};
 use crate::lines::extent_of;
 use crate::{Answers, LimitMet, Reach};
-use lab_worlds::{Exploration, Walks};
 use std::alloc::{AllocError, Global};
 use std::fmt::Write;
-
-/// What is counted: worlds, or walks in their place.
-fn unit_of(walks: Option<Walks>) -> &'static str
-    ensures text { result.now ≡ unit_text walks }
-{
-    match walks {
-        Some(_) => "walks",
-        None => "worlds",
-    }
-}
-
-/// Begins the object with how far the exploration went.
-fn push_extent(
-    text: &mut String,
-    found: &Exploration,
-    reach: Reach,
-    limit: Option<&LimitMet>,
-) -> Result<(), AllocError>
-    ensures text { OnOk result (string_bytes text.new ≡ string_bytes text.old
-        ++ codes "{" ++ values_json (extent_members found.now reach (option_copied limit.entry))) }
-{
-    let search = Quoted(extent_of(found.complete));
-    let limits = limits_json(found, reach);
-    let limit = Limit(limit);
-    let unit = unit_of(reach.walks);
-    let count = found.worlds;
-    write!(
-        text,
-        "{{\"search\":{search},\"limits\":{limits},\"limit\":{limit},\"{unit}\":{count}"
-    )?;
-    Ok(())
-}
 
 fn push_array(text: &mut String, name: &str, values: Vec<String>) -> Result<(), AllocError>
     ensures text { OnOk result (string_bytes text.new ≡ string_bytes text.old
@@ -114,8 +81,18 @@ pub fn answers_json(
     ensures line { IfOk result (λ line.
         string_bytes line ≡ answers_line answers.now reach (option_copied limit.entry)) }
 {
-    let mut text = String::new(alloc);
-    push_extent(&mut text, &answers.exploration, reach, limit)?;
+    let found = &answers.exploration;
+    let search = Quoted(extent_of(found.complete));
+    let limits = limits_json(found, reach);
+    let limit = Limit(limit);
+    let unit = match reach.walks {
+        Some(_) => "walks",
+        None => "worlds",
+    };
+    let count = found.worlds;
+    let mut text = format!(in alloc;
+        "{{\"search\":{search},\"limits\":{limits},\"limit\":{limit},\"{unit}\":{count}"
+    )?;
     push_found(alloc, &mut text, answers)?;
     push_last(alloc, &mut text, answers)?;
     Ok(text)
