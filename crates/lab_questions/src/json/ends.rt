@@ -4,7 +4,7 @@ ghost use Rattle.lab_sched.specs.Held.{process_view};
 ghost use Rattle.lab_texts.specs.Texts.{place_text};
 ghost use Rattle.lab_questions.specs.Findings.{end_json, end_or_null, ends_told};
 ghost use Rattle.lab_questions.specs.LeftMembers.{left_members};
-ghost use Rattle.lab_questions.specs.ProcessMembers.{process_json, status_word, stop_member};
+ghost use Rattle.lab_questions.specs.ProcessMembers.{process_json, stop_member};
 ghost use Rattle.lab_questions.specs.Values.{further_json, name_json};
 
 use crate::Show;
@@ -35,17 +35,6 @@ impl fmt::Display for Place<'_> {
         } else {
             write!(f, "\"-\"")
         }
-    }
-}
-
-/// The status of a process, in a word.
-fn status_name(process: &Process) -> &'static str
-    ensures text { result.now ≡ status_word (process_view process.now) }
-{
-    match process {
-        Process::Running(_) => "running",
-        Process::Waiting(_, _) => "waiting",
-        Process::Ended(_) => "ended",
     }
 }
 
@@ -83,7 +72,11 @@ impl fmt::Display for ProcessValue<'_> {
         if self.out {
             return write!(f, "{{\"out\":{output}}}");
         }
-        let status = Quoted(status_name(self.process));
+        let status = Quoted(match self.process {
+            Process::Running(_) => "running",
+            Process::Waiting(_, _) => "waiting",
+            Process::Ended(_) => "ended",
+        });
         let pc = WordValue(machine.pc());
         let stop = Stop(self.process);
         write!(
