@@ -1,5 +1,5 @@
 //! Reading what is asked of calls.
-ghost use Rattle.std.specs.Prelude.{◌≡◌, ◌<◌, ◌≤◌, ◌++◌, ◌∷◌, [], None, true, false, IfOk, IfSome, OnOk, codes, flat_map, length, map};
+ghost use Rattle.std.specs.Prelude.{◌≡◌, ◌++◌, ◌∷◌, [], true, false, IfOk, IfSome, codes, flat_map, map};
 ghost use Rattle.lc3_word.specs.Blanks.{words_between};
 ghost use Rattle.lab_questions.specs.CallWords.{call_count, kind_words, without, Say, SayOf, Asks, forbids};
 ghost use Rattle.lab_ways.specs.declared.wanted.Pattern.{Pattern as Calls};
@@ -50,18 +50,6 @@ fn kind_in(alloc: Global, words: &[&[u8]]) -> Result<Option<CallKind>, AllocErro
     }
 }
 
-/// How many words of those that are left are of the first kind: with an object two.
-fn kind_length(words: &[&[u8]]) -> usize
-    requires some { 0 < length words.now }
-    ensures some { 0 < result }
-    ensures within { result ≤ length words.now }
-{
-    match words.get(1) {
-        Some(word) if word.starts_with(b"/") => 2,
-        _ => 1,
-    }
-}
-
 /// Kinds of calls, one behind the other, where there is one.
 fn kinds_in(alloc: Global, words: &[&[u8]]) -> Result<Option<Vec<CallKind>>, AllocError>
     ensures words { IfOk result (λ read. IfSome read (λ kinds.
@@ -73,7 +61,10 @@ fn kinds_in(alloc: Global, words: &[&[u8]]) -> Result<Option<Vec<CallKind>>, All
     let mut kinds = Vec::new(alloc);
     let mut rest = words;
     while !rest.is_empty() {
-        let count = kind_length(rest);
+        let count = match rest.get(1) {
+            Some(word) if word.starts_with(b"/") => 2,
+            _ => 1,
+        };
         let Some(kind) = kind_in(alloc, &rest[..count])? else {
             return Ok(None);
         };
@@ -97,24 +88,15 @@ fn names_in(alloc: Global, words: &[&[u8]]) -> Result<Option<Vec<Name>>, AllocEr
     Ok(Some(names))
 }
 
-fn push_other<'a>(words: &mut Vec<&'a [u8]>, name: &str, word: &'a [u8]) -> Result<(), AllocError>
-    ensures added { OnOk result (map (λ w. w.now) words.new.items
-        ≡ map (λ w. w.now) words.old.items ++ without name.now (word.now ∷ [])) }
-{
-    if name.as_bytes() == word {
-        return Ok(());
-    }
-    words.push(word)?;
-    Ok(())
-}
-
 fn without<'a>(alloc: Global, name: &str, words: &[&'a [u8]]) -> Result<Vec<&'a [u8]>, AllocError>
     ensures words { IfOk result (λ found. map (λ word. word.now) found.items
         ≡ without name.now (map (λ word. word.now) words.now)) }
 {
     let mut found = Vec::new(alloc);
     for word in words {
-        push_other(&mut found, name, word)?;
+        if name.as_bytes() != *word {
+            found.push(*word)?;
+        }
     }
     Ok(found)
 }
@@ -124,16 +106,6 @@ pub fn call_count(word: &[u8]) -> Option<u32>
     ensures count { result ≡ call_count word.now }
 {
     unsigned(10, word).filter(|count| 1 <= *count && *count <= MOST_CALLS)
-}
-
-/// So many calls of a kind, where the number is one that can be asked for.
-fn counted(kind: CallKind, number: &[u8]) -> Option<Pattern>
-    ensures pattern { IfSome result (λ pattern.
-        Say (codes "calls" ∷ kind_words kind ++ codes ">=" ∷ number.now ∷ []) pattern) }
-    ensures forbids { IfSome result (λ pattern. forbids pattern ≡ false) }
-{
-    let count = call_count(number)?;
-    Some(Pattern::AtLeast(kind, count))
 }
 
 /// The words before `>= N` at the end of some, and N.
@@ -154,42 +126,16 @@ fn often(alloc: Global, words: &[&[u8]]) -> Result<Option<Pattern>, AllocError>
         Say (codes "calls" ∷ map (λ word. word.now) words.now) pattern)) }
     ensures forbids { IfOk result (λ read. IfSome read (λ pattern. forbids pattern ≡ false)) }
 {
-    if let Some((call, number)) = count_behind(words) {
-        return often_counted(alloc, call, number);
-    }
-    match kind_in(alloc, words)? {
-        Some(kind) => Ok(Some(Pattern::AtLeast(kind, 1))),
-        None => Ok(None),
-    }
-}
-
-fn often_counted(
-    alloc: Global,
-    call: &[&[u8]],
-    number: &[u8],
-) -> Result<Option<Pattern>, AllocError>
-    ensures pattern { IfOk result (λ read. IfSome read (λ pattern.
-        Say (codes "calls" ∷ map (λ word. word.now) call.now ++ codes ">=" ∷ number.now ∷ [])
-        pattern)) }
-    ensures forbids { IfOk result (λ read. IfSome read (λ pattern. forbids pattern ≡ false)) }
-{
-    match kind_in(alloc, call)? {
-        Some(kind) => Ok(counted(kind, number)),
-        None => Ok(None),
-    }
-}
-
-/// The semaphores that are held, by the words behind `holds`.
-fn together(alloc: Global, words: &[&[u8]]) -> Result<Option<Pattern>, AllocError>
-    ensures pattern { IfOk result (λ read. IfSome read (λ pattern.
-        Say (codes "holds" ∷ map (λ word. word.now) words.now) pattern)) }
-    ensures forbids { IfOk result (λ read. IfSome read (λ pattern. forbids pattern ≡ false)) }
-{
-    let words = without(alloc, "and", words)?;
-    if words.is_empty() || words.len() > MOST_NAMES {
+    let Some((call, number)) = count_behind(words) else {
+        return Ok(kind_in(alloc, words)?.map(|kind| Pattern::AtLeast(kind, 1)));
+    };
+    let Some(kind) = kind_in(alloc, call)? else {
         return Ok(None);
+    };
+    match call_count(number) {
+        Some(count) => Ok(Some(Pattern::AtLeast(kind, count))),
+        None => Ok(None),
     }
-    Ok(names_in(alloc, &words)?.map(Pattern::Together))
 }
 
 /// What must be so.
@@ -204,7 +150,13 @@ fn required_in(alloc: Global, words: &[&[u8]]) -> Result<Option<Pattern>, AllocE
             Ok(kinds_in(alloc, kinds)?.map(Pattern::InOrder))
         }
         [calls, rest @ ..] if is_word("calls", calls) => often(alloc, rest),
-        [holds, names @ ..] if is_word("holds", holds) => together(alloc, names),
+        [holds, names @ ..] if is_word("holds", holds) => {
+            let names = without(alloc, "and", names)?;
+            if names.is_empty() || names.len() > MOST_NAMES {
+                return Ok(None);
+            }
+            Ok(names_in(alloc, &names)?.map(Pattern::Together))
+        }
         _ => Ok(None),
     }
 }
