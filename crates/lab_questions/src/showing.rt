@@ -57,23 +57,6 @@ fn output_schedule(
     }
 }
 
-/// The text of the schedule that leads to a condition, by its number.
-fn reached_schedule(
-    alloc: Global,
-    reached: &[Option<Schedule>],
-    number: usize,
-) -> Result<Option<String>, AllocError>
-    ensures reached { IfOk result (λ shown. IfSome shown (λ text.
-        ShowsReached reached.now number (string_bytes text))) }
-    ensures none { IfOk result (λ shown. shown ≡ None → (s : List Block)
-        → slice_get reached.now number ≡ Some (Some s) → ⊥) }
-{
-    match reached.get(number) {
-        Some(Some(schedule)) => Ok(Some(schedule.text(alloc)?)),
-        _ => Ok(None),
-    }
-}
-
 /// The schedule of a lasso with its steps behind it, as one schedule, unless they are too many for one.
 pub fn through_round(alloc: Global, lasso: &Lasso) -> Result<Option<Schedule>, AllocError>
     ensures whole { IfOk result (λ read. IfSome read (λ whole.
@@ -87,18 +70,6 @@ pub fn through_round(alloc: Global, lasso: &Lasso) -> Result<Option<Schedule>, A
         Ok(whole) => Ok(Some(whole)),
         Err(SchedFault::NoMemory) => Err(AllocError),
         Err(SchedFault::BadBlock { .. }) | Err(SchedFault::TooLong { .. }) => Ok(None),
-    }
-}
-
-/// The text of that schedule.
-fn lasso_schedule(alloc: Global, lasso: &Lasso) -> Result<Option<String>, AllocError>
-    ensures lasso { IfOk result (λ shown. IfSome shown (λ text.
-        ShowsLasso lasso.now (string_bytes text))) }
-    ensures none { IfOk result (λ shown. shown ≡ None → IsTooLong lasso.now) }
-{
-    match through_round(alloc, lasso)? {
-        Some(whole) => Ok(Some(whole.text(alloc)?)),
-        None => Ok(None),
     }
 }
 
@@ -146,9 +117,15 @@ impl Answers {
             Some(Failure::Output(number)) => {
                 output_schedule(alloc, found, &self.output_faults, number)
             }
-            Some(Failure::Reached(number)) => reached_schedule(alloc, &found.reached, number),
+            Some(Failure::Reached(number)) => match found.reached.get(number) {
+                Some(Some(schedule)) => Ok(Some(schedule.text(alloc)?)),
+                _ => Ok(None),
+            },
             Some(Failure::Endless) => match &found.lasso {
-                Some(lasso) => lasso_schedule(alloc, lasso),
+                Some(lasso) => match through_round(alloc, lasso)? {
+                    Some(whole) => Ok(Some(whole.text(alloc)?)),
+                    None => Ok(None),
+                },
                 None => Ok(None),
             },
             Some(Failure::Call(number)) => way_schedule(alloc, &self.ways, number),
