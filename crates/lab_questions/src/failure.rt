@@ -1,5 +1,5 @@
 //! Why ends aren't as they are required to be.
-ghost use Rattle.std.specs.Prelude.{◌≡◌, ◌↔◌, false, Some, None, All, Any, IfSome, IsTrue, slice_get};
+ghost use Rattle.std.specs.Prelude.{◌≡◌, false, Some, None, All, Any, IfSome, IsTrue, slice_get};
 ghost use Rattle.lab_questions.specs.Programs.{AsksRest, Passes, IsEndless, IsUnmet, IsFailure};
 ghost use Rattle.lab_questions.specs.Called.{AreAlways, IsFailureOfAll};
 ghost use Rattle.lab_questions.specs.Private.CallFailures.{CallFails};
@@ -53,24 +53,13 @@ fn first_some<T>(all: &[Option<T>]) -> Option<usize>
     None
 }
 
-fn ask_rest(answers: &[Answer]) -> bool
-    ensures asked { IsTrue result ↔ Any (λ a. AsksRest a.word) answers.now }
-{
-    for answer in answers {
-        if answer.word.asks_rest() {
-            return true;
-        }
-    }
-    false
-}
-
 /// Whether some interleaving never ends, and a word asks that each run comes to rest.
 fn is_endless(found: &Exploration, answers: &[Answer]) -> bool
     ensures yes { IsTrue result → IsEndless found.now answers.now }
     ensures no { result ≡ false → Any (λ a. AsksRest a.word) answers.now
         → found.now.lasso ≡ None }
 {
-    found.lasso.is_some() && ask_rest(answers)
+    found.lasso.is_some() && answers.iter().any(|answer| answer.word.asks_rest())
 }
 
 /// Why an exploration doesn't show that each end is as it is required, and that nothing was reached, if it doesn't: what was found, or else what wasn't visited,
