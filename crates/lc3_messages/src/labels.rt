@@ -1,9 +1,7 @@
 //! The labels of a text: those that its lines define, those that faulty lines mean, and those behind its `.END`.
 use crate::words::upper;
 use indexmap::IndexMap;
-use lc3_asm::{
-    LineFault, Reader, Token, first_token, is_label, printable, token_operation, without_colon,
-};
+use lc3_asm::{Reader, Token, first_token, is_label, printable, token_operation, without_colon};
 use lc3_table::{Fault, Operation};
 use std::alloc::{AllocError, Global};
 
@@ -72,12 +70,6 @@ fn define_faulty(
     )
 }
 
-/// The fault of reading that a line has, from 1.
-fn fault_at(faults: &[LineFault], line: usize) -> Option<Fault> {
-    let i = faults.binary_search_by_key(&line, |fault| fault.line).ok()?;
-    faults.get(i).map(|fault| fault.kind)
-}
-
 pub(crate) fn labels_of(
     alloc: Global,
     lines: &[&str],
@@ -88,10 +80,13 @@ pub(crate) fn labels_of(
         meant: IndexMap::new(alloc),
         behind: IndexMap::new(alloc),
     };
+    let faults = reader.faults();
     for (i, line) in lines.iter().enumerate() {
         let number = i.saturating_add(1);
         let bytes = line.as_bytes();
-        let begun = match fault_at(reader.faults(), number) {
+        let at = faults.binary_search_by_key(&number, |fault| fault.line);
+        let fault = at.ok().and_then(|at| faults.get(at));
+        let begun = match fault.map(|fault| fault.kind) {
             _ if reader.lines().len() <= i => &mut labels.behind,
             None | Some(Fault::DuplicateLabel) => &mut labels.definitions,
             Some(_) => {

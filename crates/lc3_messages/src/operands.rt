@@ -37,31 +37,18 @@ impl fmt::Display for Count {
     }
 }
 
-/// What an operation takes, and how many operands stand here.
-fn other_count(place: Place<'_>) -> Result<String, AllocError> {
-    let word = place.part.word;
-    let second = place.parts.get(1);
-    if place.at == 0 && second.is_some_and(|second| second.is_operation()) {
-        return said_of(place.source.alloc, word, NO_LABEL_BUT_OPERATION);
+/// What may stand as each of these operands, behind a text.
+#[derive(Clone, Copy)]
+struct Forms(&'static [Form]);
+
+impl fmt::Display for Forms {
+    fn fmt<W: fmt::Write>(&self, f: &mut fmt::Formatter<W>) -> fmt::Result {
+        for (i, form) in self.0.iter().enumerate() {
+            let mark = if i == 0 { ":" } else { ";" };
+            write!(f, "{mark} {}", form_text(*form))?;
+        }
+        Ok(())
     }
-    let taken = place.forms.len();
-    let given = place.parts.len().saturating_sub(place.at.saturating_add(1));
-    let s = if taken == 1 { "" } else { "s" };
-    let are = if given > 1 { "are" } else { "is" };
-    let mut text = format!(in place.source.alloc;
-        "{} takes {} operand{s}, here {are} {}",
-        Excerpt(word),
-        Count(taken, "no"),
-        Count(given, "none")
-    )?;
-    for (i, form) in place.forms.iter().enumerate() {
-        text.push_str(if i == 0 { ": " } else { "; " })?;
-        text.push_str(form_text(*form))?;
-    }
-    if given > taken {
-        text.push_str(" (a comment begins with ;)")?;
-    }
-    Ok(text)
 }
 
 fn misplaced(alloc: Global, word: &str, said: &str, form: Form) -> Result<String, AllocError> {
@@ -69,10 +56,27 @@ fn misplaced(alloc: Global, word: &str, said: &str, form: Form) -> Result<String
 }
 
 pub(crate) fn bad_operands(place: Place<'_>) -> Result<String, AllocError> {
-    if place.at == operation_number(place.parts) {
-        return other_count(place);
-    }
+    let alloc = place.source.alloc;
     let word = place.part.word;
+    if place.at == operation_number(place.parts) {
+        let second = place.parts.get(1);
+        if place.at == 0 && second.is_some_and(|second| second.is_operation()) {
+            return said_of(alloc, word, NO_LABEL_BUT_OPERATION);
+        }
+        let taken = place.forms.len();
+        let given = place.parts.len().saturating_sub(place.at.saturating_add(1));
+        let s = if taken == 1 { "" } else { "s" };
+        let are = if given > 1 { "are" } else { "is" };
+        let hint = (given > taken).then_some(" (a comment begins with ;)");
+        return format!(in alloc;
+            "{} takes {} operand{s}, here {are} {}{}{}",
+            Excerpt(word),
+            Count(taken, "no"),
+            Count(given, "none"),
+            Forms(place.forms),
+            hint.unwrap_or("")
+        );
+    }
     let form = place.form();
     let (name, said) = if form == Form::Characters {
         (word, " is no string")
@@ -83,7 +87,7 @@ pub(crate) fn bad_operands(place: Place<'_>) -> Result<String, AllocError> {
     } else {
         (word, " is no register")
     };
-    misplaced(place.source.alloc, name, said, form)
+    misplaced(alloc, name, said, form)
 }
 
 pub(crate) fn bad_number(place: Place<'_>) -> Result<String, AllocError> {

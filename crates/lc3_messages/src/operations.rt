@@ -54,22 +54,6 @@ fn no_operation(alloc: Global, part: Part<'_>, meant: Option<&str>) -> Result<Re
     Ok(part.remark(text))
 }
 
-/// What is said of two words at the front of a line, the first of which was meant as this operation.
-fn two_words(
-    place: Place<'_>,
-    second: Part<'_>,
-    meant: Option<&str>,
-) -> Result<Remark, AllocError> {
-    let alloc = place.source.alloc;
-    let second_meant = operation_meant(alloc, second.word)?;
-    let line = line_of(alloc, &place.source.labels.definitions, second.word)?;
-    if meant.is_some() && (line.is_some() || second_meant.is_none()) {
-        no_operation(alloc, place.part, meant)
-    } else {
-        no_operation(alloc, second, second_meant)
-    }
-}
-
 /// What is said of an operand behind the first word of a line, which was meant as this operation.
 fn operand_behind(
     place: Place<'_>,
@@ -115,7 +99,13 @@ pub(crate) fn bad_operation(place: Place<'_>) -> Result<Remark, AllocError> {
     };
     match second.token {
         Token::Word(word) if !is_number(word) && !is_register(word) => {
-            two_words(place, second, meant)
+            let second_meant = operation_meant(alloc, second.word)?;
+            let line = line_of(alloc, &place.source.labels.definitions, second.word)?;
+            if meant.is_some() && (line.is_some() || second_meant.is_none()) {
+                no_operation(alloc, first, meant)
+            } else {
+                no_operation(alloc, second, second_meant)
+            }
         }
         _ => operand_behind(place, second, meant),
     }

@@ -101,21 +101,6 @@ fn report_of(file: &str, source: &Source<'_>, findings: &[Finding]) -> Result<Re
     counted(text, file, errors, warnings)
 }
 
-fn text_report(
-    alloc: Global,
-    file: &str,
-    content: &str,
-    wish: Wish<'_>,
-) -> Result<Report, AllocError>
-    ensures errors { IfOk result (λ r. (r.errors ≡ 0) ↔ IsTrue (is_accepted content.now)) }
-    ensures warnings { IfOk result (λ r. r.warnings ≡ length (told_warnings wish.entry.profile
-        (map (λ name. name.now) wish.entry.allowed.now) content.now)) }
-{
-    let source = source_of(alloc, content)?;
-    let findings = findings(&source, content, wish)?;
-    report_of(file, &source, &findings)
-}
-
 /// The report about bytes that are text up to this place, and no text behind it.
 fn no_text_report(
     alloc: Global,
@@ -164,7 +149,11 @@ pub fn report_on(
         → (r.errors ≡ 1) × (r.warnings ≡ 0)) }
 {
     match std::str::from_utf8(bytes) {
-        Ok(content) => text_report(alloc, file, content, wish),
+        Ok(content) => {
+            let source = source_of(alloc, content)?;
+            let findings = findings(&source, content, wish)?;
+            report_of(file, &source, &findings)
+        }
         Err(error) => no_text_report(alloc, file, bytes, error.valid_up_to()),
     }
 }

@@ -17,22 +17,17 @@ fn from_first_bad(text: &str) -> &str {
         .unwrap_or("")
 }
 
-fn unclosed(alloc: Global, text: &str) -> Result<String, AllocError> {
-    match text
-        .chars()
-        .find(|character| is_typographic_quote(*character))
-    {
-        Some(character) => format!(in alloc;
-            "this string has no end; a \" closes it, and U+{:04X} doesn't",
-            u32::from(character)
-        ),
-        None => String::from_str(alloc, "this string has no end; a \" closes it"),
-    }
-}
-
 pub(crate) fn bad_string(alloc: Global, part: Part<'_>) -> Result<Remark, AllocError> {
     let Token::Quoted(_) = part.token else {
-        return Ok(part.remark(unclosed(alloc, part.word)?));
+        let mut characters = part.word.chars();
+        let text = match characters.find(|character| is_typographic_quote(*character)) {
+            Some(quote) => format!(in alloc;
+                "this string has no end; a \" closes it, and U+{:04X} doesn't",
+                u32::from(quote)
+            ),
+            None => String::from_str(alloc, "this string has no end; a \" closes it"),
+        };
+        return Ok(part.remark(text?));
     };
     let last = part.word.len().saturating_sub(1);
     let bad = from_first_bad(part.word.get(1..last).unwrap_or(""));
