@@ -45,24 +45,6 @@ fn required_of<'a>(alloc: Global, words: &ArgMatches<'a>) -> Result<Requirements
     }
 }
 
-/// Whether `--show` has the words `out` and `left`.
-fn shown_of<'a>(alloc: Global, words: &ArgMatches<'a>) -> Result<(bool, bool), Refusal>
-    ensures report { IfOk result (λ shown.
-        first_value (found_of words.now) (codes "show") ≡ None
-        → (shown.0 ≡ false) × (shown.1 ≡ false)) }
-    ensures shown { IfOk result (λ shown. (text : List ℕ)
-        → first_value (found_of words.now) (codes "show") ≡ Some text
-        → AreShown (words_of text) shown.0 shown.1) }
-{
-    let Some(text) = words.get_str("show") else {
-        return Ok((false, false));
-    };
-    match shown_by(&words_of(alloc, text)?) {
-        Some(shown) => Ok(shown),
-        None => Err(Misuse::Value(text, "show", "WORDS").refusal(alloc)),
-    }
-}
-
 /// Which schedule the words name at an option of this name, if they name one.
 fn choice_of<'a>(
     alloc: Global,
@@ -130,7 +112,13 @@ fn question_of<'a>(alloc: Global, words: &ArgMatches<'a>) -> Result<Question<'a>
         → AreShown (words_of text) q.out q.left) }
 {
     let required = required_of(alloc, words)?;
-    let (out, left) = shown_of(alloc, words)?;
+    let (out, left) = match words.get_str("show") {
+        Some(text) => match shown_by(&words_of(alloc, text)?) {
+            Some(shown) => shown,
+            None => return Err(Misuse::Value(text, "show", "WORDS").refusal(alloc)),
+        },
+        None => (false, false),
+    };
     let random = number_of(words, "random");
     let schedule = choice_of(alloc, words, "schedule")?;
     let trace = choice_of(alloc, words, "trace")?;

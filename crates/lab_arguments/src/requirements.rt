@@ -1,7 +1,7 @@
 //! The words of `--require` and of `--show`.
-ghost use Rattle.std.specs.Prelude.{◌≡◌, ◌<◌, Bool, Option, None, IfOk, IfSome, map};
+ghost use Rattle.std.specs.Prelude.{◌≡◌, ◌<◌, Bool, None, IfOk, IfSome, map};
 ghost use Rattle.lab_arguments.specs.Pieces.{words_in};
-ghost use Rattle.lab_arguments.specs.Private.Requirements.{how_often, once_if, rest_counts, words_of, AreRequired, AreShown};
+ghost use Rattle.lab_arguments.specs.Private.Requirements.{how_often, once_if, words_of, AreRequired, AreShown};
 
 use crate::pieces::required_words;
 use std::alloc::{AllocError, Global};
@@ -81,22 +81,6 @@ fn stands(word: &str, words: &[&str]) -> Option<bool>
     }
 }
 
-/// How processes come to rest by the words that are there, if these say no more than one way.
-fn rest_of(ended: bool, stuck: bool, halted: bool) -> Option<Option<Rest>>
-    ensures some { IfSome result (λ rest.
-        (once_if ended, once_if stuck, once_if halted) ≡ rest_counts rest) }
-    ensures none { result ≡ None → (rest : Option Rest)
-        → (once_if ended, once_if stuck, once_if halted) ≡ rest_counts rest → ⊥ }
-{
-    match (ended, stuck, halted) {
-        (false, false, false) => Some(None),
-        (true, false, false) => Some(Some(Rest::Ended)),
-        (false, true, false) => Some(Some(Rest::Stuck)),
-        (false, false, true) => Some(Some(Rest::Halted)),
-        _ => None,
-    }
-}
-
 /// What words require, each of them once, and one of `ended`, `stuck` and `halted` at most.
 fn required_by(words: &[&str]) -> Option<Requirements>
     ensures some { IfSome result (λ r. AreRequired (map (λ w. w.now) words.now) r) }
@@ -108,7 +92,13 @@ fn required_by(words: &[&str]) -> Option<Requirements>
     let halted = stands("halted", words)?;
     let empty = stands("empty", words)?;
     let same = stands("same", words)?;
-    let rest = rest_of(ended, stuck, halted)?;
+    let rest = match (ended, stuck, halted) {
+        (false, false, false) => None,
+        (true, false, false) => Some(Rest::Ended),
+        (false, true, false) => Some(Rest::Stuck),
+        (false, false, true) => Some(Rest::Halted),
+        _ => return None,
+    };
     let known = usize::from(ended)
         + usize::from(stuck)
         + usize::from(halted)
