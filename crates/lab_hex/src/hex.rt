@@ -1,6 +1,6 @@
 //! Hexadecimal words as text.
 ghost use Rattle.std.specs.Prelude.{◌≡◌, ◌≢◌, Ok, Err, map, IfOk, IfErr};
-ghost use Rattle.lab_hex.specs.Hex.{digits_of, number_of, numbers_of, segment_of, image_of};
+ghost use Rattle.lab_hex.specs.Hex.{digits_of, number_of, numbers_of, image_of};
 
 use crate::fault::CliFault;
 use lc3_word::{Image, WHITE_SPACE, unsigned, words_between};
@@ -19,7 +19,13 @@ pub fn read_text(alloc: Global, text: &[u8]) -> Result<Image, CliFault>
 {
     let words = words_between(alloc, WHITE_SPACE, text)?;
     let numbers = read_numbers(alloc, words.as_slice())?;
-    to_image(alloc, numbers.as_slice())
+    match numbers.as_slice() {
+        [] => Err(CliFault::Empty),
+        [origin, words @ ..] => {
+            let words = words.to_vec(alloc)?;
+            Image::new(*origin, words).map_err(|_| CliFault::TooLong)
+        }
+    }
 }
 
 fn read_numbers(alloc: Global, words: &[&[u8]]) -> Result<Vec<u16>, CliFault>
@@ -57,19 +63,5 @@ fn after_mark(word: &[u8]) -> &[u8]
     match word {
         [b'x' | b'X', digits @ ..] => digits,
         _ => word,
-    }
-}
-
-/// The first number is the origin.
-fn to_image(alloc: Global, numbers: &[u16]) -> Result<Image, CliFault>
-    ensures ok { IfOk result (λ image. segment_of numbers.now ≡ Ok image) }
-    ensures err { IfErr result (λ e. e ≢ CliFault.NoMemory → segment_of numbers.now ≡ Err e) }
-{
-    match numbers {
-        [] => Err(CliFault::Empty),
-        [origin, words @ ..] => {
-            let words = words.to_vec(alloc)?;
-            Image::new(*origin, words).map_err(|_| CliFault::TooLong)
-        }
     }
 }

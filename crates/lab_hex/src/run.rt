@@ -1,5 +1,5 @@
 //! The run over hexadecimal words.
-ghost use Rattle.std.specs.Prelude.{◌≡◌, ◌≢◌, ◌≤◌, false, Some, string_bytes, IfOk, IfErr, OnOk, IfSome, IsOkAnd, length};
+ghost use Rattle.std.specs.Prelude.{◌≡◌, ◌≢◌, ◌≤◌, false, IfOk, IfErr, OnOk, IfSome, IsOkAnd, length};
 ghost use Rattle.std.specs.Io.KnownBytes.{Appends};
 ghost use Rattle.lab_hex.specs.Hex.{image_of};
 ghost use Rattle.lab_hex.specs.Run.{world_after, report_of};
@@ -38,22 +38,11 @@ fn run_alone(alloc: Global, image: Image) -> Result<World, CliFault>
     }
 }
 
-#[tactic(auto, using(crate::proofs::RunLemmas::fault_of_text))]
-fn report_on(alloc: Global, text: &[u8]) -> Result<String, CliFault>
-    ensures report { IfOk result
-        (λ report. IsOkAnd (image_of text.now) (λ image. string_bytes report ≡ report_of image)) }
-    ensures err { IfErr result (λ e. Explains e (Some text.now) false false) }
-{
-    let image = read_text(alloc, text)?;
-    let world = run_alone(alloc, image)?;
-    Ok(report_text(alloc, &world)?)
-}
-
 /// Reads the hexadecimal words of an image to the end of the input, steps it as process 0 until it ends or 100,000
 /// steps are done, and writes the report. The first fault is answered: `Read` or `TooLarge` while the input is read, then
 /// `BadWord`, `Empty` and `TooLong`, and `Write` last; `NoMemory` may come before any of them but `Read` and
 /// `TooLarge` that came earlier. How much was written before `Write` isn't said.
-#[tactic(auto, using(crate::proofs::RunLemmas::explained))]
+#[tactic(auto, using(crate::proofs::RunLemmas::fault_of_text, crate::proofs::RunLemmas::explained))]
 pub fn hex_run<R: Read, W: Write>(
     alloc: Global,
     input: &mut Input<R>,
@@ -73,7 +62,9 @@ pub fn hex_run<R: Read, W: Write>(
         (λ e. Explains e (R.remaining input.old.device) input.new.failed output.new.failed) }
 {
     let text = read_whole(alloc, input)?;
-    let report = report_on(alloc, text.as_slice())?;
+    let image = read_text(alloc, text.as_slice())?;
+    let world = run_alone(alloc, image)?;
+    let report = report_text(alloc, &world)?;
     output
         .write_all(report.as_bytes())
         .map_err(|_| CliFault::Write)
