@@ -46,15 +46,6 @@ impl Model for Book {
     ghost invariant = { λ b. BookInvariant b.kernel b.history.items b.waiting.items };
 }
 
-fn pending_call(call: Call, answer: &Answer) -> Option<Call>
-    ensures pending { result ≡ still call answer.now }
-{
-    match answer {
-        Answer::Wait => Some(call),
-        Answer::Done(_) => None,
-    }
-}
-
 /// Whether this answer to a call of a process has an entry, by whether the process waited for it.
 /// The try of a process that waits and must still wait has none.
 #[tactic(auto, using(crate::proofs::BookCalls::added_first, crate::proofs::BookCalls::added_done, crate::proofs::BookCalls::added_still))]
@@ -98,11 +89,14 @@ fn answer_with_entry(kernel: &mut Kernel, pid: usize, call: &Call) -> Result<Ans
     let waiting = clone_of(call)?;
     let written = clone_of(call)?;
     let (answer, copy) = kernel.call_with_copy(pid, call)?;
-    let pending = pending_call(waiting, &answer);
     let entry = Entry {
         pid,
         call: written,
         answer: copy,
+    };
+    let pending = match answer {
+        Answer::Wait => Some(waiting),
+        Answer::Done(_) => None,
     };
     Ok(Answered {
         answer,

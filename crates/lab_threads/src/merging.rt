@@ -1,5 +1,5 @@
 //! One list of the steps of all workers, in which the calls stand as in the history.
-ghost use Rattle.std.specs.Prelude.{◌≡◌, ◌+◌, ◌++◌, ◌^◌, ◌<◌, ◌≤◌, true, IfOk, IfSome, slice_index, length, replicate, IsTrue};
+ghost use Rattle.std.specs.Prelude.{◌≡◌, ◌+◌, ◌++◌, ◌^◌, ◌<◌, ◌≤◌, true, IfOk, IfSome, slice_index, length, replicate};
 ghost use Rattle.ipc_kernel.specs.Limits.{process_max};
 ghost use Rattle.lab_sched.specs.Schedules.{steps_of};
 ghost use Rattle.lab_threads.specs.Private.Merged.{IsFound, IsItem, AreCounted, HaveAllSteps, AreCallsMerged, CompletesMerge, LeadToResults};
@@ -8,13 +8,6 @@ use crate::worker_result::WorkerResult;
 use lab_sched::{Entry, MOST_STEPS, Schedule, TracedCall};
 use std::alloc::{AllocError, Global};
 
-fn is_entry(told: &TracedCall, entry: &Entry) -> bool
-    ensures call { IsTrue result → told.now.call ≡ entry.now.call }
-    ensures answer { IsTrue result → told.now.answer ≡ entry.now.answer }
-{
-    told.call == entry.call && told.answer == entry.answer
-}
-
 /// The number of local steps before the call that stands there, if it is the entry's.
 fn find(calls: &[TracedCall], at: usize, entry: &Entry) -> Option<u32>
     ensures found { IfSome result (λ n. IsFound calls.now at entry.now n) }
@@ -22,7 +15,7 @@ fn find(calls: &[TracedCall], at: usize, entry: &Entry) -> Option<u32>
     ensures few { IfSome result (λ n. n + 1 < 2 ^ 32) }
 {
     let told = calls.get(at)?;
-    if told.before < u32::MAX && is_entry(told, entry) {
+    if told.before < u32::MAX && told.call == entry.call && told.answer == entry.answer {
         Some(told.before)
     } else {
         None

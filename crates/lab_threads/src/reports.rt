@@ -1,20 +1,20 @@
 //! Runs on threads, and what they report.
-ghost use Rattle.std.specs.Prelude.{◌≡◌, ◌≤◌, ◌+◌, ℕ, List, All, true, IfOk, map, length, sum};
+ghost use Rattle.std.specs.Prelude.{◌≡◌, ◌≤◌, ◌+◌, List, All, true, IfOk, map, length, sum};
 ghost use Rattle.ipc_kernel.specs.Kernel.{empty_kernel};
 ghost use Rattle.ipc_kernel.specs.Limits.{process_max};
-ghost use Rattle.lab_sched.specs.Worlds.{HaveOneProfile, WorldState, run, entries};
-ghost use Rattle.lab_sched.specs.Execution.{AreEffective, IsExecution};
+ghost use Rattle.lab_sched.specs.Worlds.{HaveOneProfile, run, entries};
+ghost use Rattle.lab_sched.specs.Execution.{AreEffective};
 ghost use Rattle.lab_sched.specs.Finished.{IsFinished};
 ghost use Rattle.lab_sched.specs.Held.{process_view, IsHeld};
 ghost use Rattle.lab_sched.specs.History.{IsLegal, replay};
 ghost use Rattle.lab_sched.specs.Schedules.{steps_of, total_of, most_steps};
-ghost use Rattle.lab_sched.specs.Starts.{AreStarts, initial_world};
+ghost use Rattle.lab_sched.specs.Starts.{initial_world};
 ghost use Rattle.lab_sched.specs.Verdicts.{IsVerdict};
 ghost use Rattle.lab_sched.specs.declared.process.Process.{Process as ProcessValue};
 ghost use Rattle.lab_threads.specs.Limits.{most_steps_each};
 ghost use Rattle.lab_threads.specs.Private.WorkerResults.{AreWorkerResults};
 ghost use Rattle.lab_threads.specs.Private.Merged.{HaveAllSteps, LeadToResults};
-ghost use Rattle.lab_threads.specs.Private.Reported.{IsReportFrom, MakeLimit};
+ghost use Rattle.lab_threads.specs.Private.Reported.{IsReportFrom};
 
 use crate::context::Crew;
 use crate::merging::merge;
@@ -46,16 +46,6 @@ impl Drop for Report {
             verdict: _,
         } = self;
     }
-}
-
-fn lefts(alloc: Global, workers: &[WorkerResult]) -> Result<Vec<u32>, AllocError>
-    ensures left { IfOk result (λ v. v.items ≡ map (λ k. k.left) workers.now) }
-{
-    let mut left = Vec::with_capacity(alloc, workers.len())?;
-    for worker in workers {
-        left.push(worker.left)?;
-    }
-    Ok(left)
 }
 
 fn ends(alloc: Global, workers: Vec<WorkerResult>) -> Result<Vec<Process>, AllocError>
@@ -94,7 +84,7 @@ fn merge_workers(
     if !workers.iter().all(|worker| worker.fits) {
         return Err(RunFault::Unvouched);
     }
-    let left = lefts(alloc, workers)?;
+    let left: Vec<u32> = workers.iter().map(|worker| worker.left).collect(alloc)?;
     match merge(alloc, workers, history)? {
         Some(schedule) if has_room(&schedule, &left) => Ok((schedule, left)),
         _ => Err(RunFault::Unvouched),

@@ -1,6 +1,5 @@
 //! How the workers are started, each on a thread of its own, and joined.
-ghost use Rattle.std.specs.Prelude.{ℕ, List, IfOk};
-ghost use Rattle.lab_sched.specs.declared.process.Process.{Process as ProcessValue};
+ghost use Rattle.std.specs.Prelude.{IfOk};
 ghost use Rattle.lab_threads.specs.Private.Promised.{ArePromised};
 ghost use Rattle.lab_threads.specs.Private.WorkerResults.{AreWorkerResults};
 
@@ -69,19 +68,6 @@ fn stop_missing<R: Wait>(rt: &R, monitor: &Monitor, count: usize) {
     }
 }
 
-fn worker_results<R: Threads>(
-    rt: &R,
-    handles: Vec<PromisedHandle<WorkerResult, WorkerPromise>>,
-) -> Result<Vec<WorkerResult>, RunFault>
-    ensures results { IfOk result (λ ws. (starts : List ProcessValue) (limit : ℕ)
-        → ArePromised limit starts handles.items → AreWorkerResults limit starts ws.items) }
-{
-    match thread::join_promised(rt, handles) {
-        Ok(workers) => Ok(workers),
-        Err(_) => Err(RunFault::NoMemory),
-    }
-}
-
 pub(crate) fn run_workers<R: Threads + Wait + Sync, G: Gate>(
     crew: Crew<'_, R, G>,
     starts: Vec<Process>,
@@ -108,7 +94,10 @@ pub(crate) fn run_workers<R: Threads + Wait + Sync, G: Gate>(
                 gate,
             };
             let handles = spawn_all(scope, crew, starts, limit)?;
-            worker_results(rt, handles)
+            match thread::join_promised(rt, handles) {
+                Ok(workers) => Ok(workers),
+                Err(_) => Err(RunFault::NoMemory),
+            }
         },
     )
 }
