@@ -1,6 +1,5 @@
 //! What a page keeps of the steps so far, beside the world and the tally.
-ghost use Rattle.std.specs.Prelude.{◌≡◌, ◌==◌, ◌++◌, not, IfOk, OnOk};
-ghost use Rattle.std.specs.List.{filter};
+ghost use Rattle.std.specs.Prelude.{◌≡◌, ◌++◌, IfOk, OnOk};
 ghost use Rattle.lab_told.specs.Answers.{act_done};
 ghost use Rattle.lab_moments.specs.Pasts.{first_past, past_after, past_with, received_by, sent_by, unreceived_without};
 
@@ -44,12 +43,6 @@ impl Model for Past {
     } };
 }
 
-fn remove(unreceived: &mut Vec<u32>, sent: u32)
-    ensures left { unreceived.new.items ≡ filter (λ m. not (m == sent)) unreceived.old.items }
-{
-    unreceived.retain(|step| *step != sent);
-}
-
 /// Lets go of the message that was received by what a process did.
 fn receive(unreceived: &mut Vec<u32>, act: &Act)
     ensures left { unreceived.new.items
@@ -59,7 +52,7 @@ fn receive(unreceived: &mut Vec<u32>, act: &Act)
         return;
     };
     if let Some(origin) = call.origin {
-        remove(unreceived, origin.step);
+        unreceived.retain(|step| *step != origin.step);
     }
 }
 

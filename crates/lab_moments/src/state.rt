@@ -3,7 +3,7 @@ ghost use Rattle.std.specs.Prelude.{◌≡◌, IfOk, map};
 ghost use Rattle.serde_json.specs.View.{view};
 ghost use Rattle.lab_sched.specs.Held.{process_view};
 ghost use Rattle.lab_sched.specs.Worlds.{machine_of};
-ghost use Rattle.lab_moments.specs.States.{memory_from, words_around, shown_in, registers, state_data, state_in, states};
+ghost use Rattle.lab_moments.specs.States.{memory_from, words_around, shown_in, registers, state_in, states};
 
 use crate::values::list_value;
 use lab_sched::{Process, World};
@@ -75,11 +75,14 @@ pub fn shown_in(alloc: Global, world: &World, pid: usize) -> Result<Vec<u16>, Al
     }
 }
 
-/// A process: program counter, condition code, registers, and the words around the program counter.
-#[tactic(auto, unfolding(crate::specs::States::state_data))]
-fn state_value(alloc: Global, process: &Process) -> Result<Value, AllocError>
-    ensures value { IfOk result (λ v. view v ≡ state_data (machine_of (process_view process.now))) }
+/// Process `pid` of a world, where it is there: program counter, condition code, registers, and the words around the program counter.
+#[tactic(auto, unfolding(crate::specs::States::state_in, crate::specs::States::state_data))]
+pub fn state_in(alloc: Global, world: &World, pid: usize) -> Result<Value, AllocError>
+    ensures value { IfOk result (λ v. view v ≡ state_in world.now pid) }
 {
+    let Some(process) = world.process(pid) else {
+        return Ok(Value::Null);
+    };
     let pc = process.machine().pc();
     let code = code_name(process.machine().cc());
     json!(in alloc; [
@@ -89,17 +92,6 @@ fn state_value(alloc: Global, process: &Process) -> Result<Value, AllocError>
         pc.saturating_sub(BEFORE),
         list_value(alloc, &words_around(alloc, process)?)?
     ])
-}
-
-/// Process `pid` of a world, where it is there.
-#[tactic(auto, unfolding(crate::specs::States::state_in))]
-pub fn state_in(alloc: Global, world: &World, pid: usize) -> Result<Value, AllocError>
-    ensures value { IfOk result (λ v. view v ≡ state_in world.now pid) }
-{
-    match world.process(pid) {
-        Some(process) => state_value(alloc, process),
-        None => Ok(Value::Null),
-    }
 }
 
 /// The processes of a world.
