@@ -3,34 +3,28 @@ ghost use Rattle.std.specs.Prelude.{◌≡◌, ◌<◌, ◌≤◌, ◌++◌, ⊤
 ghost use Rattle.serde_json.specs.View.{view};
 ghost use Rattle.lab_sched.specs.Schedules.{most_steps};
 ghost use Rattle.lab_told.specs.Scenes.{first_scene, told};
-ghost use Rattle.lab_page.specs.Legs.{event_data, leg_data, leg_events, told_data};
+ghost use Rattle.lab_page.specs.Legs.{leg_data, leg_events, told_data};
 
 use lab_moments::act_value;
 use lab_sched::{Block, World};
-use lab_told::{Event, Taken, Tally, Telling, Told, tell_run};
+use lab_told::{Taken, Tally, Telling, Told, tell_run};
 use lab_trace::event_text;
 use serde_json::{Value, json};
 use std::alloc::{AllocError, Global};
 
-/// What happened in step `number` of a leg.
+/// Adds what happened in step `number` of a leg, where it has a line in a trace.
 #[tactic(auto, unfolding(crate::specs::Legs::event_data))]
-fn event_value(alloc: Global, number: u32, event: &Event) -> Result<Value, AllocError>
-    ensures value { IfOk result (λ v. view v ≡ event_data number event.now) }
-{
-    let pc = event.pc;
-    json!(in alloc; [number, pc, event_text(alloc, event)?, act_value(alloc, &event.act)?])
-}
-
-/// Adds what step `number` of a leg told, where it has a line in a trace.
 fn push_told(events: &mut Vec<Value>, number: u32, told: &Told) -> Result<(), AllocError>
     ensures added { OnOk result (map view events.new.items ≡ map view events.old.items
         ++ told_data number told.now) }
 {
+    let Told::Shown(event) = told else {
+        return Ok(());
+    };
     let alloc = *events.allocator();
-    match told {
-        Told::Shown(event) => Ok(events.push(event_value(alloc, number, event)?)?),
-        Told::Nothing | Told::Counted => Ok(()),
-    }
+    let text = event_text(alloc, event)?;
+    let act = act_value(alloc, &event.act)?;
+    Ok(events.push(json!(in alloc; [number, event.pc, text, act])?)?)
 }
 
 /// How a leg is told.

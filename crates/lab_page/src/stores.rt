@@ -1,6 +1,6 @@
 //! The words that the steps of a run store.
 ghost use Rattle.std.specs.Prelude.{◌≡◌, ◌++◌, IfOk, OnOk};
-ghost use Rattle.lab_page.specs.Stores.{changed, changed_words, held_at, origin_at};
+ghost use Rattle.lab_page.specs.Stores.{changed_words, held_at, origin_at};
 ghost use Rattle.lab_page.specs.Private.Stores.{no_stores, stores_after};
 
 use crate::source::{Source, source_in};
@@ -82,16 +82,6 @@ fn origin_at(sources: &[Option<Source>], pid: usize) -> u16
     }
 }
 
-/// Adds the word behind a step, where it isn't the word before it.
-fn push_changed(stores: &mut Vec<Stored>, stored: Stored, before: u16) -> Result<(), AllocError>
-    ensures added { OnOk result (stores.new.items ≡ stores.old.items ++ changed stored before) }
-{
-    if stored.word == before {
-        return Ok(());
-    }
-    Ok(stores.push(stored)?)
-}
-
 /// Adds the words behind a step, from an address on, that aren't those before it.
 #[tactic(auto, using(lab_moments::proofs::ValueLemmas::below), unfolding(crate::specs::Stores::changed_words))]
 fn push_words(
@@ -106,13 +96,14 @@ fn push_words(
 {
     for at in 0..after.len().min(before.len()) {
         let (address, word) = (usize::from(first) + at, after[at]);
-        let stored = Stored {
-            step: taken.number,
-            process: taken.pid,
-            address,
-            word,
-        };
-        push_changed(stores, stored, before[at])?;
+        if word != before[at] {
+            stores.push(Stored {
+                step: taken.number,
+                process: taken.pid,
+                address,
+                word,
+            })?;
+        }
     }
     Ok(())
 }
