@@ -10,7 +10,7 @@ ghost use Rattle.lab_texts.specs.Texts.{place_text};
 ghost use Rattle.lab_sched.specs.Verdicts.{verdict_word};
 ghost use Rattle.lab_sched.specs.Schedules.{most_steps};
 ghost use Rattle.lab_moments.specs.Values.{list, or_null};
-ghost use Rattle.lab_page.specs.Worlds.{node_data, object_in, objects, place_before, stand_text, standing_at, standing_data, standings, with_leg, with_node, worlds_json};
+ghost use Rattle.lab_page.specs.Worlds.{node_data, objects, place_before, stand_text, standing_at, standing_data, standings, with_leg, with_node, worlds_json};
 
 use crate::json::{push_listed, push_parts};
 use crate::legs::leg_value;
@@ -166,22 +166,6 @@ fn is_empty(kernel: &Kernel, place: u8) -> bool
     kernel.queue_at(place).is_none() && kernel.semaphore_at(place).is_none()
 }
 
-/// The object in a place, where there is one.
-fn object_at(
-    alloc: Global,
-    world: &World,
-    tally: &Tally,
-    place: u8,
-) -> Result<Option<Value>, AllocError>
-    ensures object { IfOk result (λ v. option_to_list (option_map view v)
-        ≡ object_in world.now tally.now place (place_at world.now.kernel.places place)) }
-{
-    if is_empty(world.kernel(), place) {
-        return Ok(None);
-    }
-    Ok(Some(object_value(alloc, world, tally, 0, place)?))
-}
-
 /// The objects of a world in order of place, without what only the steps to it tell of them.
 #[tactic(auto, using(lab_moments::proofs::ValueLemmas::below))]
 fn objects_value(alloc: Global, world: &World) -> Result<Value, AllocError>
@@ -190,7 +174,10 @@ fn objects_value(alloc: Global, world: &World) -> Result<Value, AllocError>
     let tally = Tally::new(alloc, world.count())?;
     let mut objects = Vec::new(alloc);
     for place in 0..OBJECT_PLACES as u8 {
-        push_some(&mut objects, object_at(alloc, world, &tally, place)?)?;
+        if is_empty(world.kernel(), place) {
+            continue;
+        }
+        objects.push(object_value(alloc, world, &tally, 0, place)?)?;
     }
     Ok(Value::Array(objects))
 }
