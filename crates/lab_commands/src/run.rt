@@ -106,20 +106,12 @@ fn text_of(alloc: Global, report: &Report) -> Result<String, AllocError>
         ≡ run_text report.now.world report.now.schedule) }
 {
     let mut text = report_text(alloc, &report.world)?;
+    let schedule = report.schedule.text(alloc)?;
     text.push_str("schedule")?;
-    push_behind_blank(&mut text, &report.schedule.text(alloc)?)?;
+    if !schedule.is_empty() {
+        text.push(' ')?;
+        text.push_str(&schedule)?;
+    }
     text.push_str("\n")?;
     Ok(text)
-}
-
-/// Adds a text behind a blank, or nothing where it is empty.
-fn push_behind_blank(text: &mut String, more: &str) -> Result<(), AllocError>
-    ensures text { OnOk result (string_bytes text.new
-        ≡ string_bytes text.old ++ behind_blank more.now) }
-{
-    if more.is_empty() {
-        return Ok(());
-    }
-    text.push(' ')?;
-    text.push_str(more)
 }
