@@ -22,16 +22,23 @@ pub fn read_words<'a>(
 ) -> Result<Request<'a>, Refusal> {
     match program(alloc, row)?.try_get_matches_from(words) {
         Ok(matches) => request_of(alloc, &matches),
-        Err(error) => {
-            // An error repeats the words in its text, so it is the one about words as messages show them.
-            let shown: Vec<String> = words
-                .iter()
-                .map(|word| Shown(word).to_string(alloc))
-                .try_collect(alloc)?;
-            let again = program(alloc, row)?.try_get_matches_from(shown.as_slice());
-            Err(refusal_of(alloc, &again.err().unwrap_or(error)))
-        }
+        Err(error) => Err(refusal_of(alloc, &shown_error(alloc, row, words, error)?)),
     }
+}
+
+/// The parser's error about words, with the words as messages show them: it repeats them in its text.
+fn shown_error(
+    alloc: Global,
+    row: &ProgramRow,
+    words: &[String],
+    error: Error,
+) -> Result<Error, AllocError> {
+    let shown: Vec<String> = words
+        .iter()
+        .map(|word| Shown(word).to_string(alloc))
+        .try_collect(alloc)?;
+    let again = program(alloc, row)?.try_get_matches_from(shown.as_slice());
+    Ok(again.err().unwrap_or(error))
 }
 
 /// The text of help, or of what is wrong with the words.

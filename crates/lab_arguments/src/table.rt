@@ -41,38 +41,39 @@ fn up_to<'a>(alloc: Global, row: &Row, value: &'a str, most: u32) -> Arg<'a> {
     option(alloc, row, value).value_parser(clap::value_parser!(u32).range(1..=i64::from(most)))
 }
 
-/// The command with this name, with its options.
-pub(crate) fn command_of<'a>(alloc: Global, named: &CommandRow) -> Result<Command<'a>, AllocError> {
-    let mut command = Command::new(alloc, named.name)
-        .about(named.about)
-        .after_help(named.example);
-    for row in named.options {
-        command = command.arg(match row.takes {
-            Takes::Place => place(alloc, row),
-            Takes::Places => place(alloc, row).num_args(1..),
-            Takes::Nothing => Arg::new(alloc, row.name)
-                .long(row.name)
-                .action(ArgAction::SetTrue)
-                .help(row.help),
-            Takes::Text(value) => option(alloc, row, value),
-            Takes::Texts(value) => option(alloc, row, value).action(ArgAction::Append),
-            Takes::Sources => option(alloc, row, "P=FILE")
-                .action(ArgAction::Append)
-                .requires_arg("page")?,
-            Takes::UpTo(value, most) => up_to(alloc, row, value, most),
-            Takes::Usually(value, most, usual) => {
-                up_to(alloc, row, value, most).default_value(usual)
-            }
-            Takes::Number(value) => {
-                option(alloc, row, value).value_parser(clap::value_parser!(u32))
-            }
-            Takes::Profile => option(alloc, row, "PROFILE")
-                .value_parser(ValueParser::Names(PROFILES))
-                .default_value("a"),
-            Takes::Warnings => option(alloc, row, "WARNING")
-                .value_parser(ValueParser::Names(WARNINGS))
-                .action(ArgAction::Append),
-        })?;
+/// A row's option.
+fn arg_of<'a>(alloc: Global, row: &Row) -> Result<Arg<'a>, AllocError> {
+    Ok(match row.takes {
+        Takes::Place => place(alloc, row),
+        Takes::Places => place(alloc, row).num_args(1..),
+        Takes::Nothing => Arg::new(alloc, row.name)
+            .long(row.name)
+            .action(ArgAction::SetTrue)
+            .help(row.help),
+        Takes::Text(value) => option(alloc, row, value),
+        Takes::Texts(value) => option(alloc, row, value).action(ArgAction::Append),
+        Takes::Sources => option(alloc, row, "P=FILE")
+            .action(ArgAction::Append)
+            .requires_arg("page")?,
+        Takes::UpTo(value, most) => up_to(alloc, row, value, most),
+        Takes::Usually(value, most, usual) => up_to(alloc, row, value, most).default_value(usual),
+        Takes::Number(value) => option(alloc, row, value).value_parser(clap::value_parser!(u32)),
+        Takes::Profile => option(alloc, row, "PROFILE")
+            .value_parser(ValueParser::Names(PROFILES))
+            .default_value("a"),
+        Takes::Warnings => option(alloc, row, "WARNING")
+            .value_parser(ValueParser::Names(WARNINGS))
+            .action(ArgAction::Append),
+    })
+}
+
+/// The command of a row, with its options.
+pub(crate) fn command_of<'a>(alloc: Global, row: &CommandRow) -> Result<Command<'a>, AllocError> {
+    let mut command = Command::new(alloc, row.name)
+        .about(row.about)
+        .after_help(row.example);
+    for option in row.options {
+        command = command.arg(arg_of(alloc, option)?)?;
     }
     Ok(command)
 }

@@ -1,7 +1,7 @@
 //! What was asked of an exploration, as a page holds it.
 ghost use Rattle.std.specs.Prelude.{◌≡◌, IfOk};
 ghost use Rattle.serde_json.specs.View.{view};
-ghost use Rattle.lab_page.specs.Asked.{answer_text, asked_list};
+ghost use Rattle.lab_page.specs.Asked.{answer_text, asked_data, asked_list};
 
 use lab_moments::{AsData, list_value};
 use serde_json::{Value, json};
@@ -53,15 +53,21 @@ impl AsData for ShownRun {
     }
 }
 
-/// What was asked of an exploration that is complete or isn't, with the answers.
 #[tactic(auto, unfolding(crate::specs::Asked::asked_data))]
+fn one_value(alloc: Global, asked: &Asked, complete: bool) -> Result<Value, AllocError>
+    ensures value { IfOk result (λ v. view v ≡ asked_data complete asked.now) }
+{
+    let answer = answer_text(asked.failed, complete);
+    json!(in alloc; [&asked.text, answer, list_value(alloc, &asked.runs)?])
+}
+
+/// What was asked of an exploration that is complete or isn't, with the answers.
 pub fn asked_value(alloc: Global, asked: &[Asked], complete: bool) -> Result<Value, AllocError>
     ensures value { IfOk result (λ v. view v ≡ asked_list complete asked.now) }
 {
     let mut values = Vec::new(alloc);
     for one in asked {
-        let answer = answer_text(one.failed, complete);
-        values.push(json!(in alloc; [&one.text, answer, list_value(alloc, &one.runs)?])?)?;
+        values.push(one_value(alloc, one, complete)?)?;
     }
     Ok(Value::Array(values))
 }

@@ -138,6 +138,19 @@ fn often(alloc: Global, words: &[&[u8]]) -> Result<Option<Pattern>, AllocError>
     }
 }
 
+/// The semaphores that are held, by the words behind `holds`.
+fn together(alloc: Global, words: &[&[u8]]) -> Result<Option<Pattern>, AllocError>
+    ensures pattern { IfOk result (λ read. IfSome read (λ pattern.
+        Say (codes "holds" ∷ map (λ word. word.now) words.now) pattern)) }
+    ensures forbids { IfOk result (λ read. IfSome read (λ pattern. forbids pattern ≡ false)) }
+{
+    let words = without(alloc, "and", words)?;
+    if words.is_empty() || words.len() > MOST_NAMES {
+        return Ok(None);
+    }
+    Ok(names_in(alloc, &words)?.map(Pattern::Together))
+}
+
 /// What must be so.
 fn required_in(alloc: Global, words: &[&[u8]]) -> Result<Option<Pattern>, AllocError>
     ensures pattern { IfOk result (λ read. IfSome read (λ pattern.
@@ -150,13 +163,7 @@ fn required_in(alloc: Global, words: &[&[u8]]) -> Result<Option<Pattern>, AllocE
             Ok(kinds_in(alloc, kinds)?.map(Pattern::InOrder))
         }
         [calls, rest @ ..] if is_word("calls", calls) => often(alloc, rest),
-        [holds, names @ ..] if is_word("holds", holds) => {
-            let names = without(alloc, "and", names)?;
-            if names.is_empty() || names.len() > MOST_NAMES {
-                return Ok(None);
-            }
-            Ok(names_in(alloc, &names)?.map(Pattern::Together))
-        }
+        [holds, names @ ..] if is_word("holds", holds) => together(alloc, names),
         _ => Ok(None),
     }
 }

@@ -2,7 +2,7 @@
 ghost use Rattle.std.specs.Prelude.{◌≡◌, ◌++◌, Some, map, OnOk, IfOk, string_bytes};
 ghost use Rattle.lab_questions.specs.Called.{call_lines, calls_lines};
 ghost use Rattle.lab_questions.specs.EndTexts.{text_of, told_ends, AreTold, lasso_text};
-ghost use Rattle.lab_questions.specs.Texts.{answer_lines, word_lines, need_lines, needs_lines, condition_lines, reached_lines, last_lines, answers_text};
+ghost use Rattle.lab_questions.specs.Texts.{answer_lines, word_lines, need_lines, needs_lines, condition_lines, reached_lines, last_lines, judged_lines, answers_text};
 
 use crate::lines::{extent_of, steps_at};
 use crate::told::{Told, told_of};
@@ -203,6 +203,20 @@ fn push_conditions(
     Ok(())
 }
 
+/// Adds the lines of words, outputs and calls that aren't so.
+fn push_judged(text: &mut String, judged: Judged<'_>) -> Result<(), AllocError>
+    ensures text { OnOk result (string_bytes text.new
+        ≡ string_bytes text.old
+        ++ judged_lines judged.entry.asked.now judged.entry.found.now judged.entry.answers.now
+        judged.entry.faults.now judged.entry.ways.now) }
+{
+    let asked = judged.asked;
+    let ends = &judged.found.ends;
+    push_words(text, asked.plain, ends, judged.answers)?;
+    push_needs(text, ends, &asked.outputs, judged.faults)?;
+    push_calls(text, &asked.call_words, judged.ways)
+}
+
 /// Adds the last lines: of walks how many were taken; else what was reached, a lasso, and whether everything was visited.
 #[tactic(auto, unfolding(crate::specs::Texts::walks_line, crate::specs::EndTexts::extent_line))]
 fn push_last(
@@ -236,11 +250,8 @@ pub(crate) fn tell(alloc: Global, judged: Judged<'_>, walks: bool) -> Result<Tol
         judged.entry.found.now.ends.items told.numbers.items) }
 {
     let Judged { asked, found, .. } = judged;
-    let ends = &found.ends;
-    let mut told = told_of(alloc, asked.show, ends)?;
-    push_words(&mut told.text, asked.plain, ends, judged.answers)?;
-    push_needs(&mut told.text, ends, &asked.outputs, judged.faults)?;
-    push_calls(&mut told.text, &asked.call_words, judged.ways)?;
+    let mut told = told_of(alloc, asked.show, &found.ends)?;
+    push_judged(&mut told.text, judged)?;
     push_last(&mut told.text, walks, &asked.never, found)?;
     Ok(told)
 }

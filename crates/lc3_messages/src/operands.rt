@@ -67,14 +67,18 @@ pub(crate) fn bad_operands(place: Place<'_>) -> Result<String, AllocError> {
         let given = place.parts.len().saturating_sub(place.at.saturating_add(1));
         let s = if taken == 1 { "" } else { "s" };
         let are = if given > 1 { "are" } else { "is" };
-        let hint = (given > taken).then_some(" (a comment begins with ;)");
+        let hint = if given > taken {
+            " (a comment begins with ;)"
+        } else {
+            ""
+        };
         return format!(in alloc;
             "{} takes {} operand{s}, here {are} {}{}{}",
             Excerpt(word),
             Count(taken, "no"),
             Count(given, "none"),
             Forms(place.forms),
-            hint.unwrap_or("")
+            hint
         );
     }
     let form = place.form();
