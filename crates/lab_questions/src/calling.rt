@@ -1,5 +1,5 @@
 //! Reading what is asked of calls.
-ghost use Rattle.std.specs.Prelude.{◌≡◌, ◌++◌, ◌∷◌, [], true, false, IfOk, IfSome, codes, flat_map, map};
+ghost use Rattle.std.specs.Prelude.{◌≡◌, ◌++◌, ◌∷◌, [], true, false, IfOk, IfSome, OnOk, codes, flat_map, map};
 ghost use Rattle.lc3_word.specs.Blanks.{words_between};
 ghost use Rattle.lab_questions.specs.CallWords.{call_count, kind_words, without, Say, SayOf, Asks, forbids};
 ghost use Rattle.lab_ways.specs.declared.wanted.Pattern.{Pattern as Calls};
@@ -88,15 +88,24 @@ fn names_in(alloc: Global, words: &[&[u8]]) -> Result<Option<Vec<Name>>, AllocEr
     Ok(Some(names))
 }
 
+fn push_other<'a>(words: &mut Vec<&'a [u8]>, name: &str, word: &'a [u8]) -> Result<(), AllocError>
+    ensures added { OnOk result (map (λ w. w.now) words.new.items
+        ≡ map (λ w. w.now) words.old.items ++ without name.now (word.now ∷ [])) }
+{
+    if name.as_bytes() == word {
+        return Ok(());
+    }
+    words.push(word)?;
+    Ok(())
+}
+
 fn without<'a>(alloc: Global, name: &str, words: &[&'a [u8]]) -> Result<Vec<&'a [u8]>, AllocError>
     ensures words { IfOk result (λ found. map (λ word. word.now) found.items
         ≡ without name.now (map (λ word. word.now) words.now)) }
 {
     let mut found = Vec::new(alloc);
     for word in words {
-        if name.as_bytes() != *word {
-            found.push(*word)?;
-        }
+        push_other(&mut found, name, word)?;
     }
     Ok(found)
 }

@@ -1,8 +1,8 @@
 //! The messages that are left in queues.
-ghost use Rattle.std.specs.Prelude.{◌≡◌, ◌++◌, OnOk, IfOk, flat_map, map, string_bytes};
+ghost use Rattle.std.specs.Prelude.{◌≡◌, ◌++◌, [], ◌∷◌, OnOk, IfOk, filter, flat_map, map, string_bytes};
 ghost use Rattle.std.specs.Option.{option_copied};
 ghost use Rattle.ipc_kernel.specs.Places.{place_at};
-ghost use Rattle.lab_questions.specs.Left.{left_line, left_lines, left_texts, left_text};
+ghost use Rattle.lab_questions.specs.Left.{left_line, left_lines, is_text, left_texts, left_text};
 
 use ipc_kernel::{Kernel, OBJECT_PLACES};
 use ipc_names::Name;
@@ -42,6 +42,16 @@ pub(crate) fn left_lines(alloc: Global, kernel: &Kernel, place: u8) -> Result<St
     Ok(text)
 }
 
+fn push_text(texts: &mut Vec<String>, text: String) -> Result<(), AllocError>
+    ensures texts { OnOk result (map string_bytes texts.new.items
+        ≡ map string_bytes texts.old.items ++ filter is_text (string_bytes text ∷ [])) }
+{
+    if !text.is_empty() {
+        texts.push(text)?;
+    }
+    Ok(())
+}
+
 /// The lines of each queue that holds messages, with a name or without.
 fn left_texts(alloc: Global, kernel: &Kernel) -> Result<Vec<String>, AllocError>
     ensures texts { IfOk result (λ texts. map string_bytes texts.items ≡ left_texts kernel.now) }
@@ -49,9 +59,7 @@ fn left_texts(alloc: Global, kernel: &Kernel) -> Result<Vec<String>, AllocError>
     let mut texts = Vec::new(alloc);
     for place in 0..OBJECT_PLACES as u8 {
         let lines = left_lines(alloc, kernel, place)?;
-        if !lines.is_empty() {
-            texts.push(lines)?;
-        }
+        push_text(&mut texts, lines)?;
     }
     Ok(texts)
 }
