@@ -5,8 +5,6 @@ ghost use Rattle.serde_json.specs.View.{view};
 ghost use Rattle.serde_json.specs.Data.{string};
 ghost use Rattle.ipc_kernel.specs.Places.{is_empty, place_at};
 ghost use Rattle.lab_sched.specs.Held.{process_view};
-ghost use Rattle.lab_sched.specs.Worlds.{machine_of};
-ghost use Rattle.lab_texts.specs.Texts.{place_text};
 ghost use Rattle.lab_sched.specs.Verdicts.{verdict_word};
 ghost use Rattle.lab_sched.specs.Schedules.{most_steps};
 ghost use Rattle.lab_moments.specs.Values.{list, or_null};
@@ -18,11 +16,10 @@ use crate::outcome::outputs;
 use ipc_kernel::{Kernel, OBJECT_PLACES};
 use lab_moments::{AsData, list_value, object_value, push_some};
 use lab_sched::{Process, Verdict, World};
-use lab_texts::how_name;
+use lab_texts::{Standing, how_name};
 use lab_told::{Tally, arguments_of, held_place, service_at};
 use lab_trace::push_call;
-use lc3_table::WordText;
-use lc3_word::{FIRST_DEVICE, Reg};
+use lc3_word::Reg;
 use serde_json::{Value, json};
 use std::alloc::{AllocError, Global};
 use std::marker::Model;
@@ -67,23 +64,6 @@ impl Model for Worlds {
     } };
 }
 
-/// Adds the instruction at the program counter, or a dash in the device register page.
-#[tactic(auto, unfolding(lab_texts::specs::Texts::place_text))]
-fn push_instruction(text: &mut String, process: &Process) -> Result<(), AllocError>
-    ensures text { OnOk result (string_bytes text.new ≡ string_bytes text.old
-        ++ place_text (machine_of (process_view process.now))) }
-{
-    let pc = process.machine().pc();
-    if pc >= FIRST_DEVICE {
-        return text.push_str("-");
-    }
-    let word = WordText(process.machine().word(pc));
-    match write!(text, "{word}") {
-        Ok(()) => Ok(()),
-        Err(error) => Err(error),
-    }
-}
-
 /// What process `pid` of a world stands before: its call, else its instruction; or how it ended.
 fn stand_text(
     alloc: Global,
@@ -103,7 +83,7 @@ fn stand_text(
                 let arguments = arguments_of(alloc, world.kernel(), pid, process, service)?;
                 push_call(&mut text, service, &arguments)?;
             }
-            None => push_instruction(&mut text, process)?,
+            None => write!(text, "{}", Standing(process.machine()))?,
         },
     }
     Ok(text)

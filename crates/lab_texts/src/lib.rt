@@ -13,4 +13,4 @@ pub use objects::{NameText, access_name, fds_text, mqs_text, push_message, sems_
 pub use output::{Escape, out_text};
 pub use registers::{code_name, regs_text};
 pub use report::{profile_text, report_text, verdict_text};
-pub use status::{how_name, procs_text, status_text};
+pub use status::{Standing, how_name, procs_text, status_text};

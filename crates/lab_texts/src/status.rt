@@ -1,28 +1,27 @@
 //! Status lines.
 ghost use Rattle.std.specs.Prelude.{◌≡◌, Some, IfOk, string_bytes};
 ghost use Rattle.lab_sched.specs.Held.{process_view};
-ghost use Rattle.lab_sched.specs.Worlds.{machine_of};
 ghost use Rattle.lab_texts.specs.Texts.{how_text, place_text, state_text, status_text, procs_text};
 
 use lab_sched::{Process, World};
-use lc3_machine::How;
+use lc3_machine::{How, Machine};
 use lc3_table::WordText;
 use lc3_word::{FIRST_DEVICE, Hex};
 use std::alloc::{AllocError, Global};
 use std::fmt;
 
-/// The word at the program counter, or a dash in the device register page.
-#[derive(Drop)]
-struct Place<'a>(&'a Process);
+/// The instruction at the program counter of a machine, or a dash in the device register page.
+#[derive(Clone, Copy)]
+pub struct Standing<'a>(pub &'a Machine);
 
-impl fmt::Display for Place<'_> {
-    ghost output = { λ p. Some (place_text (machine_of (process_view p.0.now))) };
+impl fmt::Display for Standing<'_> {
+    ghost output = { λ s. Some (place_text s.0.now.process) };
 
     #[tactic(auto, unfolding(crate::specs::Texts::place_text))]
     fn fmt<W: fmt::Write>(&self, f: &mut fmt::Formatter<W>) -> fmt::Result {
-        let pc = self.0.machine().pc();
+        let pc = self.0.pc();
         if pc < FIRST_DEVICE {
-            let word = WordText(self.0.machine().word(pc));
+            let word = WordText(self.0.word(pc));
             write!(f, "{word}")
         } else {
             write!(f, "-")
@@ -51,7 +50,7 @@ impl fmt::Display for State<'_> {
 
     fn fmt<W: fmt::Write>(&self, f: &mut fmt::Formatter<W>) -> fmt::Result {
         let pc = Hex(self.0.machine().pc());
-        let place = Place(self.0);
+        let place = Standing(self.0.machine());
         match self.0 {
             Process::Running(_) => write!(f, "running {pc} {place}"),
             Process::Waiting(_, _) => write!(f, "waiting {pc} {place}"),

@@ -1,42 +1,19 @@
 //! Ends as JSON.
 ghost use Rattle.std.specs.Prelude.{◌≡◌, Some, IfOk, map, slice_get, string_bytes};
 ghost use Rattle.lab_sched.specs.Held.{process_view};
-ghost use Rattle.lab_texts.specs.Texts.{place_text};
 ghost use Rattle.lab_questions.specs.Findings.{end_json, end_or_null, ends_told};
 ghost use Rattle.lab_questions.specs.LeftMembers.{left_members};
 ghost use Rattle.lab_questions.specs.ProcessMembers.{process_json, stop_member};
-ghost use Rattle.lab_questions.specs.Values.{further_json, name_json};
+ghost use Rattle.lab_questions.specs.Values.{further_json};
 
 use crate::Show;
 use crate::json::left::left_json;
 use crate::json::values::{Array, Quoted, StepsValue, Text, WordValue};
 use lab_sched::{Process, Steps, World};
-use lab_texts::how_name;
+use lab_texts::{Standing, how_name};
 use lab_worlds::End;
-use lc3_machine::Machine;
-use lc3_table::WordText;
-use lc3_word::FIRST_DEVICE;
 use std::alloc::{AllocError, Global};
 use std::fmt;
-
-/// The word at the program counter, or a dash at a device, as a text.
-#[derive(Clone, Copy)]
-struct Place<'a>(&'a Machine);
-
-impl fmt::Display for Place<'_> {
-    ghost output = { λ p. Some (name_json (place_text p.0.now.process)) };
-
-    #[tactic(auto, unfolding(lab_texts::specs::Texts::place_text))]
-    fn fmt<W: fmt::Write>(&self, f: &mut fmt::Formatter<W>) -> fmt::Result {
-        let pc = self.0.pc();
-        if pc < FIRST_DEVICE {
-            let word = WordText(self.0.word(pc));
-            write!(f, "\"{word}\"")
-        } else {
-            write!(f, "\"-\"")
-        }
-    }
-}
 
 /// The member for how a process ended, or else for what stands at its program counter.
 #[derive(Clone, Copy)]
@@ -50,8 +27,8 @@ impl fmt::Display for Stop<'_> {
             let how = Quoted(how_name(ended.how()));
             return write!(f, "\"how\":{how}");
         }
-        let place = Place(self.0.machine());
-        write!(f, "\"text\":{place}")
+        let text = Standing(self.0.machine());
+        write!(f, "\"text\":\"{text}\"")
     }
 }
 
