@@ -1,10 +1,7 @@
 //! What a line of a script does.
-ghost use Rattle.std.specs.Prelude.{◌≡◌, ◌≤◌, ◌<◌, IfOk, replicate};
-ghost use Rattle.ipc_kernel.specs.Limits.{process_max};
-ghost use Rattle.lab_session.specs.Sessions.{state_of, after_steps};
-ghost use Rattle.lab_texts.specs.Texts.{status_text};
-ghost use Rattle.lab_debug.specs.Commands.{step_count_max};
-ghost use Rattle.lab_debug.specs.Effects.{standing_effect, accepted_effect, line_effect};
+ghost use Rattle.std.specs.Prelude.{◌≡◌, IfOk};
+ghost use Rattle.lab_session.specs.Sessions.{state_of};
+ghost use Rattle.lab_debug.specs.Effects.{accepted_effect, line_effect};
 ghost use Rattle.lab_debug.specs.Private.Ranges.{IsCommand};
 ghost use Rattle.lab_debug.specs.Private.Replies.{effect_of};
 
@@ -20,22 +17,8 @@ use lab_texts::verdict_text;
 use lc3_word::words_between;
 use std::alloc::{AllocError, Global};
 
-/// Takes so many steps of a process, and shows where it stands.
-#[tactic(auto, unfolding(lab_sched::specs::Schedules::steps_of))]
-fn step(alloc: Global, session: &mut Session, pid: usize, count: u32) -> Result<Reply, AllocError>
-    requires process { pid < process_max }
-    requires some { 1 ≤ count }
-    requires few { count ≤ step_count_max }
-    ensures effect { IfOk result (λ r. effect_of r (state_of session.new) ≡ standing_effect
-        (status_text pid) (after_steps (state_of session.old) (replicate count pid))) }
-{
-    let mut steps = Schedule::new(alloc);
-    steps.push(pid, count)?;
-    session.run(&steps)?;
-    Ok(written(standing(alloc, session, pid)?))
-}
-
 /// Carries out a command whose processes are there.
+#[tactic(auto, unfolding(lab_sched::specs::Schedules::steps_of))]
 fn carry_out(alloc: Global, session: &mut Session, command: Command) -> Result<Reply, AllocError>
     requires ranges { IsCommand command }
     ensures effect { IfOk result (λ r. effect_of r (state_of session.new)
@@ -45,7 +28,12 @@ fn carry_out(alloc: Global, session: &mut Session, command: Command) -> Result<R
         return Ok(written(text));
     }
     match command {
-        Command::Step { pid, count } => step(alloc, session, pid, count),
+        Command::Step { pid, count } => {
+            let mut steps = Schedule::new(alloc);
+            steps.push(pid, count)?;
+            session.run(&steps)?;
+            Ok(written(standing(alloc, session, pid)?))
+        }
         Command::Run(schedule) => {
             session.run(&schedule)?;
             Ok(said(verdict_text(alloc, session.world())?))

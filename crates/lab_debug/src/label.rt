@@ -1,6 +1,6 @@
 //! Labels as addresses.
 ghost use Rattle.std.specs.Prelude.{◌≡◌, ◌<◌, length, map, option_map, position, IfOk, IfSome};
-ghost use Rattle.lab_debug.specs.Labels.{is_sign, distance_of, named, label_in, moved, label_address, second_label, with_zero};
+ghost use Rattle.lab_debug.specs.Labels.{is_sign, named, label_in, moved, label_address, second_label, with_zero};
 ghost use Rattle.lab_debug.specs.Private.LabelViews.{label_seen};
 ghost use Rattle.lab_session.specs.Listings.{listing_of};
 ghost use Rattle.lab_session.specs.Sessions.{state_of};
@@ -33,18 +33,6 @@ fn sign(word: &[u8]) -> Option<usize>
 /// The most digits behind a sign.
 const MOST_DIGITS: usize = 5;
 
-/// The number that 1 to 5 decimal digits write.
-#[tactic(auto, unfolding(crate::specs::Labels::distance_of))]
-fn distance_in(digits: &[u8]) -> Option<u32>
-    ensures value { result ≡ distance_of digits.now }
-{
-    if digits.len() > MOST_DIGITS {
-        return None;
-    }
-    let value = unsigned(10, digits)?;
-    if value <= 99_999 { Some(value) } else { None }
-}
-
 /// A word that can be a label.
 fn named(name: &[u8], is_before: bool, count: u32) -> Option<Label<'_>>
     ensures value { option_map label_seen result ≡ named name.now is_before count }
@@ -61,7 +49,7 @@ fn named(name: &[u8], is_before: bool, count: u32) -> Option<Label<'_>>
 }
 
 /// A label, or a label, a sign and 1 to 5 decimal digits. A word that is a number is none.
-#[tactic(auto, unfolding(crate::specs::Labels::label_in))]
+#[tactic(auto, unfolding(crate::specs::Labels::label_in, crate::specs::Labels::distance_of))]
 fn label_in(word: &[u8]) -> Option<Label<'_>>
     ensures value { option_map label_seen result ≡ label_in word.now }
 {
@@ -71,7 +59,14 @@ fn label_in(word: &[u8]) -> Option<Label<'_>>
     let Some(sign) = sign(word) else {
         return named(word, false, 0);
     };
-    let count = distance_in(&word[sign + 1..])?;
+    let digits = &word[sign + 1..];
+    if digits.len() > MOST_DIGITS {
+        return None;
+    }
+    let count = unsigned(10, digits)?;
+    if count > 99_999 {
+        return None;
+    }
     named(&word[..sign], word[sign] == b'-', count)
 }
 
