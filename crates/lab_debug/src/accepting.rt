@@ -1,5 +1,6 @@
 //! The commands of lines, as a session accepts or refuses them.
 ghost use Rattle.std.specs.Prelude.{◌≡◌, IfOk, map, option_map};
+ghost use Rattle.std.specs.List.{list_all};
 ghost use Rattle.lab_session.specs.Sessions.{state_of};
 ghost use Rattle.lab_debug.specs.Effects.{is_there, are_there, labelled, label_among, command_in};
 ghost use Rattle.lab_debug.specs.Labels.{addressed};
@@ -9,7 +10,7 @@ ghost use Rattle.lab_debug.specs.Private.Ranges.{IsCommand};
 use crate::command::{Command, Refusal};
 use crate::label::{Label, address_of, second_label, with_zero};
 use crate::reading::read_command;
-use lab_sched::World;
+use lab_sched::{Block, World};
 use lab_session::Session;
 use std::alloc::{AllocError, Global};
 
@@ -20,14 +21,20 @@ fn is_there(world: &World, pid: usize) -> bool
     pid < world.count()
 }
 
+/// Whether the process of each block is there.
+fn blocks_are_there(world: &World, blocks: &[Block]) -> bool
+    ensures value { result ≡ list_all (λ b. is_there world.now b.pid) blocks.now }
+{
+    blocks.iter().all(|block| is_there(world, block.pid))
+}
+
 /// Whether each process that a command names is there.
 fn are_there(world: &World, command: &Command) -> bool
     ensures value { result ≡ are_there world.now command.now }
 {
     match command {
         Command::Run(schedule) | Command::Play(schedule) => {
-            let blocks = schedule.blocks();
-            blocks.iter().all(|block| is_there(world, block.pid))
+            blocks_are_there(world, schedule.blocks())
         }
         _ => command.process().is_none_or(|pid| is_there(world, pid)),
     }

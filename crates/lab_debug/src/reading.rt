@@ -2,7 +2,7 @@
 ghost use Rattle.std.specs.Prelude.{◌≡◌, ◌≤◌, ◌+◌, IfOk, IfSome, map};
 ghost use Rattle.lab_sched.specs.ScheduleTexts.{reading_of_words};
 ghost use Rattle.lab_debug.specs.Private.Ranges.{IsCommand};
-ghost use Rattle.lab_debug.specs.Commands.{process_operand, step_of, until_of, go_of, bare_of, range_of, mark_of, read_schedule, is_named, marking_command, showing_command, plain_command, command_of};
+ghost use Rattle.lab_debug.specs.Commands.{process_operand, step_of, until_of, go_of, back_of, bare_of, out_of, range_of, mark_of, read_schedule, is_named, marking_command, showing_command, plain_command, command_of};
 
 use crate::command::{Command, Refusal, range_at};
 use crate::operands::{STEP_COUNT_MAX, address_in, count_in, number_in, process_in};
@@ -63,6 +63,29 @@ fn read_go(operands: &[&[u8]]) -> Option<Command>
             Some(Command::Go { pid, count })
         }
         _ => None,
+    }
+}
+
+/// `N`, to go back; one where it isn't given
+fn read_back(operands: &[&[u8]]) -> Option<Command>
+    ensures value { result ≡ back_of (map (λ word. word.now) operands.now) }
+    ensures ranges { IfSome result (λ command. IsCommand command) }
+{
+    match operands {
+        [] => Some(Command::Back(1)),
+        [count] => number_in(1, MOST_STEPS, *count).map(Command::Back),
+        _ => None,
+    }
+}
+
+/// `P`, of its output, or `--raw P`, of the same as it is
+fn read_out(operands: &[&[u8]]) -> Option<Command>
+    ensures value { result ≡ out_of (map (λ word. word.now) operands.now) }
+    ensures ranges { IfSome result (λ command. IsCommand command) }
+{
+    match operands {
+        [flag, pid] if is_name("--raw", *flag) => process_in(*pid).map(Command::Raw),
+        _ => read_process(operands).map(Command::Out),
     }
 }
 
@@ -164,10 +187,7 @@ fn read_showing(name: &[u8], operands: &[&[u8]]) -> Result<Command, Refusal>
     } else if is_name("fds", name) {
         read_process(operands).map(Command::Fds)
     } else if is_name("out", name) {
-        match operands {
-            [flag, pid] if is_name("--raw", *flag) => process_in(*pid).map(Command::Raw),
-            _ => read_process(operands).map(Command::Out),
-        }
+        read_out(operands)
     } else if is_name("profile", name) {
         read_bare(Command::Profile, operands)
     } else if is_name("help", name) {
@@ -189,11 +209,7 @@ fn read_plain(name: &[u8], operands: &[&[u8]]) -> Result<Command, Refusal>
     } else if is_name("until", name) {
         read_until(operands)
     } else if is_name("back", name) {
-        match operands {
-            [] => Some(Command::Back(1)),
-            [count] => number_in(1, MOST_STEPS, *count).map(Command::Back),
-            _ => None,
-        }
+        read_back(operands)
     } else if is_name("quit", name) {
         read_bare(Command::Quit, operands)
     } else if is_name("where", name) {
