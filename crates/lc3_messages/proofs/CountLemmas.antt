@@ -1,5 +1,5 @@
 -- How many faults and warnings are found.
-use Rattle.std.proofs.Common.{ℕ, ◌≡◌, ◌+◌, ◌-◌, ◌++◌, ◌↔◌, ◌||◌, Bool, true, false, cond, not, IsTrue, List, [], ◌∷◌, length, map, option_map, slice_get, if◌then◌else◌, refl, subst, sym, ap, ◌∙◌, inl, inr, arith}
+use Rattle.std.proofs.Common.{ℕ, ◌≡◌, ◌+◌, ◌-◌, ◌++◌, ◌↔◌, ◌||◌, Bool, true, false, cond, not, IsTrue, List, [], ◌∷◌, length, map, if◌then◌else◌, refl, subst, sym, ap, ◌∙◌, inl, inr, arith}
 use Rattle.std.proofs.lemmas.List.{length-map, length-append}
 use Rattle.std.proofs.lemmas.List.Sums.{sum_by-cons, sum_by-append}
 use Rattle.std.proofs.lemmas.List.Sorted.{sum_by-IsPermutation, length_permutation}
@@ -40,12 +40,10 @@ errors-told faults warnings found t =
     is-counted f = cond (is_error f.what) 1 0
 
 -- no fault is told exactly where there is none
-none-told : (told : List Finding) (faults : List LineFault) → slice_get told 0 ≡ option_map finding_of (slice_get faults 0)
-    → (length told ≡ 0) ↔ IsTrue (not (has_faults faults))
-none-told [] [] first = (λ _. refl, λ _. refl)
-none-told (t ∷ ts) (f ∷ fs) first = (λ none. absurd (omega (arith, none)), λ none. absurd (cc))
-none-told [] (f ∷ fs) first = absurd (cc)
-none-told (t ∷ ts) [] first = absurd (cc)
+none-told : (faults : List LineFault) (told : List Finding) → AreFrom faults told → (told ≡ [] → faults ≡ []) → (length told ≡ 0) ↔ IsTrue (not (has_faults faults))
+none-told [] told from some = (λ _. refl, λ _. ap length from)
+none-told (f ∷ fs) [] from some = let none = some refl in absurd (cc)
+none-told (f ∷ fs) (t ∷ ts) from some = (λ none. absurd (omega (arith, none)), λ none. absurd (cc))
 
 either : (b : Bool) (xs : List LineFault) (f g : LineFault) → has_faults (if b then xs else f ∷ []) ≡ has_faults (if b then xs else g ∷ [])
 either true xs f g = refl
@@ -63,7 +61,7 @@ errors-as-accepted text count warnings found errors t counted =
     let faults = faults_of count (reading text) in
     let as_many = counted ∙ errors-told faults warnings found t in
     let same = same-faults count (length (lines text)) (reading text) in
-    let none = none-told t.told faults t.first in
+    let none = none-told faults t.told t.from t.some in
     (λ zero. subst (λ b. IsTrue (not b)) same (none.0 (sym as_many ∙ zero)), λ accepted. as_many ∙ none.1 (subst (λ b. IsTrue (not b)) (sym same) accepted))
 
 -- each warning is told

@@ -1,9 +1,9 @@
 //! What is told of a text.
-ghost use Rattle.std.specs.Prelude.{◌≡◌, ◌<◌, ◌++◌, true, false, length, bytes_eq, IfOk, OnOk, map, option_map, slice_get};
+ghost use Rattle.std.specs.Prelude.{◌≡◌, ◌++◌, true, [], length, IfOk, OnOk, map};
 ghost use Rattle.std.specs.List.Sorted.{IsNonDecreasingBy};
 ghost use Rattle.lc3_asm.specs.Faults.{reading, faults_of};
 ghost use Rattle.lc3_messages.specs.Counts.{is_among, without, told_warnings};
-ghost use Rattle.lc3_messages.specs.Private.Told.{names_a_label, AreFrom, is_error, finding_of, finding_of_warning, error_count, Tells};
+ghost use Rattle.lc3_messages.specs.Private.Told.{names_a_label, AreFrom, finding_of_warning, error_count, Tells};
 
 use crate::labels::line_of;
 use crate::operations::name_of;
@@ -42,28 +42,14 @@ fn may_follow(source: &Source<'_>, fault: LineFault) -> Result<bool, AllocError>
     Ok(line.is_some_and(|line| fault.kind == Fault::Undefined || line == fault.line))
 }
 
-/// Whether a fault is told behind these: the first one is, and each that isn't one only because of an earlier one.
-fn is_told_behind(
-    source: &Source<'_>,
-    told: &[Finding],
-    fault: LineFault,
-) -> Result<bool, AllocError>
-    ensures left_out { IfOk result (λ is_told. is_told ≡ false
-        → (names_a_label fault.kind ≡ true) × (0 < length told.now)) }
-{
-    Ok(told.is_empty() || !may_follow(source, fault)?)
-}
-
 /// The faults that aren't told only because of an earlier one: the first, and all that are about no label.
 fn told_faults(source: &Source<'_>, faults: &[LineFault]) -> Result<Vec<Finding>, AllocError>
     ensures told { IfOk result (λ told. AreFrom faults.now told.items) }
-    ensures first { IfOk result (λ told.
-        slice_get told.items 0 ≡ option_map finding_of (slice_get faults.now 0)) }
+    ensures some { IfOk result (λ told. told.items ≡ [] → faults.now ≡ []) }
 {
     let mut told = Vec::new(source.alloc);
     for fault in faults {
-        let is_told = is_told_behind(source, &told, *fault)?;
-        if is_told {
+        if told.is_empty() || !may_follow(source, *fault)? {
             told.push(Finding {
                 line: fault.line,
                 what: What::Fault(fault.kind),
@@ -73,7 +59,6 @@ fn told_faults(source: &Source<'_>, faults: &[LineFault]) -> Result<Vec<Finding>
     Ok(told)
 }
 
-/// Whether a name is one of these.
 fn is_among(names: &[&str], name: &str) -> bool
     ensures value { result ≡ is_among (map (λ other. other.now) names.now) name.now }
 {

@@ -1,5 +1,5 @@
 -- What is told of a text: which of its faults, and how they stand among the warnings.
-use Rattle.std.specs.Prelude.{ℕ, ◌≡◌, ◌⊎◌, Bool, true, false, List, [], ◌∷◌, ◌++◌, map, option_map, slice_get}
+use Rattle.std.specs.Prelude.{ℕ, ◌≡◌, ◌⊎◌, Bool, true, false, List, [], ◌∷◌, ◌++◌, map}
 use Rattle.std.specs.List.{count_by}
 use Rattle.std.specs.List.Sorted.{IsPermutation}
 use Rattle.lc3_table.specs.declared.operation.Fault.{Fault as Kind}
@@ -36,11 +36,11 @@ is_error (Warning w) = false
 abbrev pub finding_of_warning : Told → Finding
 finding_of_warning w = record { line = w.line; what = Warning w.kind }
 
--- what is found is in some order faults of these, the first among them, and these warnings
+-- what is found is in some order faults of these, at least one where there are some, and these warnings
 pub record Tells (faults : List LineFault) (warnings : List Told) (found : List Finding) : Type 0 where
   pub told : List Finding
   pub from : AreFrom faults told
-  pub first : slice_get told 0 ≡ option_map finding_of (slice_get faults 0)
+  pub some : told ≡ [] → faults ≡ []
   pub all : IsPermutation (told ++ map finding_of_warning warnings) found
 
 -- how many faults are found

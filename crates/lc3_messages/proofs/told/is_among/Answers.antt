@@ -2,7 +2,7 @@ use Rattle.std.proofs.Common.{◌∙◌, sym, rules, tests}
 use Rattle.std.specs.Prelude.{bytes_eq}
 use Rattle.std.proofs.lemmas.Iterator.{YieldsList-from_slice}
 use Rattle.std.proofs.lemmas.Iterator.Search.{any_from_yields_List}
-use Rattle.lc3_messages.proofs.ToldLemmas.{list_any_map}
+use Rattle.lc3_warnings.proofs.NameLemmas.{list_any_map}
 use Rattle.lc3_messages.proofs.told.is_among.Goals as goal
 
 pub returns : goal.returns
