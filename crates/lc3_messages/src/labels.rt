@@ -62,12 +62,8 @@ fn define_faulty(
         .iter()
         .take_while(|byte| byte.is_ascii_alphanumeric() || **byte == b'_')
         .count();
-    define(
-        alloc,
-        &mut labels.meant,
-        first.get(..length).unwrap_or(&[]),
-        line,
-    )
+    let name = first.get(..length).unwrap_or(&[]);
+    define(alloc, &mut labels.meant, name, line)
 }
 
 pub(crate) fn labels_of(

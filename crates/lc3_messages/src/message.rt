@@ -46,27 +46,14 @@ pub(crate) struct Message<'a> {
 
 impl fmt::Display for Message<'_> {
     fn fmt<W: fmt::Write>(&self, f: &mut fmt::Formatter<W>) -> fmt::Result {
-        let (file, line, number, mark) = (
-            self.file,
-            self.line,
-            self.finding.line,
-            self.remark.mark,
-        );
+        let (file, line, mark) = (self.file, self.line, self.remark.mark);
         let before = line.get(..mark.start).unwrap_or("").chars().count();
         let column = before.saturating_add(1);
+        write!(f, "{file}:{}:{column}: ", self.finding.line)?;
         let text = self.remark.text.as_str();
         match self.finding.what {
-            What::Fault(fault) => write!(
-                f,
-                "{file}:{number}:{column}: error: {text} [{fault:?}]\n"
-            ),
-            What::Warning(kind) => {
-                write!(
-                    f,
-                    "{file}:{number}:{column}: warning: {text} [{}]\n",
-                    kind.name()
-                )
-            }
+            What::Fault(fault) => write!(f, "error: {text} [{fault:?}]\n"),
+            What::Warning(kind) => write!(f, "warning: {text} [{}]\n", kind.name()),
         }?;
         let is_short = line.chars().nth(LENGTH).is_none();
         if is_short && mark.start < mark.end && mark.end <= line.len() {

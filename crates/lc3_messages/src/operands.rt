@@ -8,7 +8,6 @@ use lc3_table::Form;
 use std::alloc::{AllocError, Global};
 use std::fmt;
 
-/// What may stand as an operand.
 fn form_text(form: Form) -> &'static str {
     match form {
         Form::Register => "a register, R0 to R7",
@@ -73,12 +72,11 @@ pub(crate) fn bad_operands(place: Place<'_>) -> Result<String, AllocError> {
             ""
         };
         return format!(in alloc;
-            "{} takes {} operand{s}, here {are} {}{}{}",
+            "{} takes {} operand{s}, here {are} {}{}{hint}",
             Excerpt(word),
             Count(taken, "no"),
             Count(given, "none"),
-            Forms(place.forms),
-            hint
+            Forms(place.forms)
         );
     }
     let form = place.form();
@@ -106,11 +104,8 @@ pub(crate) fn bad_number(place: Place<'_>) -> Result<String, AllocError> {
     let said = if is_label(bytes) {
         " is no number, and a label can't stand here"
     } else if let Some(number) = number_meant(alloc, word)? {
-        return format!(in alloc;
-            "{} is no number; did you mean {}?",
-            Excerpt(word),
-            Excerpt(&number)
-        );
+        let (word, number) = (Excerpt(word), Excerpt(&number));
+        return format!(in alloc; "{word} is no number; did you mean {number}?");
     } else if takes_label {
         " is no number and no label"
     } else {
@@ -126,9 +121,6 @@ pub(crate) fn range(place: Place<'_>) -> Result<String, AllocError> {
     } else {
         ""
     };
-    format!(in place.source.alloc;
-        "the number {} is out of range; here stands {}{hint}",
-        Excerpt(place.part.word),
-        form_text(form)
-    )
+    let (word, stands) = (Excerpt(place.part.word), form_text(form));
+    format!(in place.source.alloc; "the number {word} is out of range; here stands {stands}{hint}")
 }

@@ -46,11 +46,8 @@ pub(crate) fn bad_label(place: Place<'_>) -> Result<String, AllocError> {
 }
 
 fn no_operation(alloc: Global, part: Part<'_>, meant: Option<&str>) -> Result<Remark, AllocError> {
-    let text = format!(in alloc;
-        "{} is no operation and no directive{}",
-        Excerpt(part.word),
-        DidYouMean(meant)
-    )?;
+    let (word, mean) = (Excerpt(part.word), DidYouMean(meant));
+    let text = format!(in alloc; "{word} is no operation and no directive{mean}")?;
     Ok(part.remark(text))
 }
 

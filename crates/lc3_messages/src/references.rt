@@ -23,15 +23,10 @@ pub(crate) fn undefined(place: Place<'_>) -> Result<String, AllocError> {
 }
 
 pub(crate) fn offset_range(place: Place<'_>) -> Result<String, AllocError> {
-    let Place {
-        source,
-        part,
-        number,
-        ..
-    } = place;
-    let name = upper(source.alloc, part.word.as_bytes())?;
+    let source = place.source;
+    let name = upper(source.alloc, place.part.word.as_bytes())?;
     let target = source.reader.symbols().value(&name).unwrap_or(0);
-    let i = number.saturating_sub(1);
+    let i = place.number.saturating_sub(1);
     let address = source.reader.places().get(i).copied().unwrap_or(0);
     let bounds = match place.form() {
         Form::FarTarget => "from -1,024 to 1,023",
@@ -39,7 +34,7 @@ pub(crate) fn offset_range(place: Place<'_>) -> Result<String, AllocError> {
     };
     format!(in source.alloc;
         "the label {} is too far away: its offset is {}, and here it is {bounds}",
-        Excerpt(part.word),
+        Excerpt(place.part.word),
         Grouped(i64::from(target) - i64::from(address) - 1)
     )
 }

@@ -51,14 +51,13 @@ impl fmt::Display for Count {
 
 /// The report with these messages, and behind them a line with their numbers, if there are any.
 fn counted(
-    messages: String,
+    mut text: String,
     file: &str,
     errors: usize,
     warnings: usize,
 ) -> Result<Report, AllocError>
     ensures numbers { IfOk result (λ r. (r.errors ≡ errors) × (r.warnings ≡ warnings)) }
 {
-    let mut text = messages;
     let all = errors.saturating_add(warnings);
     if all > 0 {
         let (refused, warned) = (Count(errors, "error"), Count(warnings, "warning"));
@@ -113,13 +112,8 @@ fn no_text_report(
     let (front, rest) = bytes.split_at(place.min(bytes.len()));
     let front = std::str::from_utf8(front).unwrap_or("");
     let line = front.split('\n').count();
-    let column = front
-        .rsplit('\n')
-        .next()
-        .unwrap_or("")
-        .chars()
-        .count()
-        .saturating_add(1);
+    let last = front.rsplit('\n').next().unwrap_or("");
+    let column = last.chars().count().saturating_add(1);
     let text = match (bytes, rest.first()) {
         ([0xFF, 0xFE, ..] | [0xFE, 0xFF, ..], _) | (_, None) => format!(in alloc;
             "{file}:{line}:{column}: error: the file is UTF-16; save it as UTF-8 [NotUtf8]\n"

@@ -25,10 +25,8 @@ fn remark_at(place: Place<'_>, kind: Fault) -> Result<Remark, AllocError> {
         Fault::SecondOrig => {
             let mut lines = place.source.reader.lines().iter();
             let before = lines.position(|line| line.origin().is_some()).unwrap_or(0);
-            format!(in alloc;
-                "a source has one .ORIG, the one of line {}",
-                before.saturating_add(1)
-            )
+            let line = before.saturating_add(1);
+            format!(in alloc; "a source has one .ORIG, the one of line {line}")
         }
         Fault::TooLong => String::from_str(
             alloc,
