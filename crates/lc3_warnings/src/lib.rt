@@ -16,7 +16,6 @@ mod returns;
 mod setting;
 mod strings;
 mod texts;
-mod unused;
 mod walk;
 mod warning;
 

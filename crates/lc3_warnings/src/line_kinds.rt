@@ -8,12 +8,11 @@ ghost use Rattle.lc3_warnings.specs.Warnings.{if_accepted, told, line_kinds};
 
 use crate::around::{Around, runs_into_data, runs_past_end, starts_in_data};
 use crate::codes::stale_codes;
-use crate::misspelt::misspelt;
+use crate::misspelt::{misspelt, unused_label};
 use crate::numbers::{decimal_origin, unknown_trap, wraps};
 use crate::returns::lost_return;
 use crate::setting::Settings;
 use crate::strings::loaded_string;
-use crate::unused::unused_label;
 use crate::warning::{Kind, Warning};
 use lc3_asm::Line;
 use std::alloc::AllocError;
@@ -72,6 +71,8 @@ pub fn push_line(
     let accepted = setting.accepted;
     let misspelt = misspelt(alloc, &setting.named, &setting.mentioned, bytes, line)?;
     let unused = unused_label(alloc, &setting.named, bytes, line, around)?;
+    let lost = lost_return(setting.profile, &setting.called, line, before);
+    let loaded = loaded_string(&setting.strings, line, around, before);
     let kinds = [
         wraps(bytes, line),
         unknown_trap(line),
@@ -81,15 +82,9 @@ pub fn push_line(
         if_accepted(accepted, starts_in_data(around)),
         if_accepted(accepted, runs_into_data(around)),
         if_accepted(accepted, runs_past_end(around)),
-        if_accepted(
-            accepted,
-            lost_return(setting.profile, &setting.called, line, before),
-        ),
+        if_accepted(accepted, lost),
         if_accepted(accepted, stale_codes(&setting.named, line, before)),
-        if_accepted(
-            accepted,
-            loaded_string(&setting.strings, line, around, before),
-        ),
+        if_accepted(accepted, loaded),
     ];
     push_kinds(found, before.len() + 1, &kinds)
 }

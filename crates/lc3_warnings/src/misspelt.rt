@@ -1,4 +1,4 @@
-//! Labels alone on their lines that were meant as operations.
+//! Labels that no line names, and labels alone on their lines that were meant as operations.
 
 ghost use Rattle.std.specs.Prelude.{◌≡◌, IfOk, is_some};
 ghost use Rattle.std.specs.List.{list_any};
@@ -6,8 +6,10 @@ ghost use Rattle.lc3_spelling.specs.Edits.{near_edits};
 ghost use Rattle.lc3_table.specs.Tokens.{tokens};
 ghost use Rattle.lc3_warnings.specs.Private.Names.{is_among};
 ghost use Rattle.lc3_asm.specs.Views.{seen_line};
-ghost use Rattle.lc3_warnings.specs.Labels.{is_near, is_word_alone, was_meant, misspelt};
+ghost use Rattle.lc3_warnings.specs.Labels.{is_near, is_word_alone, was_meant, misspelt, may_be_for_reader, unused_label};
 
+use crate::around::Around;
+use crate::flow::Flow;
 use crate::names::Names;
 use crate::warning::Kind;
 use lc3_asm::{Line, Token, first_token};
@@ -43,7 +45,7 @@ fn is_word_alone(bytes: &[u8]) -> bool
 }
 
 /// Whether a line that nothing names was rather meant as an operation.
-pub fn was_meant(alloc: Global, bytes: &[u8], line: &Line) -> Result<bool, AllocError>
+fn was_meant(alloc: Global, bytes: &[u8], line: &Line) -> Result<bool, AllocError>
     ensures value { IfOk result (λ meant. meant ≡ was_meant bytes.now (seen_line line.now)) }
 {
     match line {
@@ -72,4 +74,35 @@ pub fn misspelt(
     }
     let was_meant = was_meant(alloc, bytes, line)?;
     Ok(was_meant.then_some(Kind::Misspelt))
+}
+
+fn may_be_for_reader(around: Around) -> bool
+    ensures value { result ≡ may_be_for_reader around }
+{
+    let behind = around.here.or(around.next.map(|next| next.flow));
+    matches!(
+        (around.previous, behind),
+        (None, _) | (Some(Flow::GoesOn), Some(Flow::GoesOn | Flow::Stops))
+    )
+}
+
+/// Whether no line names the label of this line, which stands so.
+pub fn unused_label(
+    alloc: Global,
+    named: &Names,
+    bytes: &[u8],
+    line: &Line,
+    around: Around,
+) -> Result<Option<Kind>, AllocError>
+    ensures value { IfOk result (λ kind.
+        kind ≡ unused_label (is_among named.now) bytes.now (seen_line line.now) around) }
+{
+    let Some(name) = line.label() else {
+        return Ok(None);
+    };
+    if named.contains(name) || may_be_for_reader(around) {
+        return Ok(None);
+    }
+    let was_meant = was_meant(alloc, bytes, line)?;
+    Ok((!was_meant).then_some(Kind::UnusedLabel))
 }
