@@ -1,10 +1,11 @@
 -- Labels that are added to others.
-use Rattle.std.proofs.Common.{◌≡◌, ℕ, zero, suc, ◌+◌, ◌<◌, Bool, true, false, ◌||◌, List, [], ◌∷◌, ◌++◌, length, take, map, get_or, slice_get, refl, ap, sym, ◌∙◌, Option, Some, None, option_map, is_some}
+use Rattle.std.proofs.Common.{◌≡◌, ℕ, zero, suc, ◌+◌, ◌<◌, Bool, true, false, ◌||◌, List, [], ◌∷◌, length, take, map, get_or, slice_get, refl, ap, sym, ◌∙◌, Option, Some, None, option_map, is_some}
 use Rattle.std.specs.Prelude.{bytes_eq, string_bytes, String, cond}
 use Rattle.std.specs.List.{list_any}
 use Rattle.std.specs.HashSet.{HashSet, contains_text}
 use Rattle.std.proofs.Math.Bool.{or-true, or-false}
 use Rattle.std.proofs.lemmas.List.Folds.{list_any_none, list_any_more}
+use Rattle.std.proofs.lemmas.Bool.Decides.{same_from_decides}
 use Rattle.std.proofs.lemmas.Slice.Eq.{bytes_eq-Decides}
 use Rattle.lc3_spelling.specs.Edits.{near_edits, IsNearest}
 use Rattle.lc3_warnings.specs.Labels.{bare_operations, is_near}
@@ -27,11 +28,10 @@ any-more p f xs i d x h is =
 pub among-kept : {Z : Type 0} (name : List ℕ) (ks : List (String Z)) → list_any (λ k. bytes_eq name (string_bytes k)) ks ≡ is_among (map string_bytes ks) name
 among-kept name ks = sym (list_any_map (bytes_eq name) string_bytes ks)
 
-bytes_eq-sym : (a b : List ℕ) (x y : Bool) → bytes_eq a b ≡ x → bytes_eq b a ≡ y → x ≡ y
-bytes_eq-sym a b true true h k = refl
-bytes_eq-sym a b false false h k = refl
-bytes_eq-sym a b true false h k = sym ((bytes_eq-Decides b a).1 (sym ((bytes_eq-Decides a b).0 h))) ∙ k
-bytes_eq-sym a b false true h k = sym h ∙ (bytes_eq-Decides a b).1 (sym ((bytes_eq-Decides b a).0 k))
+bytes_eq-sym : (a b : List ℕ) → bytes_eq a b ≡ bytes_eq b a
+bytes_eq-sym a b =
+    let same = bytes_eq-Decides b a in
+    same_from_decides (bytes_eq a b) (bytes_eq b a) (bytes_eq-Decides a b) (λ e. sym (same.0 e), λ e. same.1 (sym e))
 
 cond-or : (a b : Bool) → cond a true b ≡ (b || a)
 cond-or true b = sym (or-true b)
@@ -43,7 +43,7 @@ pub among-more : {Z S : Type 0} (name word : List ℕ) (old new : HashSet (Strin
 among-more name word old new e =
     sym (among-kept word new.keys) ∙ e ∙ cond-or (bytes_eq name word) (contains_text old word)
     ∙ ap (λ b. b || bytes_eq name word) (among-kept word old.keys)
-    ∙ ap (λ b. is_among (map string_bytes old.keys) word || b) (bytes_eq-sym name word (bytes_eq name word) (bytes_eq word name) refl refl)
+    ∙ ap (λ b. is_among (map string_bytes old.keys) word || b) (bytes_eq-sym name word)
 
 some_any : {X : Type 0} (t : X → List ℕ) (w : List ℕ) (names : List X) (i least : ℕ) → option_map (λ n. near_edits w (t n)) (slice_get names i) ≡ Some (Some least)
     → list_any (λ n. is_some (near_edits w (t n))) names ≡ true

@@ -13,7 +13,7 @@ use Rattle.lc3_warnings.specs.Around.{around}
 use Rattle.lc3_asm.specs.Texts.{lines}
 use Rattle.lc3_asm.specs.Faults.{Reading, reading}
 use Rattle.lc3_table.specs.declared.profile.Profile.{Profile}
-use Rattle.lc3_warnings.specs.Warnings.{Setting, setting_of, told, line_kinds, lines_told, after_end, is_accepted, warnings_of, warnings}
+use Rattle.lc3_warnings.specs.Warnings.{Setting, setting_of, told, line_kinds, lines_told, after_end, is_accepted, warnings}
 
 or-none : {A : Type 0} (o : Option A) → option_or o None ≡ o
 or-none None = refl
@@ -62,20 +62,13 @@ module _ (read : List Read) (i : ℕ) (d x : Read) (h : i < length read) (is : x
       let here : drop i read ≡ x ∷ drop (i + 1) read = drop_more read i d h ∙ ap (λ y. y ∷ drop (i + 1) read) (sym is) in
       let before = map seen_line (take i read) in
       let behind = map seen_line (drop (i + 1) read) in
-      let tail = lines_told s (map seen_line (take (i + 1) read)) rest behind in
       let own = flat_map (told (length before + 1)) (line_kinds s bytes (seen_line x) (around before (seen_line x) behind) (reverse before)) in
       let count : i ≡ length before = sym (length-map (take i read) seen_line ∙ length-take-le i read (omega (arith, h))) in
       let next : n ≡ next_from (length before + 1) behind = e ∙ ap (λ k. next_from (k + 1) behind) count in
       let one : flat_map (told (length (take i read) + 1)) (line_kinds s bytes (seen_line x) (record { previous = p; here = o; next = n }) (reverse before)) ≡ own =
-      ap (λ k. flat_map (told (k + 1)) (line_kinds s bytes (seen_line x) (record { previous = p; here = o; next = n }) (reverse before))) (sym (length-map (take i read) seen_line))
-      ∙ ap (λ u. flat_map (told (length before + 1)) (line_kinds s bytes (seen_line x) (record { previous = u; here = o; next = n }) (reverse before))) a
-      ∙ ap (λ u. flat_map (told (length before + 1)) (line_kinds s bytes (seen_line x) (record { previous = last_flow before; here = u; next = n }) (reverse before))) b
-      ∙ ap (λ u. flat_map (told (length before + 1)) (line_kinds s bytes (seen_line x) (record { previous = last_flow before; here = flow_of (seen_line x); next = u }) (reverse before))) next in
-      ap (λ u. u ++ tail) (g ∙ ap (λ u. fs ++ u) one)
-      ∙ append_assoc fs own tail
-      ∙ ap (λ u. fs ++ (own ++ lines_told s u rest behind)) front
-      ∙ ap (λ u. fs ++ lines_told s before (bytes ∷ rest) (map seen_line u)) (sym here)
-      ∙ f
+      rw (sym (length-map (take i read) seen_line), a, b, next) refl in
+      rw (g, front) (ap (λ u. (fs ++ u) ++ lines_told s (before ++ seen_line x ∷ []) rest behind) one
+      ∙ append_assoc fs own (lines_told s (before ++ seen_line x ∷ []) rest behind) ∙ rw here at f)
 
 -- all the warnings of a text: those of its lines, and then that of the lines behind `.END`
 pub all_told : (p : Profile) (text : List ℕ) (accepted : Bool) (s : Setting) (read : List Read) (r : Reading) (rest : List (List ℕ)) (fs gs : List Warning)
@@ -84,10 +77,4 @@ pub all_told : (p : Profile) (text : List ℕ) (accepted : Bool) (s : Setting) (
     → gs ≡ fs ++ after_end (length read) rest → gs ≡ warnings p text
 all_told p text accepted s read r rest fs gs a m e t f d g =
     let count : length read ≡ length r.read = sym (length-map read seen_line) ∙ ap length m in
-    g
-    ∙ ap (λ u. fs ++ after_end (length read) u) d
-    ∙ ap (λ n. fs ++ after_end n (drop n (lines text))) count
-    ∙ ap (λ u. u ++ after_end (length r.read) (drop (length r.read) (lines text)))
-    (f ∙ ap (λ u. lines_told u [] (lines text) (map seen_line read)) t ∙ ap (λ ls. lines_told (setting_of p accepted (lines text) r) [] (lines text) ls) m)
-    ∙ ap (λ b. warnings_of p b (lines text) r) a
-    ∙ ap (λ u. warnings_of p (is_accepted text) (lines text) u) e
+    rw (g, f, d, t, count, m, e, a) refl

@@ -4,8 +4,7 @@ ghost use Rattle.std.specs.Prelude.{◌≡◌, ◌+◌, ◌++◌, [], map, drop,
 ghost use Rattle.lc3_warnings.specs.Private.Settings.{seen_setting};
 ghost use Rattle.lc3_asm.specs.Texts.{lines};
 ghost use Rattle.lc3_asm.specs.Faults.{reading, faults};
-ghost use Rattle.lc3_asm.specs.Views.{lines_if};
-ghost use Rattle.lc3_asm.specs.Views.{seen_line};
+ghost use Rattle.lc3_asm.specs.Views.{lines_if, seen_line};
 ghost use Rattle.lc3_warnings.specs.Flows.{flow_of, next_from};
 ghost use Rattle.lc3_warnings.specs.Warnings.{lines_told, first_with_token, after_end, is_accepted, warnings};
 

@@ -5,7 +5,7 @@ use Rattle.std.specs.List.{list_any}
 use Rattle.lc3_table.specs.declared.operation.Fault.TheVariants as fault
 use Rattle.lc3_asm.specs.declared.fault.LineFault.{LineFault}
 use Rattle.lc3_asm.specs.Texts.{lines}
-use Rattle.lc3_warnings.specs.Labels.{mentions, faulty_line, mentioned}
+use Rattle.lc3_warnings.specs.Labels.{mentions, faulty_line}
 use Rattle.lc3_warnings.proofs.NameLemmas.{any-more}
 use Rattle.lc3_warnings.proofs.mentions.mentioned.Goals as goal
 
@@ -22,7 +22,5 @@ loop-fault-preserved c = λ name.
 
 pub returns : goal.returns
 returns c = record {
-  all =
-      fun_ext c.loop-fault.invariant
-      ∙ ap (mentioned (lines c.args.text.now)) (take_all c.loop-fault.fault-index c.args.faults.now (omega (arith, c.loop-fault-test.false)));
+  all = rw (take_all c.loop-fault.fault-index c.args.faults.now (omega (arith, c.loop-fault-test.false))) at (fun_ext c.loop-fault.invariant);
 }

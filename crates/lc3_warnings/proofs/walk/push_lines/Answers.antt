@@ -1,8 +1,7 @@
 use Rattle.std.proofs.Common.{rules, ◌≡◌, ◌++◌, ◌∷◌, [], map, take, drop, ap, sym, ◌∙◌, append-nil, arith}
 use Rattle.std.proofs.lemmas.List.{drop_all}
 use Rattle.lc3_asm.specs.Texts.{lines}
-use Rattle.lc3_asm.specs.Views.{lines_if}
-use Rattle.lc3_asm.specs.Views.{seen_line}
+use Rattle.lc3_asm.specs.Views.{lines_if, seen_line}
 use Rattle.lc3_warnings.specs.Private.Settings.{seen_setting}
 use Rattle.lc3_warnings.specs.Warnings.{lines_told}
 use Rattle.lc3_warnings.proofs.WalkLemmas.{rest-more, rest-none, lines-none, previous-more, lines-more}

@@ -1,7 +1,6 @@
 use Rattle.std.proofs.Common.{◌≡◌, ◌++◌, [], map, take, drop}
 use Rattle.lc3_asm.specs.Texts.{lines}
-use Rattle.lc3_asm.specs.Views.{lines_if}
-use Rattle.lc3_asm.specs.Views.{seen_line}
+use Rattle.lc3_asm.specs.Views.{lines_if, seen_line}
 use Rattle.lc3_warnings.specs.Flows.{last_flow, next_from}
 use Rattle.lc3_warnings.specs.Private.Settings.{seen_setting}
 use Rattle.lc3_warnings.specs.Warnings.{lines_told}
