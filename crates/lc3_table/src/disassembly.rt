@@ -2,7 +2,7 @@
 
 ghost use Rattle.std.specs.Prelude.{◌≡◌, [], ◌∷◌, ◌++◌, Some, OnOk, IfOk, string_bytes};
 ghost use Rattle.lc3_table.specs.Meaning.{HasWords};
-ghost use Rattle.lc3_table.specs.Text.{operand_text, branch_text, unnamed_trap_text, trap_text, instruction_text, data_text, word_text, line_text, image_lines};
+ghost use Rattle.lc3_table.specs.Text.{operand_text, branch_text, trap_text, instruction_text, data_text, word_text, line_text, image_lines};
 
 use crate::decoding::decode;
 use crate::instr::{Instr, Operand};
@@ -22,7 +22,6 @@ impl fmt::Display for Operand {
     }
 }
 
-/// A word that is shown as data.
 #[derive(Clone, Copy)]
 struct Data(u16);
 
@@ -30,8 +29,7 @@ impl fmt::Display for Data {
     ghost output = { λ d. Some (data_text d.0) };
 
     fn fmt<W: fmt::Write>(&self, f: &mut fmt::Formatter<W>) -> fmt::Result {
-        let word = Hex(self.0);
-        write!(f, ".FILL {word}")
+        write!(f, ".FILL {}", Hex(self.0))
     }
 }
 
@@ -57,23 +55,8 @@ impl fmt::Display for Branch {
         } else if offset.low_bits() == 0 {
             write!(f, "NOP")
         } else {
-            let data = Data(offset.low_bits());
-            write!(f, "{data}")
+            write!(f, "{}", Data(offset.low_bits()))
         }
-    }
-}
-
-/// A trap that goes by its vector.
-#[derive(Clone, Copy)]
-struct Unnamed(u8);
-
-impl fmt::Display for Unnamed {
-    ghost output = { λ v. Some (unnamed_trap_text v.0) };
-
-    #[tactic(auto, using(std::proofs::lemmas::Fmt::hex_byte))]
-    fn fmt<W: fmt::Write>(&self, f: &mut fmt::Formatter<W>) -> fmt::Result {
-        let vector = self.0;
-        write!(f, "TRAP x{vector:02X}")
     }
 }
 
@@ -84,17 +67,12 @@ struct Vector(u8);
 impl fmt::Display for Vector {
     ghost output = { λ v. Some (trap_text v.0) };
 
+    #[tactic(auto, using(std::proofs::lemmas::Fmt::hex_byte))]
     fn fmt<W: fmt::Write>(&self, f: &mut fmt::Formatter<W>) -> fmt::Result {
         let vector = self.0;
         match ConsoleTrap::of_vector(vector) {
-            Some(trap) => {
-                let name = trap.name();
-                write!(f, "{name}")
-            }
-            None => {
-                let unnamed = Unnamed(vector);
-                write!(f, "{unnamed}")
-            }
+            Some(trap) => write!(f, "{}", trap.name()),
+            None => write!(f, "TRAP x{vector:02X}"),
         }
     }
 }
@@ -107,10 +85,7 @@ impl fmt::Display for Instr {
             Instr::Add { dr, sr1, operand } => write!(f, "ADD {dr},{sr1},{operand}"),
             Instr::And { dr, sr1, operand } => write!(f, "AND {dr},{sr1},{operand}"),
             Instr::Not { dr, sr } => write!(f, "NOT {dr},{sr}"),
-            Instr::Br { n, z, p, offset } => {
-                let branch = Branch { n, z, p, offset };
-                write!(f, "{branch}")
-            }
+            Instr::Br { n, z, p, offset } => write!(f, "{}", Branch { n, z, p, offset }),
             Instr::Jmp { base } => {
                 if base.number() == 7 {
                     write!(f, "RET")
@@ -128,10 +103,7 @@ impl fmt::Display for Instr {
             Instr::Sti { sr, offset } => write!(f, "STI {sr},{offset}"),
             Instr::Str { sr, base, offset } => write!(f, "STR {sr},{base},{offset}"),
             Instr::Rti => write!(f, "RTI"),
-            Instr::Trap { vector } => {
-                let trap = Vector(vector);
-                write!(f, "{trap}")
-            }
+            Instr::Trap { vector } => write!(f, "{}", Vector(vector)),
         }
     }
 }
@@ -148,10 +120,7 @@ impl fmt::Display for WordText {
         let word = self.0;
         match decode(word) {
             Some(instr) => write!(f, "{instr}"),
-            None => {
-                let data = Data(word);
-                write!(f, "{data}")
-            }
+            None => write!(f, "{}", Data(word)),
         }
     }
 }
@@ -166,19 +135,12 @@ pub fn text(alloc: Global, word: u16) -> Result<String, AllocError>
     WordText(word).to_string(alloc)
 }
 
-/// Adds the line of one word.
 #[tactic(auto, unfolding(crate::specs::Text::line_text))]
 fn push_line(text: &mut String, address: u16, word: u16) -> Result<(), AllocError>
     ensures text { OnOk result (string_bytes text.new
         ≡ string_bytes text.old ++ line_text address word) }
 {
-    let place = Hex(address);
-    let content = Hex(word);
-    let shown = WordText(word);
-    match write!(text, "{place} {content} {shown}\n") {
-        Ok(()) => Ok(()),
-        Err(e) => Err(e),
-    }
+    write!(text, "{} {} {}\n", Hex(address), Hex(word), WordText(word))
 }
 
 /// A line for each word of an image: its address, the word and its text, as `x3000 xE002 LEA R0,#2`.

@@ -39,13 +39,6 @@ fn low<const B: u32>(number: i64) -> Off<B>
     Off::of_low_bits(low_word(number))
 }
 
-/// The number modulo 256.
-fn low_byte(number: i64) -> u8
-    ensures value { result ≡ low_bits 8 number }
-{
-    (low_word(number) & 255) as u8
-}
-
 fn console_trap(trap: ConsoleTrap) -> Instr
     ensures trap { result ≡ Trap (console_vector trap) }
 {
@@ -108,7 +101,7 @@ fn with_number(operation: Operation, number: i64) -> Option<Instr>
             Some(Instr::Jsr { offset })
         }
         Operation::Trap => {
-            let vector = low_byte(number);
+            let vector = (low_word(number) & 255) as u8;
             Some(Instr::Trap { vector })
         }
         _ => None,

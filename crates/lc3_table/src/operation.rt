@@ -85,7 +85,6 @@ pub enum Fault {
     OffsetRange,
 }
 
-/// Each operation and directive; a branch by each choice of codes but none.
 const OPERATIONS: [Operation; 35] = [
     Operation::Add,
     Operation::And,
