@@ -1,39 +1,25 @@
 -- All the faults of a text, and the one for which it is refused.
-use Rattle.std.proofs.Common.{◌≡◌, ℕ, ◌+◌, ◌<◌, get_or, Bool, true, false, List, [], ◌∷◌, ◌++◌, length, take, drop, map, refl, ap, sym, ◌∙◌, append_assoc, arith, Option, Some, None}
-use Rattle.std.specs.Prelude.{Result, Ok, Err, slice_get, ◌||◌, nat_le, if◌then◌else◌}
+use Rattle.std.proofs.Common.{◌≡◌, ℕ, ◌+◌, ◌<◌, get_or, Bool, true, false, List, [], ◌∷◌, ◌++◌, length, take, map, refl, ap, sym, ◌∙◌, arith, Option, Some, None}
+use Rattle.std.specs.Prelude.{Result, Ok, Err, MatchOption, slice_get, ◌||◌, nat_le, if◌then◌else◌}
 use Rattle.std.specs.List.{flat_map, list_any}
-use Rattle.std.proofs.lemmas.Bool.Decides.{nat_tests}
-use Rattle.std.proofs.lemmas.List.{drop_more, take_more, map-append}
+use Rattle.std.proofs.lemmas.Bool.{cond_both, le-leb}
+use Rattle.std.proofs.lemmas.List.{flat_map_more}
 use Rattle.lc3_table.specs.Statements.{Line, Operand, ◌>>=◌, unless, line}
 use Rattle.lc3_table.specs.Meaning.{words}
 use Rattle.lc3_table.specs.declared.operation.Fault.{Fault}
 use Rattle.lc3_table.specs.declared.operation.Fault.TheVariants as fault
 use Rattle.lc3_word.specs.Segment.{first_device}
-use Rattle.lc3_asm.specs.Texts.{At, LineWords, at_line, lines, lines_after, line_after, lines_read, is_end, is_origin, is_duplicate, label_of, labels, value, address_after, place_fault, with_earlier, words_at, all_ok, words_of_lines, program_with_words, program_of, program_of_lines, program}
-use Rattle.lc3_asm.specs.Faults.{Reading, outcome, told_once, fitted, kept, fault_of, numbered, reading_with, reading_after, reading, unless_unknown, label_fault, label_faults, faults_of, faults, refused_for, has_faults}
+use Rattle.lc3_asm.specs.Texts.{At, LineWords, at_line, lines, lines_after, line_after, lines_read, is_end, is_origin, labels, value, address_after, place_fault, with_earlier, words_at, all_ok, words_of_lines, program_with_words, program_of, program_of_lines, program}
+use Rattle.lc3_asm.specs.Faults.{Reading, outcome, told_once, kept, fault_of, numbered, reading_with, reading_after, reading, unless_unknown, label_fault, label_faults, faults_of, faults, refused_for, has_faults}
 use Rattle.lc3_asm.specs.Views.{seen_line}
 use Rattle.lc3_asm.specs.declared.line.Line.{Line as Read}
 use Rattle.lc3_asm.specs.declared.fault.LineFault.{LineFault}
-use Rattle.lc3_asm.proofs.LayoutLemmas.{front-length}
-use Rattle.lc3_asm.proofs.PassLemmas.{pairs_after, pairs-counted}
-use Rattle.lc3_asm.proofs.MoreLines.{fits_from_test}
-use Rattle.lc3_asm.proofs.Outcomes.{unless-ok}
+use Rattle.lc3_asm.proofs.EarlierLemmas.{behind-append, seen-more, length-seen}
+use Rattle.lc3_asm.proofs.ReadLemmas.{line-read, read-below}
 
 -- these lines without a fault
 abbrev pub sound : List (Line Operand) → Reading
 sound ls = record { read = ls; found = [] }
-
--- the faults of these lines' labels, which stand after those before
-abbrev pub label_faults_after : Reading → List (Line Operand) → List (Line Operand) → List LineFault
-label_faults_after r before [] = []
-label_faults_after r before (l ∷ ls) = label_fault r (before, l) ++ label_faults_after r (before ++ l ∷ []) ls
-
-label-faults-paired : (r : Reading) (before ls : List (Line Operand)) → label_faults_after r before ls ≡ flat_map (label_fault r) (pairs_after before ls)
-label-faults-paired r before [] = refl
-label-faults-paired r before (l ∷ ls) = ap (λ u. label_fault r (before, l) ++ u) (label-faults-paired r (before ++ l ∷ []) ls)
-
-pub label-faults-passed : (r : Reading) → label_faults r ≡ label_faults_after r [] r.read
-label-faults-passed r = ap (flat_map (label_fault r)) (pairs-counted [] r.read) ∙ sym (label-faults-paired r [] r.read)
 
 -- a line without a fault is kept as it is
 told-none : (o : Option Fault) → told_once [] o ≡ o
@@ -49,24 +35,11 @@ outcome-sound before bytes = by (line (list_any is_origin before) bytes)
     by (Ok l) = ap (λ o. unless o (Ok l)) (told-none (place_fault before l))
     by (Err k) = refl
 
-fitted-same : (before : List (Line Operand)) (l : Line Operand) → place_fault before l ≡ None → fitted before l ≡ l
-fitted-same before l e =
-    let small = fits_from_test (is_duplicate before (label_of l)) (address_after (before ++ l ∷ [])) e in
-    let test : nat_le (address_after (before ++ l ∷ [])) first_device ≡ true = grind (arith, nat_tests) in
-    rw test refl
-
-placed : (before : List (Line Operand)) (bytes : List ℕ) (l : Line Operand) → line_after before bytes ≡ Ok l → place_fault before l ≡ None
-placed before bytes l e = by (line (list_any is_origin before) bytes) e
-  where
-    by : (r : Result (Line Operand) Fault) → (r >>= λ k. unless (place_fault before k) (Ok k)) ≡ Ok l → place_fault before l ≡ None
-    by (Ok k) f =
-        let both = unless-ok (place_fault before k) (Ok k) l f in
-        let same : k ≡ l = cc in
-        rw (← same) both.0
-    by (Err k) f = cc
-
 kept-sound : (before : List (Line Operand)) (bytes : List ℕ) (l : Line Operand) → line_after before bytes ≡ Ok l → kept (sound before) bytes ≡ l
-kept-sound before bytes l e = rw (outcome-sound before bytes, e) (fitted-same before l (placed before bytes l e))
+kept-sound before bytes l e =
+    let small = read-below before l (line-read before bytes l e) in
+    let test : nat_le (address_after (before ++ l ∷ [])) first_device ≡ true = le-leb (address_after (before ++ l ∷ [])) first_device small in
+    rw (outcome-sound before bytes, e, test) refl
 
 with-sound : (before : List (Line Operand)) (bytes : List ℕ) (l : Line Operand) → line_after before bytes ≡ Ok l → reading_with (sound before) bytes ≡ sound (before ++ l ∷ [])
 with-sound before bytes l e = rw (kept-sound before bytes l e, outcome-sound before bytes, e) refl
@@ -85,18 +58,16 @@ first-with r bytes f e = by r.found (numbered (length r.read + 1) (fault_of (out
 
 first-after : (r : Reading) (rest : List (List ℕ)) (f : LineFault) → first_found r ≡ Some f → first_found (reading_after r rest) ≡ Some f
 first-after r [] f e = e
-first-after r (bytes ∷ rest) f e = by (is_end (kept r bytes)) (first-after (reading_with r bytes) rest f (first-with r bytes f e))
-  where
-    by : (b : Bool) → first_found (reading_after (reading_with r bytes) rest) ≡ Some f → first_found (if b then reading_with r bytes else reading_after (reading_with r bytes) rest) ≡ Some f
-    by true h = first-with r bytes f e
-    by false h = h
+first-after r (bytes ∷ rest) f e =
+    let next = first-with r bytes f e in
+    cond_both (is_end (kept r bytes)) (reading_with r bytes) (reading_after (reading_with r bytes) rest) (λ q. first_found q ≡ Some f) (λ _. next) (λ _. first-after (reading_with r bytes) rest f next)
 
 -- what the lines of a text without a fault of reading are, and the first fault of one with some
 abbrev pub ReadsAs : Result (List (Line Operand)) At → Reading → Type 0
 ReadsAs (Ok ls) r = r ≡ sound ls
 ReadsAs (Err e) r = first_found r ≡ Some (record { line = e.line; kind = e.kind })
 
-pub reads-as : (before : List (Line Operand)) (rest : List (List ℕ)) → ReadsAs (lines_after before rest) (reading_after (sound before) rest)
+reads-as : (before : List (Line Operand)) (rest : List (List ℕ)) → ReadsAs (lines_after before rest) (reading_after (sound before) rest)
 reads-as before [] = refl
 reads-as before (bytes ∷ rest) = by (λ l. reads-as (before ++ l ∷ []) rest) (line_after before bytes) refl
   where
@@ -123,33 +94,14 @@ reads-as before (bytes ∷ rest) = by (λ l. reads-as (before ++ l ∷ []) rest)
     by more (Ok l) e = ended more l (is_end l) (is_end (kept (sound before) bytes)) (ap is_end (sym (kept-sound before bytes l e))) e
     by more (Err k) e = stays (is_end (kept (sound before) bytes)) (record { line = length before + 1; kind = k }) (faulty k e)
 
--- the lines of a text without a fault of reading
-pub read_whole : (text : List ℕ) (r : Reading) (fs : List LineFault) → r ≡ reading text → fs ≡ r.found → length fs < 1 → lines_read text ≡ Ok r.read
-read_whole text r (f ∷ fs) e same h = absurd (omega (arith, h))
-read_whole text r [] e same h = by (lines_read text) (reads-as [] (lines text))
+-- the lines of a text without a fault of reading, and the first fault of one with some
+pub read_as : (text : List ℕ) (r : Reading) → r ≡ reading text
+    → MatchOption (first_found r) (lines_read text ≡ Ok r.read) (λ f. lines_read text ≡ Err (record { line = f.line; kind = f.kind }))
+read_as text r e = by (lines_read text) (reads-as [] (lines text))
   where
-    by : (read : Result (List (Line Operand)) At) → ReadsAs read (reading text) → read ≡ Ok r.read
-    by (Ok ls) k = ap (λ u. Ok u.read) (sym (e ∙ k))
-    by (Err k) m =
-        let found : first_found r ≡ Some (record { line = k.line; kind = k.kind }) = ap first_found e ∙ m in
-        let nothing : first_found r ≡ None = ap (λ fs. slice_get fs 0) (sym same) in
-        absurd (cc)
-
--- the fault of one with some
-pub read_faulty : (text : List ℕ) (r : Reading) (fs : List LineFault) (d : LineFault) → r ≡ reading text → fs ≡ r.found → 0 < length fs
-    → lines_read text ≡ Err (record { line = (get_or fs 0 d).line; kind = (get_or fs 0 d).kind })
-read_faulty text r [] d e same h = absurd (omega (arith, h))
-read_faulty text r (f ∷ fs) d e same h = by (lines_read text) (reads-as [] (lines text))
-  where
-    first : first_found r ≡ Some f
-    first = ap (λ gs. slice_get gs 0) (sym same)
-
-    by : (read : Result (List (Line Operand)) At) → ReadsAs read (reading text) → read ≡ Err (record { line = f.line; kind = f.kind })
-    by (Ok ls) k = let nothing : first_found r ≡ None = ap first_found (e ∙ k) in absurd (cc)
-    by (Err k) m =
-        let found : first_found r ≡ Some (record { line = k.line; kind = k.kind }) = ap first_found e ∙ m in
-        let same_first : f ≡ record { line = k.line; kind = k.kind } = cc in
-        rw same_first refl
+    by : (read : Result (List (Line Operand)) At) → ReadsAs read (reading text) → MatchOption (first_found r) (read ≡ Ok r.read) (λ f. read ≡ Err (record { line = f.line; kind = f.kind }))
+    by (Ok ls) k = rw (e ∙ k) refl
+    by (Err k) m = rw (ap first_found e ∙ m) refl
 
 -- the first error among results
 abbrev first_error : {A : Type 0} → Result A At → Option LineFault
@@ -203,24 +155,18 @@ first_fault text = by (lines_read text) (reads-as [] (lines text))
 pub first_of_all : (found : List LineFault) (text : List ℕ) → found ≡ faults text → slice_get found 0 ≡ refused_for (program text)
 first_of_all found text e = ap (λ fs. slice_get fs 0) e ∙ first_fault text
 
-module _ (r : Reading) (lines : List Read) (i : ℕ) (d x : Read) (address : ℕ) (h : i < length lines) (is : x ≡ get_or lines i d) (at : address ≡ address_after (map seen_line (take i lines))) where
-  front : map seen_line (take (i + 1) lines) ≡ map seen_line (take i lines) ++ seen_line x ∷ []
-  front = ap (map seen_line) (take_more lines i d h ∙ ap (λ y. take i lines ++ y ∷ []) (sym is)) ∙ map-append seen_line (take i lines) (x ∷ [])
-
-  -- one more line whose label has this fault, or none
-  pub labels-more : (fs gs all : List LineFault) (k : Option Fault) → fault_of (words (value (labels r.read)) address (seen_line x)) ≡ k
-      → gs ≡ fs ++ numbered (i + 1) (unless_unknown r.found k)
-      → fs ++ label_faults_after r (map seen_line (take i lines)) (map seen_line (drop i lines)) ≡ all
-      → gs ++ label_faults_after r (map seen_line (take (i + 1) lines)) (map seen_line (drop (i + 1) lines)) ≡ all
-  labels-more fs gs all k e g f =
-      let here : drop i lines ≡ x ∷ drop (i + 1) lines = drop_more lines i d h ∙ ap (λ y. y ∷ drop (i + 1) lines) (sym is) in
-      let rest = label_faults_after r (map seen_line (take (i + 1) lines)) (map seen_line (drop (i + 1) lines)) in
-      let one : numbered (i + 1) (unless_unknown r.found k) ≡ label_fault r (map seen_line (take i lines), seen_line x) =
-      ap (λ n. numbered (n + 1) (unless_unknown r.found k)) (sym (front-length lines i (omega (arith, h))))
-      ∙ ap (λ o. numbered (length (map seen_line (take i lines)) + 1) (unless_unknown r.found o)) (sym e)
-      ∙ ap (λ a. numbered (length (map seen_line (take i lines)) + 1) (unless_unknown r.found (fault_of (words (value (labels r.read)) a (seen_line x))))) at in
-      ap (λ u. u ++ rest) (g ∙ ap (λ u. fs ++ u) one)
-      ∙ append_assoc fs (label_fault r (map seen_line (take i lines), seen_line x)) rest
-      ∙ ap (λ u. fs ++ (label_fault r (map seen_line (take i lines), seen_line x) ++ label_faults_after r u (map seen_line (drop (i + 1) lines)))) front
-      ∙ ap (λ u. fs ++ label_faults_after r (map seen_line (take i lines)) (map seen_line u)) (sym here)
-      ∙ f
+-- one more line whose label has this fault, or none
+pub labels-more : (r : Reading) (lines : List Read) (i : ℕ) (d x : Read) (address : ℕ) (start fs gs : List LineFault)
+    → i < length lines → x ≡ get_or lines i d → address ≡ address_after (map seen_line (take i lines))
+    → gs ≡ fs ++ numbered (i + 1) (unless_unknown r.found (fault_of (words (value (labels r.read)) address (seen_line x))))
+    → fs ≡ start ++ flat_map (label_fault r) (with_earlier (map seen_line (take i lines)))
+    → gs ≡ start ++ flat_map (label_fault r) (with_earlier (map seen_line (take (i + 1) lines)))
+labels-more r lines i d x address start fs gs h is at g f =
+    let ls = map seen_line (take i lines) in
+    let one : numbered (i + 1) (unless_unknown r.found (fault_of (words (value (labels r.read)) address (seen_line x)))) ≡ label_fault r (ls, seen_line x) =
+    ap (λ n. numbered (n + 1) (unless_unknown r.found (fault_of (words (value (labels r.read)) address (seen_line x))))) (sym (length-seen lines i (omega (arith, h))))
+    ∙ ap (λ a. numbered (length ls + 1) (unless_unknown r.found (fault_of (words (value (labels r.read)) a (seen_line x))))) at in
+    g ∙ ap (λ u. u ++ numbered (i + 1) (unless_unknown r.found (fault_of (words (value (labels r.read)) address (seen_line x))))) f
+    ∙ ap (λ u. (start ++ flat_map (label_fault r) (with_earlier ls)) ++ u) one
+    ∙ flat_map_more (label_fault r) start (with_earlier ls) (ls, seen_line x)
+    ∙ ap (λ es. start ++ flat_map (label_fault r) es) (sym (ap with_earlier (seen-more lines i d x h is) ∙ behind-append [] ls (seen_line x ∷ [])))

@@ -7,7 +7,7 @@ pub mod LayoutLemmas
 pub mod LineLemmas
 pub mod OperandSteps
 pub mod Outcomes
-pub mod PassLemmas
+pub mod EarlierLemmas
 pub mod PlaceLemmas
 pub mod ReachLemmas
 pub mod ReadLemmas

@@ -1,14 +1,18 @@
 -- What is known of a line that was read: it stands where it may, and its operands fit their forms.
-use Rattle.std.proofs.Common.{◌≡◌, ℕ, ◌-◌, ◌<◌, ◌≤◌, Bool, true, false, List, [], ◌∷◌, length, refl, Some, None, Option, arith, ◌∙◌}
-use Rattle.std.specs.Prelude.{Ok, Err, ◌&&◌, ◌==◌, nat_lt, nat_le, if◌then◌else◌}
+use Rattle.std.proofs.Common.{◌≡◌, ℕ, ◌-◌, Bool, true, false, List, [], ◌∷◌, length, refl, Some, None, Option, arith}
+use Rattle.std.specs.Prelude.{Ok, ◌&&◌, ◌==◌, nat_lt, nat_le}
 use Rattle.std.specs.Char.{to_ascii_uppercase}
-use Rattle.std.proofs.lemmas.Bool.{and_parts}
+use Rattle.std.proofs.lemmas.Bool.{and_parts, leb-true, lt-ltb}
 use Rattle.std.proofs.lemmas.Bool.Decides.{nat_tests}
+use Rattle.std.proofs.lemmas.Option.{cond_some}
 use lib.IntN.{ℤ}
 use Rattle.lc3_word.specs.Numbers.{number}
 use Rattle.lc3_table.specs.Tokens.{Token, Word, Quoted, Unclosed, tokens}
 use Rattle.lc3_table.specs.Words.{register, upper, is_label}
-use Rattle.lc3_table.specs.Statements.{Line, Blank, LabelAlone, Operates, Operand, Register, Number, Label, Characters, unless, or_fault, token_fault, parts, order_fault, with_operands, all_operands, operands, operand, operand_by_register, operand_by_number, operand_by_name, characters, accepts, takes_register, takes_label, forms, line, ◌>>=◌}
+use Rattle.lc3_table.specs.Statements.{Line, Blank, LabelAlone, Operates, Operand, Register, Number, Label, Characters, unless, or_fault, token_fault, parts, order_fault, with_operands, all_operands, operands, operand, operand_by_register, operand_by_number, characters, accepts, takes_register, takes_label, forms, line, ◌>>=◌}
+use Rattle.lc3_table.specs.Meaning.{field_of}
+use Rattle.lc3_table.specs.declared.fields.Field.{Field}
+use Rattle.lc3_table.specs.declared.fields.Field.TheVariants as field
 use Rattle.lc3_table.specs.declared.operation.Form.{Form}
 use Rattle.lc3_table.specs.declared.operation.Form.TheVariants as form
 use Rattle.lc3_table.specs.declared.operation.Fault.TheVariants as fault
@@ -41,15 +45,21 @@ line_ordered started bytes l e =
     let came = line_came started bytes l e in
     same_order started came.statement l came.ordered came.operands_are
 
+-- a field that an operand of a form can be
+abbrev pub field_fits : Form → Field → Bool
+field_fits form.Characters field.Nothing = true
+field_fits form.Characters y = false
+field_fits form.Register (field.Register r) = true
+field_fits form.Register y = false
+field_fits form.RegisterOrImmediate (field.Register r) = true
+field_fits f (field.Number z) = true
+field_fits f y = false
+
 -- an operand that may stand in a form
 abbrev pub fits : Form → Operand → Bool
-fits form.Characters (Characters cs) = true
-fits form.Characters x = false
-fits f (Characters cs) = false
-fits f (Register r) = takes_register f && nat_lt r 8
 fits f (Label n) = takes_label f
-fits form.Register (Number z) = false
-fits f (Number z) = true
+fits f (Register r) = takes_register f && nat_lt r 8
+fits f x = field_fits f (field_of x)
 
 abbrev pub all_fit : List Form → List Operand → Bool
 all_fit [] [] = true
@@ -64,51 +74,34 @@ register-below : (w : List ℕ) (r : ℕ) → register w ≡ Some r → nat_lt r
 unfolding register
 register-below [] r e = cc
 register-below (a ∷ []) r e = cc
-register-below (a ∷ d ∷ []) r e = by (to_ascii_uppercase a == 82 && nat_le 48 d && nat_le d 55) refl e
-  where
-    by : (b : Bool) → (to_ascii_uppercase a == 82 && nat_le 48 d && nat_le d 55) ≡ b → (if b then Some (d - 48) else None) ≡ Some r → nat_lt r 8 ≡ true
-    by true t h =
-        let last : nat_le d 55 ≡ true = (and_parts (to_ascii_uppercase a == 82 && nat_le 48 d) (nat_le d 55) t).1 in
-        let same : d - 48 ≡ r = cc in
-        let small : d ≤ 55 = grind (arith, nat_tests) in
-        let below : r < 8 = omega arith in
-        grind (arith, nat_tests)
-    by false t h = cc
+register-below (a ∷ d ∷ []) r e =
+    let taken = cond_some (to_ascii_uppercase a == 82 && nat_le 48 d && nat_le d 55) (d - 48) r e in
+    let last = (and_parts (to_ascii_uppercase a == 82 && nat_le 48 d) (nat_le d 55) taken.0).1 in
+    lt-ltb r 8 (omega (arith, leb-true d 55 last, taken.1))
 register-below (a ∷ d ∷ c ∷ cs) r e = cc
 
-named-fits : (f : Form) (w : List ℕ) (x : Operand) → ((n : List ℕ) → fits f (Label n) ≡ takes_label f) → operand_by_name f w ≡ Ok x → fits f x ≡ true
-named-fits f w x label e =
-    let taken = if-ok (takes_label f && is_label w) (Ok (Label (upper w))) x fault.BadNumber e in
-    let same : Label (upper w) ≡ x = ok-same (Label (upper w)) x taken.1 in
-    rw (← same) (label (upper w) ∙ (and_parts (takes_label f) (is_label w) taken.0).0)
+number-taken : (f : Form) (z : ℤ) → accepts f z ≡ true → field_fits f (field.Number z) ≡ true
+number-taken form.Register z h = cc
+number-taken form.Characters z h = cc
+number-taken f z h = refl
 
-counted-fits : (f : Form) (w : List ℕ) (o : Option ℤ) (x : Operand) → ((z : ℤ) → fits f (Number z) ≡ true) → ((n : List ℕ) → fits f (Label n) ≡ takes_label f) → operand_by_number f w o ≡ Ok x → fits f x ≡ true
-counted-fits f w (Some z) x count label e =
+number-fits : (f : Form) (w : List ℕ) (o : Option ℤ) (x : Operand) → operand_by_number f w o ≡ Ok x → fits f x ≡ true
+number-fits f w (Some z) x e =
     let taken = if-ok (accepts f z) (Ok (Number z)) x fault.Range e in
     let same : Number z ≡ x = ok-same (Number z) x taken.1 in
-    rw (← same) (count z)
-counted-fits f w None x count label e = named-fits f w x label e
-
-registered-fits : (f : Form) (w : List ℕ) (r : ℕ) (x : Operand) → register w ≡ Some r → ((s : ℕ) → fits f (Register s) ≡ (takes_register f && nat_lt s 8))
-    → (if takes_register f then Ok (Register r) else Err fault.BadOperands) ≡ Ok x → fits f x ≡ true
-registered-fits f w r x is fit e =
-    let taken = if-ok (takes_register f) (Ok (Register r)) x fault.BadOperands e in
-    let same : Register r ≡ x = ok-same (Register r) x taken.1 in
-    let below : nat_lt r 8 ≡ true = register-below w r is in
-    let both : (takes_register f && nat_lt r 8) ≡ true = rw (taken.0, below) refl in
-    rw (← same) (fit r ∙ both)
-
-no_characters : (w : List ℕ) (o : Option ℤ) (x : Operand) → operand_by_number form.Characters w o ≡ Ok x → fits form.Characters x ≡ true
-no_characters w (Some z) x e = cc
-no_characters w None x e = cc
+    rw (← same) (number-taken f z taken.0)
+number-fits f w None x e =
+    let taken = if-ok (takes_label f && is_label w) (Ok (Label (upper w))) x fault.BadNumber e in
+    let same : Label (upper w) ≡ x = ok-same (Label (upper w)) x taken.1 in
+    rw (← same) (and_parts (takes_label f) (is_label w) taken.0).0
 
 word-fits : (f : Form) (w : List ℕ) (o : Option ℕ) (x : Operand) → register w ≡ o → operand_by_register f w o ≡ Ok x → fits f x ≡ true
-word-fits form.Characters w (Some r) x e h = cc
-word-fits form.Characters w None x e h = no_characters w (number w) x h
-word-fits form.Register w (Some r) x e h = registered-fits form.Register w r x e (λ s. refl) h
-word-fits form.Register w None x e h = cc
-word-fits f w (Some r) x e h = registered-fits f w r x e (λ s. refl) h
-word-fits f w None x e h = counted-fits f w (number w) x (λ z. refl) (λ n. refl) h
+word-fits f w (Some r) x is e =
+    let taken = if-ok (takes_register f) (Ok (Register r)) x fault.BadOperands e in
+    let same : Register r ≡ x = ok-same (Register r) x taken.1 in
+    rw (← same, taken.0, register-below w r is) refl
+word-fits form.Register w None x is e = cc
+word-fits f w None x is e = number-fits f w (number w) x e
 
 string-fits : (o : Option (List ℕ)) (x : Operand) → (or_fault o fault.BadString >>= λ cs. Ok (Characters cs)) ≡ Ok x → fits form.Characters x ≡ true
 string-fits (Some cs) x h = let same : Characters cs ≡ x = ok-same (Characters cs) x h in rw (← same) refl

@@ -1,9 +1,10 @@
 -- An instruction reaches the place of the label that it names.
-use Rattle.std.proofs.Common.{◌≡◌, ℕ, ◌+◌, ◌<◌, ◌≤◌, Bool, true, false, List, [], ◌∷◌, ◌++◌, map, refl, ap, sym, ◌∙◌, arith, Some, None, Option}
+use Rattle.std.proofs.Common.{◌≡◌, ℕ, ◌+◌, ◌-◌, ◌^◌, ◌<◌, ◌≤◌, Bool, true, false, List, [], ◌∷◌, ◌++◌, map, refl, ap, sym, ◌∙◌, arith, Some, None, Option}
 use Rattle.std.specs.Prelude.{Ok, pos, neg_ℤ, ◌+ℤ◌, ◌-ℤ◌, ◌≤ℤ◌, int_le, ◌&&◌, nat_lt, option_and_then}
 use lib.IntN.{ℤ}
 use Rattle.std.specs.List.{list_any}
 use Rattle.std.proofs.lemmas.Int.{ints}
+use Rattle.std.proofs.lemmas.Nat.{pow_pos}
 use Rattle.std.proofs.lemmas.Bool.{and_parts, ltb-true}
 use Rattle.lc3_word.specs.Words.{IsSigned, low_bits}
 use Rattle.lc3_word.specs.Segment.{first_device}
@@ -18,17 +19,17 @@ use Rattle.lc3_table.specs.declared.fields.Field.TheVariants as field
 use Rattle.lc3_table.specs.declared.operation.Fault.TheVariants as fault
 use Rattle.lc3_table.specs.Instructions.{word_of, IsInstruction}
 use Rattle.lc3_table.specs.Decoding.{instruction_at}
-use Rattle.lc3_table.specs.Statements.{Line, Operates, Operand, Register, Label, forms, operation_order, is_between, or_fault, ◌>>=◌}
-use Rattle.lc3_table.specs.Meaning.{offset_between, label_number, resolved_field, resolved_fields, words_of_fields, instruction}
+use Rattle.lc3_table.specs.Statements.{Operates, Operand, Register, Label, forms, operation_order, is_between, or_fault, ◌>>=◌}
+use Rattle.lc3_table.specs.Meaning.{offset, label_number, resolved_field, resolved_fields, words_of_fields, instruction}
 use Rattle.lc3_table.proofs.Reading.{instruction_at-word_of}
-use Rattle.lc3_asm.specs.Texts.{Program, program, value, labels, origin, words_of, address_after, is_origin}
-use Rattle.lc3_asm.specs.Laws.{HasLine, Reaches, word_at, pc_offset, target_named, field_with_offset}
+use Rattle.lc3_asm.specs.Texts.{value, labels, origin, words_of, address_after, is_origin}
+use Rattle.lc3_asm.specs.Laws.{InstructionsReachLabels, FillsHoldAddresses, word_at, pc_offset, target_named, field_with_offset}
 use Rattle.lc3_asm.proofs.Outcomes.{then-ok, or_fault-ok, if-ok, ok-same}
 use Rattle.lc3_asm.proofs.LineLemmas.{all_fit, line_fitting, line_ordered}
 use Rattle.lc3_asm.proofs.ReadLemmas.{meant, lines-read, read-at}
 use Rattle.lc3_asm.proofs.LabelLemmas.{labels-below}
-use Rattle.lc3_asm.proofs.PassLemmas.{labels-passed}
-use Rattle.lc3_asm.proofs.PlaceLemmas.{found, origin-front, word-at}
+use Rattle.lc3_asm.proofs.MoreLines.{origin-front}
+use Rattle.lc3_asm.proofs.PlaceLemmas.{found, word-at}
 
 -- a label that an offset of this many bits reaches
 record Near (values : List ℕ → Option ℕ) (address bits : ℕ) (name : List ℕ) (y : Field) : Type 0 where
@@ -39,42 +40,29 @@ record Near (values : List ℕ → Option ℕ) (address bits : ℕ) (name : List
   signed : IsSigned bits offset
   reaches : pos (address + 1) +ℤ offset ≡ pos target
 
-signed9 : (z : ℤ) → is_between (neg_ℤ (pos 256)) (pos 255) z ≡ true → IsSigned 9 z
-signed9 z h =
-    let both = and_parts (int_le (neg_ℤ (pos 256)) z) (int_le z (pos 255)) h in
-    let low : neg_ℤ (pos 256) ≤ℤ z = grind (arith, ints, both.0) in
-    let high : z ≤ℤ pos 255 = grind (arith, ints, both.1) in
-    record { low = omega (arith, ints, low); high = omega (arith, ints, high) }
+signed : (bits : ℕ) (z : ℤ) → is_between (neg_ℤ (pos (2 ^ (bits - 1)))) (pos (2 ^ (bits - 1) - 1)) z ≡ true → IsSigned bits z
+signed bits z h =
+    let both = and_parts (int_le (neg_ℤ (pos (2 ^ (bits - 1)))) z) (int_le z (pos (2 ^ (bits - 1) - 1))) h in
+    let low : neg_ℤ (pos (2 ^ (bits - 1))) ≤ℤ z = grind (arith, ints, both.0) in
+    let high : z ≤ℤ pos (2 ^ (bits - 1) - 1) = grind (arith, ints, both.1) in
+    record { low = omega (arith, ints, low); high = omega (arith, ints, high, pow_pos (bits - 1)) }
 
-signed11 : (z : ℤ) → is_between (neg_ℤ (pos 1024)) (pos 1023) z ≡ true → IsSigned 11 z
-signed11 z h =
-    let both = and_parts (int_le (neg_ℤ (pos 1024)) z) (int_le z (pos 1023)) h in
-    let low : neg_ℤ (pos 1024) ≤ℤ z = grind (arith, ints, both.0) in
-    let high : z ≤ℤ pos 1023 = grind (arith, ints, both.1) in
-    record { low = omega (arith, ints, low); high = omega (arith, ints, high) }
-
-near : (values : List ℕ → Option ℕ) (address bits : ℕ) (f : Form) (low high : ℤ) (name : List ℕ) (y : Field)
-    → ((t : ℕ) → label_number f address t ≡ offset_between low high (pos t -ℤ pos (address + 1))) → ((z : ℤ) → is_between low high z ≡ true → IsSigned bits z)
-    → resolved_field values address f (Label name) ≡ Ok y → Near values address bits name y
-near values address bits f low high name y is signed e =
+near : (values : List ℕ → Option ℕ) (address bits : ℕ) (f : Form) (name : List ℕ) (y : Field)
+    → ((t : ℕ) → label_number f address t ≡ offset bits address t) → resolved_field values address f (Label name) ≡ Ok y → Near values address bits name y
+near values address bits f name y is e =
     let target = then-ok (or_fault (values name) fault.Undefined) (λ t. label_number f address t >>= λ z. Ok (field.Number z)) y e in
     let number = then-ok (label_number f address target.0) (λ z. Ok (field.Number z)) y target.2 in
-    let inside = if-ok (is_between low high (pos target.0 -ℤ pos (address + 1))) (Ok (pos target.0 -ℤ pos (address + 1))) number.0 fault.OffsetRange (sym (is target.0) ∙ number.1) in
-    let same : pos target.0 -ℤ pos (address + 1) ≡ number.0 = ok-same (pos target.0 -ℤ pos (address + 1)) number.0 inside.1 in
+    let there = pos target.0 -ℤ pos (address + 1) in
+    let inside = if-ok (is_between (neg_ℤ (pos (2 ^ (bits - 1)))) (pos (2 ^ (bits - 1) - 1)) there) (Ok there) number.0 fault.OffsetRange (sym (is target.0) ∙ number.1) in
+    let same : pos target.0 -ℤ pos (address + 1) ≡ number.0 = ok-same there number.0 inside.1 in
     record {
       offset = number.0;
       target = target.0;
       target_is = or_fault-ok (values name) fault.Undefined target.0 target.1;
       field_is = sym (ok-same (field.Number number.0) y number.2);
-      signed = rw (← same) (signed (pos target.0 -ℤ pos (address + 1)) inside.0);
+      signed = rw (← same) (signed bits there inside.0);
       reaches = omega (arith, ints, same);
     }
-
-near9 : (values : List ℕ → Option ℕ) (address : ℕ) (name : List ℕ) (y : Field) → resolved_field values address form.Target (Label name) ≡ Ok y → Near values address 9 name y
-near9 values address name y e = near values address 9 form.Target (neg_ℤ (pos 256)) (pos 255) name y (λ t. refl) signed9 e
-
-near11 : (values : List ℕ → Option ℕ) (address : ℕ) (name : List ℕ) (y : Field) → resolved_field values address form.FarTarget (Label name) ≡ Ok y → Near values address 11 name y
-near11 values address name y e = near values address 11 form.FarTarget (neg_ℤ (pos 1024)) (pos 1023) name y (λ t. refl) signed11 e
 
 -- the fields of a label alone, and of a register and a label
 one-field : (values : List ℕ → Option ℕ) (address : ℕ) (f : Form) (name : List ℕ) (ys : List Field) → resolved_fields values address (f ∷ []) (Label name ∷ []) ≡ Ok ys
@@ -91,95 +79,74 @@ two-fields values address r f name ys e =
     (last.0, last.1, sym (ok-same (field.Register r ∷ rest.0) ys rest.2) ∙ ap (λ zs. field.Register r ∷ zs) last.2)
 
 -- the instruction that a line with a label is
-record Written (values : List ℕ → Option ℕ) (address : ℕ) (o : Operation) (xs : List Operand) (name ws : List ℕ) : Type 0 where
+record Written (values : List ℕ → Option ℕ) (address : ℕ) (o : Operation) (xs : List Operand) (ws : List ℕ) : Type 0 where
   written : Instr
   offset : ℤ
   target : ℕ
   written_is : instruction o (map (field_with_offset offset) xs) ≡ Some written
   offset_is : pc_offset written ≡ Some offset
-  target_is : values name ≡ Some target
+  target_is : option_and_then values (target_named o xs) ≡ Some target
   is_instruction : IsInstruction written
   word_is : ws ≡ word_of written ∷ []
   reaches : pos (address + 1) +ℤ offset ≡ pos target
 
-register-fits : (r : ℕ) (b : Bool) → ((true && nat_lt r 8) && b) ≡ true → r < 8
-register-fits r b h = ltb-true r 8 (and_parts (nat_lt r 8) b h).0
+-- the instruction of a label that is near, and of what stands before it
+with_offset : (values : List ℕ → Option ℕ) (address bits : ℕ) (o : Operation) (xs : List Operand) (make : ℤ → Instr) (m : List ℕ) (y : Field) (ys : List Field) (ws : List ℕ)
+    → Near values address bits m y → target_named o xs ≡ Some m → ((z : ℤ) → y ≡ field.Number z → ys ≡ map (field_with_offset z) xs)
+    → ((z : ℤ) → instruction o (map (field_with_offset z) xs) ≡ Some (make z)) → ((z : ℤ) → pc_offset (make z) ≡ Some z)
+    → ((z : ℤ) → words_of_fields o xs (map (field_with_offset z) xs) ≡ word_of (make z) ∷ []) → ((z : ℤ) → IsSigned bits z → IsInstruction (make z))
+    → words_of_fields o xs ys ≡ ws → Written values address o xs ws
+with_offset values address bits o xs make m y ys ws near named fields written offset word fits e = record {
+  written = make near.offset;
+  offset = near.offset;
+  target = near.target;
+  written_is = written near.offset;
+  offset_is = offset near.offset;
+  target_is = ap (option_and_then values) named ∙ near.target_is;
+  is_instruction = fits near.offset near.signed;
+  word_is = sym e ∙ ap (words_of_fields o xs) (fields near.offset near.field_is) ∙ word near.offset;
+  reaches = near.reaches;
+}
+
+-- the instruction of a label alone
+alone : (values : List ℕ → Option ℕ) (address bits : ℕ) (f : Form) (o : Operation) (make : ℤ → Instr) (m ws : List ℕ) → ((t : ℕ) → label_number f address t ≡ offset bits address t)
+    → target_named o (Label m ∷ []) ≡ Some m → ((z : ℤ) → instruction o (field.Number z ∷ []) ≡ Some (make z)) → ((z : ℤ) → pc_offset (make z) ≡ Some z)
+    → ((z : ℤ) → words_of_fields o (Label m ∷ []) (field.Number z ∷ []) ≡ word_of (make z) ∷ []) → ((z : ℤ) → IsSigned bits z → IsInstruction (make z))
+    → (resolved_fields values address (f ∷ []) (Label m ∷ []) >>= λ ys. Ok (words_of_fields o (Label m ∷ []) ys)) ≡ Ok ws → Written values address o (Label m ∷ []) ws
+alone values address bits f o make m ws is named written offset word fits e =
+    let ys = then-ok (resolved_fields values address (f ∷ []) (Label m ∷ [])) (λ ys. Ok (words_of_fields o (Label m ∷ []) ys)) ws e in
+    let y = one-field values address f m ys.0 ys.1 in
+    with_offset values address bits o (Label m ∷ []) make m y.0 ys.0 ws (near values address bits f m y.0 is y.1) named (λ z k. y.2 ∙ ap (λ x. x ∷ []) k) written offset word fits (ok-same _ ws ys.2)
 
 -- the instruction of a register and a label
 registered : (values : List ℕ → Option ℕ) (address : ℕ) (o : Operation) (make : ℤ → Instr) (r : ℕ) (m ws : List ℕ) → all_fit (form.Register ∷ form.Target ∷ []) (Register r ∷ Label m ∷ []) ≡ true
-    → ((z : ℤ) → instruction o (field.Register r ∷ field.Number z ∷ []) ≡ Some (make z)) → ((z : ℤ) → pc_offset (make z) ≡ Some z)
+    → target_named o (Register r ∷ Label m ∷ []) ≡ Some m → ((z : ℤ) → instruction o (field.Register r ∷ field.Number z ∷ []) ≡ Some (make z)) → ((z : ℤ) → pc_offset (make z) ≡ Some z)
     → ((z : ℤ) → words_of_fields o (Register r ∷ Label m ∷ []) (field.Register r ∷ field.Number z ∷ []) ≡ word_of (make z) ∷ []) → ((z : ℤ) → r < 8 → IsSigned 9 z → IsInstruction (make z))
     → (resolved_fields values address (form.Register ∷ form.Target ∷ []) (Register r ∷ Label m ∷ []) >>= λ ys. Ok (words_of_fields o (Register r ∷ Label m ∷ []) ys)) ≡ Ok ws
-    → Written values address o (Register r ∷ Label m ∷ []) m ws
-registered values address o make r m ws h written offset word fits e =
+    → Written values address o (Register r ∷ Label m ∷ []) ws
+registered values address o make r m ws h named written offset word fits e =
     let ys = then-ok (resolved_fields values address (form.Register ∷ form.Target ∷ []) (Register r ∷ Label m ∷ [])) (λ ys. Ok (words_of_fields o (Register r ∷ Label m ∷ []) ys)) ws e in
     let y = two-fields values address r form.Target m ys.0 ys.1 in
-    let near = near9 values address m y.0 y.1 in
-    let words : words_of_fields o (Register r ∷ Label m ∷ []) ys.0 ≡ ws = ok-same _ ws ys.2 in
-    record {
-      written = make near.offset;
-      offset = near.offset;
-      target = near.target;
-      written_is = written near.offset;
-      offset_is = offset near.offset;
-      target_is = near.target_is;
-      is_instruction = fits near.offset (register-fits r (true && true) h) near.signed;
-      word_is = sym words ∙ ap (words_of_fields o (Register r ∷ Label m ∷ [])) (y.2 ∙ ap (λ x. field.Register r ∷ x ∷ []) near.field_is) ∙ word near.offset;
-      reaches = near.reaches;
-    }
+    with_offset values address 9 o (Register r ∷ Label m ∷ []) make m y.0 ys.0 ws (near values address 9 form.Target m y.0 (λ t. refl) y.1) named (λ z k. y.2 ∙ ap (λ x. field.Register r ∷ x ∷ []) k)
+    written offset word (λ z. fits z (ltb-true r 8 (and_parts (nat_lt r 8) (true && true) h).0)) (ok-same _ ws ys.2)
 
 written : (values : List ℕ → Option ℕ) (address : ℕ) (o : Operation) (xs : List Operand) (name ws : List ℕ) → all_fit (forms o) xs ≡ true → target_named o xs ≡ Some name
-    → (resolved_fields values address (forms o) xs >>= λ ys. Ok (words_of_fields o xs ys)) ≡ Ok ws → Written values address o xs name ws
+    → (resolved_fields values address (forms o) xs >>= λ ys. Ok (words_of_fields o xs ys)) ≡ Ok ws → Written values address o xs ws
 unfolding instruction
 written values address (op.Branch n z p) (Label m ∷ []) name ws h t e =
-    let same : m ≡ name = cc in
-    let ys = then-ok (resolved_fields values address (form.Target ∷ []) (Label m ∷ [])) (λ ys. Ok (words_of_fields (op.Branch n z p) (Label m ∷ []) ys)) ws e in
-    let y = one-field values address form.Target m ys.0 ys.1 in
-    let near = near9 values address m y.0 y.1 in
-    let word : words_of_fields (op.Branch n z p) (Label m ∷ []) ys.0 ≡ ws = ok-same _ ws ys.2 in
-    rw (← same) (record {
-      written = Br n z p near.offset;
-      offset = near.offset;
-      target = near.target;
-      written_is = refl;
-      offset_is = refl;
-      target_is = near.target_is;
-      is_instruction = near.signed;
-      word_is = sym word ∙ ap (words_of_fields (op.Branch n z p) (Label m ∷ [])) (y.2 ∙ ap (λ x. x ∷ []) near.field_is);
-      reaches = near.reaches;
-    })
+    alone values address 9 form.Target (op.Branch n z p) (Br n z p) m ws (λ t. refl) refl (λ z. refl) (λ z. refl) (λ z. refl) (λ z signed. signed) e
 written values address op.JumpSubroutine (Label m ∷ []) name ws h t e =
-    let same : m ≡ name = cc in
-    let ys = then-ok (resolved_fields values address (form.FarTarget ∷ []) (Label m ∷ [])) (λ ys. Ok (words_of_fields op.JumpSubroutine (Label m ∷ []) ys)) ws e in
-    let y = one-field values address form.FarTarget m ys.0 ys.1 in
-    let near = near11 values address m y.0 y.1 in
-    let word : words_of_fields op.JumpSubroutine (Label m ∷ []) ys.0 ≡ ws = ok-same _ ws ys.2 in
-    rw (← same) (record {
-      written = Jsr near.offset;
-      offset = near.offset;
-      target = near.target;
-      written_is = refl;
-      offset_is = refl;
-      target_is = near.target_is;
-      is_instruction = near.signed;
-      word_is = sym word ∙ ap (words_of_fields op.JumpSubroutine (Label m ∷ [])) (y.2 ∙ ap (λ x. x ∷ []) near.field_is);
-      reaches = near.reaches;
-    })
+    alone values address 11 form.FarTarget op.JumpSubroutine Jsr m ws (λ t. refl) refl (λ z. refl) (λ z. refl) (λ z. refl) (λ z signed. signed) e
 written values address op.Load (Register r ∷ Label m ∷ []) name ws h t e =
-    let same : m ≡ name = cc in
-    rw (← same) (registered values address op.Load (Ld r) r m ws h (λ z. refl) (λ z. refl) (λ z. refl) (λ z below signed. (below, signed)) e)
+    registered values address op.Load (Ld r) r m ws h refl (λ z. refl) (λ z. refl) (λ z. refl) (λ z below signed. (below, signed)) e
 written values address op.LoadIndirect (Register r ∷ Label m ∷ []) name ws h t e =
-    let same : m ≡ name = cc in
-    rw (← same) (registered values address op.LoadIndirect (Ldi r) r m ws h (λ z. refl) (λ z. refl) (λ z. refl) (λ z below signed. (below, signed)) e)
+    registered values address op.LoadIndirect (Ldi r) r m ws h refl (λ z. refl) (λ z. refl) (λ z. refl) (λ z below signed. (below, signed)) e
 written values address op.LoadAddress (Register r ∷ Label m ∷ []) name ws h t e =
-    let same : m ≡ name = cc in
-    rw (← same) (registered values address op.LoadAddress (Lea r) r m ws h (λ z. refl) (λ z. refl) (λ z. refl) (λ z below signed. (below, signed)) e)
+    registered values address op.LoadAddress (Lea r) r m ws h refl (λ z. refl) (λ z. refl) (λ z. refl) (λ z below signed. (below, signed)) e
 written values address op.Store (Register r ∷ Label m ∷ []) name ws h t e =
-    let same : m ≡ name = cc in
-    rw (← same) (registered values address op.Store (St r) r m ws h (λ z. refl) (λ z. refl) (λ z. refl) (λ z below signed. (below, signed)) e)
+    registered values address op.Store (St r) r m ws h refl (λ z. refl) (λ z. refl) (λ z. refl) (λ z below signed. (below, signed)) e
 written values address op.StoreIndirect (Register r ∷ Label m ∷ []) name ws h t e =
-    let same : m ≡ name = cc in
-    rw (← same) (registered values address op.StoreIndirect (Sti r) r m ws h (λ z. refl) (λ z. refl) (λ z. refl) (λ z below signed. (below, signed)) e)
+    registered values address op.StoreIndirect (Sti r) r m ws h refl (λ z. refl) (λ z. refl) (λ z. refl) (λ z below signed. (below, signed)) e
 written values address o xs name ws h t e = cc
 
 -- such a line stands behind the `.ORIG`
@@ -188,8 +155,7 @@ started-before true o xs name t e = refl
 started-before false op.Origin xs name t e = cc
 started-before false o xs name t e = cc
 
-pub reaches_label : (text : List ℕ) (p : Program) (before : List (Line Operand)) (label : Option (List ℕ)) (o : Operation) (xs : List Operand) (name : List ℕ)
-    → program text ≡ Ok p → HasLine text before (Operates label o xs) → target_named o xs ≡ Some name → Reaches p (address_after before) o xs name
+pub reaches_label : InstructionsReachLabels
 reaches_label text p before label o xs name accepted has named =
     let ls = before ++ Operates label o xs ∷ has.0 in
     let means = meant text p ls accepted has.1 in
@@ -208,7 +174,7 @@ reaches_label text p before label o xs name accepted has named =
       target = line.target;
       written_is = line.written_is;
       offset_is = line.offset_is;
-      target_is = line.target_is;
+      target_is = rw named at line.target_is;
       stands = ap (option_and_then instruction_at) at ∙ instruction_at-word_of line.written (word_of line.written) line.is_instruction refl;
       reaches = line.reaches;
     })
@@ -228,9 +194,7 @@ fill-started : (s : Bool) → operation_order s op.Fill ≡ None → s ≡ true
 fill-started true e = refl
 fill-started false e = cc
 
-pub fill_holds_address : (text : List ℕ) (p : Program) (before : List (Line Operand)) (label : Option (List ℕ)) (name : List ℕ)
-    → program text ≡ Ok p → HasLine text before (Operates label op.Fill (Label name ∷ []))
-    → (target : ℕ) × (value p.symbols name ≡ Some target) × (word_at p.image (address_after before) ≡ Some target)
+pub fill_holds_address : FillsHoldAddresses
 fill_holds_address text p before label name accepted has =
     let l = Operates label op.Fill (Label name ∷ []) in
     let ls = before ++ l ∷ has.0 in
@@ -241,7 +205,7 @@ fill_holds_address text p before label name accepted has =
     let word = filled (value (labels ls)) (address_after before) name place.here place.here_is in
     let started = fill-started (list_any is_origin before) (line_ordered (list_any is_origin before) read.bytes l read.read) in
     let first : origin ls ≡ origin before = origin-front before (l ∷ has.0) started in
-    let small : word.0 ≤ first_device = labels-below [] ls name word.0 reads (omega arith) (ap (λ u. value u name) (sym (labels-passed ls)) ∙ word.1) in
+    let small : word.0 ≤ first_device = labels-below ls name word.0 reads (omega arith) word.1 in
     let whole : low_bits 16 (pos word.0) ≡ word.0 = omega (arith, small) in
     let at : word_at (record { origin = origin ls; words = words_of means.made }) (address_after before) ≡ Some word.0 =
     word-at (origin ls) (address_after before) (words_of means.made) place.earlier place.later word.0 (place.cut ∙ ap (λ u. place.earlier ++ (u ++ place.later)) (word.2 ∙ ap (λ w. w ∷ []) whole))

@@ -8,7 +8,6 @@ use Rattle.lc3_table.specs.declared.operation.Fault.TheVariants as fault
 use Rattle.lc3_asm.specs.Texts.{LineWords, Program, at_line, lines, is_origin, is_end, label_of, labels, line_after, lines_after, lines_read, words_of_lines, place_fault, is_duplicate, address_after, program_with_words, program_of, program_of_lines, program}
 use Rattle.lc3_asm.proofs.Outcomes.{then-ok, unless-ok, ok-same}
 use Rattle.lc3_asm.proofs.MoreLines.{fits_from_test}
-use Rattle.lc3_asm.proofs.PassLemmas.{words_after, words-passed}
 use Rattle.lc3_word.specs.Segment.{first_device}
 
 -- a line that was read after these
@@ -22,7 +21,7 @@ abbrev pub AreRead : List (Line Operand) → List (Line Operand) → Type 0
 AreRead before [] = Unit {0}
 AreRead before (l ∷ ls) = IsRead before l × AreRead (before ++ l ∷ []) ls
 
-line-read : (before : List (Line Operand)) (bytes : List ℕ) (l : Line Operand) → line_after before bytes ≡ Ok l → IsRead before l
+pub line-read : (before : List (Line Operand)) (bytes : List ℕ) (l : Line Operand) → line_after before bytes ≡ Ok l → IsRead before l
 line-read before bytes l e =
     let first = then-ok (line (list_any is_origin before) bytes) (λ k. unless (place_fault before k) (Ok k)) l e in
     let second = unless-ok (place_fault before first.0) (Ok first.0) l first.2 in
@@ -68,13 +67,13 @@ all-below front (l ∷ ls) r h = subst (λ u. address_after u ≤ first_device) 
 -- the words and the program of an accepted text with these lines
 pub record Meant (p : Program) (ls : List (Line Operand)) : Type 0 where
   pub made : List LineWords
-  pub words_are : words_after (labels ls) [] ls ≡ Ok made
+  pub words_are : words_of_lines (labels ls) ls ≡ Ok made
   pub laid : program_with_words ls made ≡ p
 
 meant-started : (p : Program) (ls : List (Line Operand)) (n : ℕ) (b : Bool) → (if b then program_of ls else Err (record { line = n; kind = fault.NoOrig })) ≡ Ok p → Meant p ls
 meant-started p ls n true e =
     let made = then-ok (words_of_lines (labels ls) ls) (λ ws. Ok (program_with_words ls ws)) p e in
-    record { made = made.0; words_are = sym (words-passed (labels ls) ls) ∙ made.1; laid = ok-same (program_with_words ls made.0) p made.2 }
+    record { made = made.0; words_are = made.1; laid = ok-same (program_with_words ls made.0) p made.2 }
 meant-started p ls n false e = cc
 
 pub meant : (text : List ℕ) (p : Program) (ls : List (Line Operand)) → program text ≡ Ok p → lines_read text ≡ Ok ls → Meant p ls

@@ -1,11 +1,10 @@
 -- The rows cover the image, and the listing shows it.
-use Rattle.std.proofs.Common.{◌≡◌, ℕ, zero, suc, ◌+◌, ◌%◌, ◌<◌, ◌≤◌, Bool, true, false, List, [], ◌∷◌, ◌++◌, length, take, drop, replicate, refl, ap, ◌∙◌, subst, arith, append_assoc, None}
+use Rattle.std.proofs.Common.{◌≡◌, ℕ, zero, suc, ◌+◌, ◌%◌, ◌<◌, ◌≤◌, Bool, true, false, List, [], ◌∷◌, ◌++◌, length, take, drop, replicate, refl, ap, ◌∙◌, subst, arith, append_assoc, None, length-drop}
 use Rattle.std.specs.Prelude.{Ok, sum_by, ◌==◌}
 use Rattle.std.proofs.lemmas.Bool.Decides.{nat_tests}
 use Rattle.std.specs.List.{list_any}
 use Rattle.std.proofs.lemmas.List.{length-append}
 use Rattle.std.proofs.lemmas.List.Sums.{sum_by-append}
-use Rattle.std.proofs.Common.{length-drop}
 use Rattle.lc3_table.specs.Statements.{Line, Blank, LabelAlone, Operates, Operand, order_fault}
 use Rattle.lc3_table.specs.Meaning.{size}
 use Rattle.lc3_table.specs.declared.operation.Operation.TheVariants as op
@@ -15,9 +14,10 @@ use Rattle.lc3_asm.specs.Listings.{word_line, words_text, rows_text}
 use Rattle.lc3_asm.specs.Laws.{Follow, line_numbers, words_listed}
 use Rattle.lc3_asm.proofs.Outcomes.{ok-same}
 use Rattle.lc3_asm.proofs.LineLemmas.{line_ordered}
-use Rattle.lc3_asm.proofs.PassLemmas.{words_after}
+use Rattle.lc3_asm.proofs.EarlierLemmas.{words_behind}
+use Rattle.lc3_asm.proofs.MoreLines.{origin-front}
 use Rattle.lc3_asm.proofs.ReadLemmas.{AreRead, meant, has-lines, lines-read, all-below}
-use Rattle.lc3_asm.proofs.PlaceLemmas.{first-words, words-count, origin-front}
+use Rattle.lc3_asm.proofs.PlaceLemmas.{first-words, words-count}
 use Rattle.lc3_word.specs.Segment.{first_device}
 
 follow-row : (address place count line : ℕ) (rest : List Row) (end : ℕ) → (0 < count → place ≡ address) → Follow (address + count) rest end → Follow address (row line place count ++ rest) end
@@ -35,7 +35,7 @@ sized-started false (LabelAlone n) e h = absurd (omega (arith, h))
 sized-started false (Operates a op.Origin xs) e h = absurd (omega (arith, h))
 sized-started false (Operates a o xs) e h = cc
 
-follow : (known : List (List ℕ × ℕ)) (front ls : List (Line Operand)) (made : List LineWords) (address : ℕ) → AreRead front ls → words_after known front ls ≡ Ok made
+follow : (known : List (List ℕ × ℕ)) (front ls : List (Line Operand)) (made : List LineWords) (address : ℕ) → AreRead front ls → words_behind known front ls ≡ Ok made
     → address ≡ origin (front ++ ls) + sum_by size front → Follow address (rows_of made) (address + length (words_of made))
 follow known front [] made address r e at = let same : [] ≡ made = ok-same [] made e in rw (← same) (omega arith)
 follow known front (l ∷ ls) made address r e at =

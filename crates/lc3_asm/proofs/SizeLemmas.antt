@@ -1,9 +1,9 @@
 -- A line that was read has as many words as its size says.
 use Rattle.std.proofs.Common.{◌≡◌, ℕ, Bool, true, false, List, [], ◌∷◌, length, refl, arith, Some, None, Option}
-use Rattle.std.specs.Prelude.{Ok, is_some, ◌&&◌, nat_abs}
+use Rattle.std.specs.Prelude.{Ok, is_some, ◌&&◌, nat_abs, nat_lt}
 use Rattle.std.proofs.lemmas.List.{length-append, length-replicate}
 use lib.IntN.{ℤ}
-use Rattle.lc3_table.specs.Statements.{Line, Blank, LabelAlone, Operates, Operand, Register, Number, Label, Characters, or_fault, forms, ◌>>=◌}
+use Rattle.lc3_table.specs.Statements.{Line, Blank, LabelAlone, Operates, Operand, Register, Number, Label, Characters, or_fault, takes_register, takes_label, forms, ◌>>=◌}
 use Rattle.lc3_table.specs.Meaning.{words, size, operation_size, words_of_fields, instruction, instruction_words, resolved_field, label_number, resolved_fields}
 use Rattle.lc3_table.specs.declared.fields.Field.{Field}
 use Rattle.lc3_table.specs.declared.fields.Field.TheVariants as field
@@ -14,53 +14,32 @@ use Rattle.lc3_table.specs.declared.operation.Form.{Form}
 use Rattle.lc3_table.specs.declared.operation.Form.TheVariants as form
 use Rattle.lc3_table.specs.declared.operation.Fault.TheVariants as fault
 use Rattle.lc3_asm.proofs.Outcomes.{then-ok, ok-same}
-use Rattle.lc3_asm.proofs.LineLemmas.{fits, all_fit, line_fits}
+use Rattle.lc3_asm.proofs.LineLemmas.{field_fits, fits, all_fit, line_fits}
 use Rattle.std.proofs.lemmas.Bool.{and_parts}
-
--- a field that an operand of a form can be
-abbrev pub field_fits : Form → Field → Bool
-field_fits form.Characters field.Nothing = true
-field_fits form.Characters y = false
-field_fits form.Register (field.Register r) = true
-field_fits form.Register y = false
-field_fits form.RegisterOrImmediate (field.Register r) = true
-field_fits f (field.Number z) = true
-field_fits f y = false
 
 abbrev pub fields_fit : List Form → List Field → Bool
 fields_fit [] [] = true
 fields_fit (f ∷ fs) (y ∷ ys) = field_fits f y && fields_fit fs ys
 fields_fit _ _ = false
 
-label-field : (f : Form) (n : List ℕ) (z : ℤ) → fits f (Label n) ≡ true → field_fits f (field.Number z) ≡ true
-label-field form.Target n z h = refl
-label-field form.FarTarget n z h = refl
-label-field form.Value n z h = refl
-label-field f n z h = cc
-
-register-field : (f : Form) (r : ℕ) → fits f (Register r) ≡ true → field_fits f (field.Register r) ≡ true
+register-field : (f : Form) (r : ℕ) → takes_register f ≡ true → field_fits f (field.Register r) ≡ true
 register-field form.Register r h = refl
 register-field form.RegisterOrImmediate r h = refl
 register-field f r h = cc
 
-number-field : (f : Form) (z : ℤ) → fits f (Number z) ≡ true → field_fits f (field.Number z) ≡ true
-number-field form.Register z h = cc
-number-field form.Characters z h = cc
-number-field f z h = refl
-
-characters-field : (f : Form) (cs : List ℕ) → fits f (Characters cs) ≡ true → field_fits f field.Nothing ≡ true
-characters-field form.Characters cs h = refl
-characters-field f cs h = cc
+label-field : (f : Form) (z : ℤ) → takes_label f ≡ true → field_fits f (field.Number z) ≡ true
+label-field form.Register z h = cc
+label-field form.Characters z h = cc
+label-field f z h = refl
 
 resolved_field-fits : (values : List ℕ → Option ℕ) (address : ℕ) (f : Form) (x : Operand) (y : Field) → fits f x ≡ true → resolved_field values address f x ≡ Ok y → field_fits f y ≡ true
-resolved_field-fits values address f (Register r) y h e = let same : field.Register r ≡ y = ok-same (field.Register r) y e in rw (← same) (register-field f r h)
-resolved_field-fits values address f (Number z) y h e = let same : field.Number z ≡ y = ok-same (field.Number z) y e in rw (← same) (number-field f z h)
-resolved_field-fits values address f (Characters cs) y h e = let same : field.Nothing ≡ y = ok-same field.Nothing y e in rw (← same) (characters-field f cs h)
+resolved_field-fits values address f (Register r) y h e = rw (← ok-same (field.Register r) y e) (register-field f r (and_parts (takes_register f) (nat_lt r 8) h).0)
+resolved_field-fits values address f (Number z) y h e = rw (← ok-same (field.Number z) y e) h
+resolved_field-fits values address f (Characters cs) y h e = rw (← ok-same field.Nothing y e) h
 resolved_field-fits values address f (Label n) y h e =
     let target = then-ok (or_fault (values n) fault.Undefined) (λ t. label_number f address t >>= λ z. Ok (field.Number z)) y e in
     let number = then-ok (label_number f address target.0) (λ z. Ok (field.Number z)) y target.2 in
-    let same : field.Number number.0 ≡ y = ok-same (field.Number number.0) y number.2 in
-    rw (← same) (label-field f n number.0 h)
+    rw (← ok-same (field.Number number.0) y number.2) (label-field f number.0 h)
 
 resolved_fields-fit : (values : List ℕ → Option ℕ) (address : ℕ) (fs : List Form) (xs : List Operand) (ys : List Field) → all_fit fs xs ≡ true → resolved_fields values address fs xs ≡ Ok ys → fields_fit fs ys ≡ true
 resolved_fields-fit values address [] [] ys h e = let same : [] ≡ ys = ok-same [] ys e in rw (← same) refl

@@ -1,7 +1,7 @@
 -- What is true of every accepted text, in the words of the book: where labels stand, what instructions
 -- reach, and how the rows and the listing cover the image.
-use Rattle.std.specs.Prelude.{ℕ, ℤ, ◌≡◌, ◌↔◌, ◌+◌, ◌-◌, ◌<◌, ◌+ℤ◌, pos, nat_lt, slice_get, Option, Some, None, option_and_then, Ok, Err, IsOk, true, false, List, [], ◌∷◌, ◌++◌, map, take, length, replicate, if◌then◌else◌}
-use Rattle.std.specs.List.{list_any}
+use Rattle.std.specs.Prelude.{ℕ, ℤ, ◌≡◌, ◌↔◌, ◌+◌, ◌-◌, ◌<◌, ◌+ℤ◌, pos, nat_lt, slice_get, Option, Some, None, option_and_then, Ok, Err, IsOk, true, false, List, [], ◌∷◌, ◌++◌, map, length, replicate, All, if◌then◌else◌}
+use Rattle.std.specs.List.{list_any, AllZip}
 use Rattle.lc3_word.specs.Segment.{Segment}
 use Rattle.lc3_table.specs.declared.instr.Instr.{Instr}
 use Rattle.lc3_table.specs.declared.instr.Instr.TheVariants.{Br, Jsr, Ld, Ldi, Lea, St, Sti}
@@ -14,7 +14,7 @@ use Rattle.lc3_table.specs.Statements.{Line, Operates, Operand, Register, Label}
 use Rattle.lc3_table.specs.declared.operation.Fault.{Fault}
 use Rattle.lc3_table.specs.declared.operation.Fault.TheVariants as fault
 use Rattle.lc3_table.specs.Meaning.{field_of, instruction, words}
-use Rattle.lc3_asm.specs.Texts.{Program, program, lines, lines_read, line_after, label_of, labels, address_after, value, is_origin, is_end}
+use Rattle.lc3_asm.specs.Texts.{Program, program, lines, lines_read, line_after, label_of, labels, with_earlier, address_after, value, is_origin, is_end}
 use Rattle.lc3_asm.specs.Listings.{word_line, rows_text}
 use Rattle.lc3_asm.specs.declared.assembled.Row.{Row}
 
@@ -110,15 +110,21 @@ abbrev pub ListingShowsImage : Type 0
 ListingShowsImage = (text : List ℕ) (p : Program) → program text ≡ Ok p
     → rows_text p.rows p.image.words ≡ words_listed p.image.origin p.image.words (line_numbers p.rows)
 
+-- a text is read as a line behind those before it, and it isn't `.END`
+abbrev pub IsReadAs : List ℕ → List (Line Operand) × Line Operand → Type 0
+IsReadAs bytes e = (line_after e.0 bytes ≡ Ok e.1) × (is_end e.1 ≡ false)
+
 -- these texts are read as these lines, each behind the lines before it, and none of them is `.END`
-pub record AreReadAs (texts : List (List ℕ)) (ls : List (Line Operand)) : Type 0 where
-  pub count : length ls ≡ length texts
-  pub each : (i : ℕ) (bytes : List ℕ) (l : Line Operand) → slice_get texts i ≡ Some bytes → slice_get ls i ≡ Some l
-      → (line_after (take i ls) bytes ≡ Ok l) × (is_end l ≡ false)
+abbrev pub AreReadAs : List (List ℕ) → List (Line Operand) → Type 0
+AreReadAs texts ls = AllZip IsReadAs texts (with_earlier ls)
+
+-- a line has words, behind those before it
+abbrev pub HasWordsAt : List (List ℕ × ℕ) → List (Line Operand) × Line Operand → Type 0
+HasWordsAt known e = IsOk (words (value known) (address_after e.0) e.1)
 
 -- each of these lines has words, behind the lines before it
 abbrev pub HaveWords : List (List ℕ × ℕ) → List (Line Operand) → Type 0
-HaveWords known ls = (i : ℕ) (l : Line Operand) → slice_get ls i ≡ Some l → IsOk (words (value known) (address_after (take i ls)) l)
+HaveWords known ls = All (HasWordsAt known) (with_earlier ls)
 
 -- line n is the first that can't be read, and this is the first that is wrong with it
 pub record IsFirstUnread (text : List ℕ) (n : ℕ) (kind : Fault) : Type 0 where

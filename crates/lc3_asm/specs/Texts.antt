@@ -1,6 +1,7 @@
 -- A source text: its lines, the addresses of its labels, its words, or its first fault.
-use Rattle.std.specs.Prelude.{ℕ, ◌≡◌, ◌+◌, nat_abs, Bool, true, false, ◌==◌, nat_le, bytes_eq, sum_by, Option, Some, None, is_some, unwrap_or, option_map, find, Result, Ok, Err, List, [], ◌∷◌, ◌++◌, length, map, take, if◌then◌else◌}
-use Rattle.std.specs.List.{list_any, slice_split, flat_map, enumerate_from}
+use Rattle.std.specs.Prelude.{ℕ, ◌≡◌, ◌+◌, nat_abs, Bool, true, false, ◌==◌, nat_le, bytes_eq, sum_by, Option, Some, None, is_some, unwrap_or, Result, Ok, Err, List, [], ◌∷◌, ◌++◌, length, map, if◌then◌else◌}
+use Rattle.std.specs.List.{list_any, slice_split, flat_map}
+use Rattle.std.specs.Map.{lookup}
 use Rattle.lc3_table.specs.Statements.{Line, Blank, LabelAlone, Operates, Operand, Number, line, unless, option_or, ◌>>=◌}
 use Rattle.lc3_word.specs.Segment.{Segment, first_device}
 use Rattle.lc3_table.specs.Meaning.{size, words}
@@ -50,9 +51,14 @@ abbrev pub entry : Option (List ℕ) → ℕ → List (List ℕ × ℕ)
 entry None address = []
 entry (Some name) address = (name, address) ∷ []
 
+-- these lines, which stand behind those before, each behind all that stand before it
+abbrev pub lines_behind : List (Line Operand) → List (Line Operand) → List (List (Line Operand) × Line Operand)
+lines_behind before [] = []
+lines_behind before (l ∷ ls) = (before, l) ∷ lines_behind (before ++ l ∷ []) ls
+
 -- each of these lines, behind those before it
 abbrev pub with_earlier : List (Line Operand) → List (List (Line Operand) × Line Operand)
-with_earlier ls = map (λ (e : ℕ × Line Operand). (take e.0 ls, e.1)) (enumerate_from 0 ls)
+with_earlier ls = lines_behind [] ls
 
 -- the label that a line defines, if it does, with the line's address, which is that after the lines before it
 abbrev pub label_at : List (Line Operand) × Line Operand → List (List ℕ × ℕ)
@@ -64,7 +70,7 @@ labels ls = flat_map label_at (with_earlier ls)
 
 -- the value of a label: the address of the line that defines it
 abbrev pub value : List (List ℕ × ℕ) → List ℕ → Option ℕ
-value known name = option_map (λ e. e.1) (find (λ e. bytes_eq name e.0) known)
+value known name = lookup (bytes_eq name) known
 
 -- a line's words, with its number and its address
 pub record LineWords : Type 0 where
@@ -125,13 +131,11 @@ row line address count = if count == 0 then [] else record { line = line; addres
 
 -- the words of all the lines, in order
 abbrev pub words_of : List LineWords → List ℕ
-words_of [] = []
-words_of (l ∷ ls) = l.words ++ words_of ls
+words_of ls = flat_map (λ (l : LineWords). l.words) ls
 
 -- the rows of the lines that have words
 abbrev pub rows_of : List LineWords → List Row
-rows_of [] = []
-rows_of (l ∷ ls) = row l.line l.address (length l.words) ++ rows_of ls
+rows_of ls = flat_map (λ (l : LineWords). row l.line l.address (length l.words)) ls
 
 -- an accepted text: its image, its labels with their values, and the rows of the lines that have words
 pub record Program : Type 0 where

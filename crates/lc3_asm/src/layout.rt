@@ -1,11 +1,10 @@
 //! The words of the lines, one after another.
 
-ghost use Rattle.std.specs.Prelude.{◌≡◌, ◌≤◌, ◌++◌, [], length, map, sum_by, OnOk, IfOk};
-ghost use Rattle.lc3_table.specs.Meaning.{size};
+ghost use Rattle.std.specs.Prelude.{◌≡◌, ◌++◌, length, map, OnOk};
 ghost use Rattle.lc3_asm.specs.Texts.{row, words_of_lines};
 ghost use Rattle.lc3_asm.specs.Views.{seen_line};
 ghost use Rattle.lc3_asm.specs.Addresses.{addresses};
-ghost use Rattle.lc3_asm.specs.Private.Layouts.{Lays, words_and_rows};
+ghost use Rattle.lc3_asm.specs.Private.Layouts.{Lays};
 
 use crate::assembled::Row;
 use crate::encoding::line_words;
@@ -36,10 +35,7 @@ pub fn layout(
 ) -> Result<(Vec<u16>, Vec<Row>), AsmFault>
     requires places { places.now ≡ addresses (map seen_line lines.now) }
     requires count { length places.now ≡ length lines.now }
-    ensures exact { Lays result
-        (words_and_rows [] [] (words_of_lines symbols.now (map seen_line lines.now))) }
-    ensures small { IfOk result
-        (λ laid. length laid.0.items ≤ sum_by size (map seen_line lines.now)) }
+    ensures exact { Lays result (words_of_lines symbols.now (map seen_line lines.now)) }
 {
     let mut words = Vec::new(alloc);
     let mut rows = Vec::new(alloc);

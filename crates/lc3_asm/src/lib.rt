@@ -13,7 +13,6 @@ pub mod laws;
 mod layout;
 mod line;
 mod passes;
-mod placed;
 mod reader;
 mod statement;
 mod symbols;

@@ -2,7 +2,7 @@
 
 ghost use Rattle.std.specs.Prelude.{◌≡◌, ◌<◌, ◌∷◌, Ok, IfOk, IfErr, IfSome, length, ◌≤◌, ◌==◌};
 ghost use Rattle.std.specs.List.{position_or_len};
-ghost use Rattle.lc3_asm.specs.Texts.{lines, lines_read, program_of, program, IsFault};
+ghost use Rattle.lc3_asm.specs.Texts.{lines, lines_read, program, IsFault};
 ghost use Rattle.lc3_asm.specs.Views.{lines_if};
 
 use crate::all_faults::reading;
@@ -40,9 +40,9 @@ fn first_pass(alloc: Global, source: &str) -> Result<Reader, AsmFault>
     ensures refused { IfErr result (λ fault. IsFault fault (lines_read source.now)) }
 {
     let reader = reading(alloc, source)?;
-    match reader.faults() {
-        [] => Ok(reader),
-        [first, ..] => Err(AsmFault::At {
+    match reader.faults().first() {
+        None => Ok(reader),
+        Some(first) => Err(AsmFault::At {
             line: first.line,
             kind: first.kind,
         }),
@@ -57,18 +57,6 @@ pub fn line_count(text: &[u8]) -> usize
     text.iter().filter(|byte| **byte == b'\n').count() + 1
 }
 
-/// The image, the symbols and the rows of lines without faults of the first pass.
-fn second_pass(alloc: Global, reader: Reader) -> Result<Assembled, AsmFault>
-    ensures accepted { IfOk result (λ assembled. program_of reader.read ≡ Ok assembled) }
-    ensures refused { IfErr result (λ fault. IsFault fault (program_of reader.read)) }
-{
-    let (words, rows) = layout(alloc, reader.symbols(), reader.lines(), reader.places())?;
-    match Image::new(reader.origin(), words) {
-        Ok(image) => Ok(Assembled::new(image, reader.into_symbols(), rows)),
-        Err(_) => unreachable!(),
-    }
-}
-
 /// Assembles a source text.
 ///
 /// The first pass reads the lines in order up to `.END`. The first line that can't be read, whose label
@@ -81,12 +69,15 @@ pub fn assemble(alloc: Global, source: &str) -> Result<Assembled, AsmFault>
     ensures refused { IfErr result (λ fault. IsFault fault (program source.now)) }
 {
     let reader = first_pass(alloc, source)?;
-    if reader.started() {
-        second_pass(alloc, reader)
-    } else {
-        Err(AsmFault::At {
+    if !reader.started() {
+        return Err(AsmFault::At {
             line: line_count(source.as_bytes()),
             kind: Fault::NoOrig,
-        })
+        });
+    }
+    let (words, rows) = layout(alloc, reader.symbols(), reader.lines(), reader.places())?;
+    match Image::new(reader.origin(), words) {
+        Ok(image) => Ok(Assembled::new(image, reader.into_symbols(), rows)),
+        Err(_) => unreachable!(),
     }
 }

@@ -15,9 +15,8 @@ ghost use Rattle.lc3_table.specs.Tokens.{tokens};
 
 use crate::fault::{LineError, LineFault};
 use crate::line::{Line, label_defined, read_line};
-use crate::placed::Placed;
 use crate::statement::token_operation;
-use crate::symbols::Symbols;
+use crate::symbols::{Placed, Symbols};
 use crate::token::{Token, tokens};
 use lc3_table::{Fault, Operation};
 use lc3_word::FIRST_DEVICE;
@@ -175,7 +174,7 @@ impl Reader {
         if self.started {
             self.first
         } else {
-            line.origin().unwrap_or(self.first)
+            line.origin().unwrap_or(0)
         }
     }
 
@@ -320,7 +319,7 @@ impl Reader {
     }
 
     /// The address of each line.
-    #[tactic(auto, using(crate::proofs::MoreLines::length_addresses))]
+    #[tactic(auto, using(crate::proofs::EarlierLemmas::length_addresses))]
     pub fn places(&self) -> &[u16]
         ensures value { result.now ≡ addresses self.now.read }
         ensures count { length result.now ≡ length self.now.read }

@@ -1,4 +1,4 @@
-//! The labels of a text with their addresses, in the order of their definitions.
+//! The labels of a text with their addresses, in the order of their definitions, and the lines that define them.
 
 ghost use Rattle.std.specs.Prelude.{◌≡◌, ℕ, List, [], ◌∷◌, ◌++◌, OnOk, OnErr, string_bytes, false, length, option_map, slice_get, Some};
 ghost use Rattle.lc3_asm.specs.Texts.{value, entry, label_of};
@@ -51,12 +51,14 @@ impl Symbols {
     }
 
     /// The address of a label, which is written in upper case.
+    #[tactic(auto, using(crate::proofs::SymbolsLemmas::value_listed))]
     pub fn value(&self, name: &str) -> Option<u16>
         ensures address { result ≡ value self.now name.now }
     {
         self.addresses.get(name).copied()
     }
 
+    #[tactic(auto, using(crate::proofs::SymbolsLemmas::value_listed))]
     pub(crate) fn contains(&self, name: &str) -> bool
         ensures value { result ≡ is_defined self.now name.now }
     {
@@ -98,7 +100,64 @@ impl Symbols {
     }
 }
 
-/// Appends a line for each label.
+/// Lines, the labels that they define, and the address of each line.
+pub struct Placed {
+    pub lines: Vec<Line>,
+    pub symbols: Symbols,
+    pub places: Vec<u16>,
+}
+
+impl Drop for Placed {
+    fn drop(self) {
+        let Placed {
+            lines: _,
+            symbols: _,
+            places: _,
+        } = self;
+    }
+}
+
+impl Placed {
+    pub fn new(alloc: Global) -> Self
+        ensures lines { result.lines.items ≡ [] }
+        ensures symbols { result.symbols ≡ [] }
+        ensures places { result.places.items ≡ [] }
+    {
+        Placed {
+            lines: Vec::new(alloc),
+            symbols: Symbols::new(alloc),
+            places: Vec::new(alloc),
+        }
+    }
+
+    pub fn push(&mut self, alloc: Global, line: Line, address: u16) -> Result<(), AllocError>
+        requires undefined { (name : List ℕ) → label_of (seen_line line) ≡ Some name
+            → is_defined self.old.symbols name ≡ false }
+        ensures lines { OnOk result (self.new.lines.items ≡ self.old.lines.items ++ line ∷ []) }
+        ensures symbols { OnOk result (self.new.symbols
+            ≡ self.old.symbols ++ entry (label_of (seen_line line)) address) }
+        ensures places { OnOk result (self.new.places.items
+            ≡ self.old.places.items ++ address ∷ []) }
+    {
+        self.symbols.define_label(alloc, &line, address)?;
+        self.places.push(address)?;
+        self.lines.push(line)?;
+        Ok(())
+    }
+
+    /// The labels, where the lines are no longer needed.
+    pub fn into_symbols(self) -> Symbols
+        ensures symbols { result ≡ self.symbols }
+    {
+        let Placed {
+            lines: _,
+            symbols,
+            places: _,
+        } = self;
+        symbols
+    }
+}
+
 fn push_lines(text: &mut String, addresses: &IndexMap<String, u16>) -> Result<(), AllocError>
     ensures text { OnOk result (string_bytes text.new
         ≡ string_bytes text.old ++ symbols_text (symbol_list addresses.now.entries)) }
@@ -117,6 +176,5 @@ fn push_line(text: &mut String, name: &str, address: u16) -> Result<(), AllocErr
     ensures text { OnOk result (string_bytes text.new
         ≡ string_bytes text.old ++ symbol_line name.now address) }
 {
-    let place = Hex(address);
-    write!(text, "{name} {place}\n")
+    write!(text, "{name} {}\n", Hex(address))
 }
