@@ -30,17 +30,14 @@ pub enum Line {
 pub fn label_defined(alloc: Global, token: Token<'_>) -> Result<String, LineError>
     ensures exact { Gives string_bytes result (label_defined (token_of token.entry)) }
 {
-    let Token::Word(word) = token else {
-        return Err(LineError::Fault(Fault::BadOperation));
-    };
-    if matches!(word, [b'.', ..]) {
-        return Err(LineError::Fault(Fault::BadOperation));
-    }
-    let name = without_colon(word);
-    if is_label(name) {
-        Ok(upper(alloc, name)?)
-    } else {
-        Err(LineError::Fault(Fault::BadLabel))
+    match token {
+        Token::Word([b'.', ..]) => Err(LineError::Fault(Fault::BadOperation)),
+        Token::Word(word) if is_label(without_colon(word)) => Ok(upper(
+            alloc,
+            without_colon(word),
+        )?),
+        Token::Word(_) => Err(LineError::Fault(Fault::BadLabel)),
+        _ => Err(LineError::Fault(Fault::BadOperation)),
     }
 }
 

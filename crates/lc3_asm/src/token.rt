@@ -18,7 +18,6 @@ pub enum Token<'a> {
     Unclosed,
 }
 
-/// Blank, tab, comma, carriage return.
 const SEPARATORS: &[u8] = b" \t,\r";
 
 fn is_separator(byte: u8) -> bool
