@@ -1,7 +1,7 @@
 //! What the words of the commands ask for.
-ghost use Rattle.std.specs.Prelude.{◌≡◌, ℕ, List, None, Some, codes};
+ghost use Rattle.std.specs.Prelude.{◌≡◌, None, Some, codes};
 ghost use Rattle.clap.specs.Words.{found_of, one_text};
-ghost use Rattle.lab_arguments.specs.Private.Options.{IsNumber};
+ghost use Rattle.lab_arguments.specs.Private.Options.{ForNumber};
 
 use crate::MOST_STEPS_EACH;
 use crate::exploring::explore_request;
@@ -38,7 +38,6 @@ pub(crate) fn request_of<'a>(
     })
 }
 
-/// What the words of a command that runs programs ask for.
 fn program_request<'a>(
     alloc: Global,
     name: &str,
@@ -68,7 +67,6 @@ fn no_command(alloc: Global) -> Refusal {
     Misuse::Options("no such command").refusal(alloc)
 }
 
-/// The page that the words of `trace` ask for, if they ask for one.
 fn page_of<'a>(alloc: Global, words: &ArgMatches<'a>) -> Result<Option<Page<'a>>, AllocError> {
     let Some(file) = words.get_str("page") else {
         return Ok(None);
@@ -77,16 +75,10 @@ fn page_of<'a>(alloc: Global, words: &ArgMatches<'a>) -> Result<Option<Page<'a>>
     Ok(Some(Page { file, sources }))
 }
 
-/// How programs are run, as the words of `run` say.
 fn manner_of<'a>(words: &ArgMatches<'a>) -> Manner<'a>
-    ensures limit { (text : List ℕ) (n : ℕ)
-        → one_text (found_of words.now) (codes "limit") ≡ Some text
-        → IsNumber text n → result.limit ≡ n }
-    ensures no_pauses { one_text (found_of words.now) (codes "mix") ≡ None
-        → result.mix ≡ None }
-    ensures pauses { (text : List ℕ) (n : ℕ)
-        → one_text (found_of words.now) (codes "mix") ≡ Some text
-        → IsNumber text n → result.mix ≡ Some n }
+    ensures limit { ForNumber (found_of words.now) (codes "limit") (λ n. result.limit ≡ n) }
+    ensures no_pauses { one_text (found_of words.now) (codes "mix") ≡ None → result.mix ≡ None }
+    ensures pauses { ForNumber (found_of words.now) (codes "mix") (λ n. result.mix ≡ Some n) }
 {
     Manner {
         limit: number_or(words, "limit", MOST_STEPS_EACH),

@@ -1,7 +1,7 @@
 //! The command `explore`, and what its words ask for.
 ghost use Rattle.std.specs.Prelude.{◌≡◌, ℕ, List, None, Some, false, IfOk, codes, map};
 ghost use Rattle.clap.specs.Words.{first_value, found_of, one_text};
-ghost use Rattle.lab_arguments.specs.Private.Options.{IsNumber, usual_worlds, values_in};
+ghost use Rattle.lab_arguments.specs.Private.Options.{ForNumber, usual_worlds, values_in};
 ghost use Rattle.lab_arguments.specs.Pieces.{words_in};
 ghost use Rattle.lab_arguments.specs.Private.Requirements.{nothing, outputs_in, words_of, AreRequired, AreShown};
 ghost use Rattle.lab_arguments.specs.declared.question.Choice.TheVariants.{End};
@@ -29,7 +29,6 @@ fn usual_worlds(random: Option<u32>) -> u32
     }
 }
 
-/// What each end must be like, as the words say.
 fn required_of<'a>(alloc: Global, words: &ArgMatches<'a>) -> Result<Requirements, Refusal>
     ensures any { IfOk result (λ r.
         first_value (found_of words.now) (codes "require") ≡ None → r ≡ nothing) }
@@ -51,9 +50,8 @@ fn choice_of<'a>(
     words: &ArgMatches<'a>,
     name: &'static str,
 ) -> Result<Option<Choice>, Refusal>
-    ensures end { IfOk result (λ choice. (text : List ℕ) (n : ℕ)
-        → one_text (found_of words.now) name.now ≡ Some text
-        → IsNumber text n → choice ≡ Some (End n)) }
+    ensures end { IfOk result (λ choice.
+        ForNumber (found_of words.now) name.now (λ n. choice ≡ Some (End n))) }
 {
     match (number_of(words, name), words.get_str(name)) {
         (Some(number @ 1..=MOST_WORLDS), _) => Ok(Some(Choice::End(number))),
@@ -63,41 +61,32 @@ fn choice_of<'a>(
     }
 }
 
-/// What the words ask of the exploration.
 fn question_of<'a>(alloc: Global, words: &ArgMatches<'a>) -> Result<Question<'a>, Refusal>
-    ensures worlds { IfOk result (λ q. (text : List ℕ) (n : ℕ)
-        → one_text (found_of words.now) (codes "worlds") ≡ Some text
-        → IsNumber text n → q.worlds ≡ n) }
+    ensures worlds { IfOk result (λ q.
+        ForNumber (found_of words.now) (codes "worlds") (λ n. q.worlds ≡ n)) }
     ensures usual_worlds { IfOk result (λ q.
         one_text (found_of words.now) (codes "worlds") ≡ None
         → q.worlds ≡ usual_worlds q.random) }
-    ensures memory { IfOk result (λ q. (text : List ℕ) (n : ℕ)
-        → one_text (found_of words.now) (codes "memory") ≡ Some text
-        → IsNumber text n → q.memory ≡ n) }
-    ensures steps { IfOk result (λ q. (text : List ℕ) (n : ℕ)
-        → one_text (found_of words.now) (codes "limit") ≡ Some text
-        → IsNumber text n → q.steps ≡ n) }
+    ensures memory { IfOk result (λ q.
+        ForNumber (found_of words.now) (codes "memory") (λ n. q.memory ≡ n)) }
+    ensures steps { IfOk result (λ q.
+        ForNumber (found_of words.now) (codes "limit") (λ n. q.steps ≡ n)) }
     ensures all_threads { IfOk result (λ q.
         one_text (found_of words.now) (codes "threads") ≡ None → q.threads ≡ None) }
-    ensures threads { IfOk result (λ q. (text : List ℕ) (n : ℕ)
-        → one_text (found_of words.now) (codes "threads") ≡ Some text
-        → IsNumber text n → q.threads ≡ Some n) }
+    ensures threads { IfOk result (λ q.
+        ForNumber (found_of words.now) (codes "threads") (λ n. q.threads ≡ Some n)) }
     ensures no_walks { IfOk result (λ q.
         one_text (found_of words.now) (codes "random") ≡ None → q.random ≡ None) }
-    ensures walks { IfOk result (λ q. (text : List ℕ) (n : ℕ)
-        → one_text (found_of words.now) (codes "random") ≡ Some text
-        → IsNumber text n → q.random ≡ Some n) }
-    ensures seed { IfOk result (λ q. (text : List ℕ) (n : ℕ)
-        → one_text (found_of words.now) (codes "seed") ≡ Some text
-        → IsNumber text n → q.seed ≡ n) }
+    ensures walks { IfOk result (λ q.
+        ForNumber (found_of words.now) (codes "random") (λ n. q.random ≡ Some n)) }
+    ensures seed { IfOk result (λ q.
+        ForNumber (found_of words.now) (codes "seed") (λ n. q.seed ≡ n)) }
     ensures usual_seed { IfOk result (λ q.
         one_text (found_of words.now) (codes "seed") ≡ None → q.seed ≡ 1) }
-    ensures schedule { IfOk result (λ q. (text : List ℕ) (n : ℕ)
-        → one_text (found_of words.now) (codes "schedule") ≡ Some text
-        → IsNumber text n → q.schedule ≡ Some (End n)) }
-    ensures trace { IfOk result (λ q. (text : List ℕ) (n : ℕ)
-        → one_text (found_of words.now) (codes "trace") ≡ Some text
-        → IsNumber text n → q.trace ≡ Some (End n)) }
+    ensures schedule { IfOk result (λ q.
+        ForNumber (found_of words.now) (codes "schedule") (λ n. q.schedule ≡ Some (End n))) }
+    ensures trace { IfOk result (λ q.
+        ForNumber (found_of words.now) (codes "trace") (λ n. q.trace ≡ Some (End n))) }
     ensures any { IfOk result (λ q.
         first_value (found_of words.now) (codes "require") ≡ None → q.required ≡ nothing) }
     ensures required { IfOk result (λ q.
@@ -163,45 +152,28 @@ pub(crate) fn explore_request<'a>(
 fn misuse_in(question: &Question<'_>, has_seed: bool) -> Option<Misuse<'static>> {
     let walks = question.random.is_some();
     let unjudged = !question.judges();
-    let rules = [
-        (has_seed && !walks, "--seed needs --random"),
-        (
-            walks && question.page.is_some(),
-            "--page and --random exclude each other",
-        ),
-        (
-            !question.waiters.is_empty() && !question.required.lets_wait(),
-            "--may-wait needs --require ended or --require halted",
-        ),
-        (
-            unjudged && matches!(question.schedule, Some(Choice::Bad)),
-            "--schedule bad needs --require or --never",
-        ),
-        (
-            unjudged && matches!(question.trace, Some(Choice::Bad)),
-            "--trace bad needs --require or --never",
-        ),
-        (
-            unjudged && question.first,
-            "--first needs --require or --never",
-        ),
-        (
-            walks && !question.never.is_empty(),
-            "--never and --random exclude each other",
-        ),
-        (
-            walks && question.fair,
-            "--fair and --random exclude each other",
-        ),
-        (
-            question.json && question.schedule.is_some(),
-            "--json and --schedule exclude each other",
-        ),
-        (
-            question.json && question.trace.is_some(),
-            "--json and --trace exclude each other",
-        ),
-    ];
-    let rule = rules.iter().find(|rule| rule.0)?;
-    Some(Misuse::Options(rule.1))
+    let text = if has_seed && !walks {
+        "--seed needs --random"
+    } else if walks && question.page.is_some() {
+        "--page and --random exclude each other"
+    } else if !question.waiters.is_empty() && !question.required.lets_wait() {
+        "--may-wait needs --require ended or --require halted"
+    } else if unjudged && matches!(question.schedule, Some(Choice::Bad)) {
+        "--schedule bad needs --require or --never"
+    } else if unjudged && matches!(question.trace, Some(Choice::Bad)) {
+        "--trace bad needs --require or --never"
+    } else if unjudged && question.first {
+        "--first needs --require or --never"
+    } else if walks && !question.never.is_empty() {
+        "--never and --random exclude each other"
+    } else if walks && question.fair {
+        "--fair and --random exclude each other"
+    } else if question.json && question.schedule.is_some() {
+        "--json and --schedule exclude each other"
+    } else if question.json && question.trace.is_some() {
+        "--json and --trace exclude each other"
+    } else {
+        return None;
+    };
+    Some(Misuse::Options(text))
 }

@@ -1,9 +1,9 @@
 //! Options of several commands, and what the words give them.
-ghost use Rattle.std.specs.Prelude.{◌≡◌, ◌≤◌, ℕ, List, None, Some, IfOk, codes, map};
+ghost use Rattle.std.specs.Prelude.{◌≡◌, ◌≤◌, None, Some, IfOk, codes, map};
 ghost use Rattle.std.specs.List.{count_by};
 ghost use Rattle.clap.specs.Words.{first_value, found_of, one_text};
 ghost use Rattle.lc3_table.specs.declared.profile.Profile.TheVariants.{A, B};
-ghost use Rattle.lab_arguments.specs.Private.Options.{IsNumber, most_inputs};
+ghost use Rattle.lab_arguments.specs.Private.Options.{ForNumber, most_inputs};
 ghost use Rattle.lab_arguments.specs.Programs.{takes_input};
 ghost use Rattle.lab_arguments.specs.declared.request.Notes.TheVariants.{Shown, Hidden};
 
@@ -17,8 +17,7 @@ use std::alloc::{AllocError, Global};
 /// The number that the words give to an option of this name, where they give one.
 pub(crate) fn number_of(words: &ArgMatches<'_>, name: &str) -> Option<u32>
     ensures none { one_text (found_of words.now) name.now ≡ None → result ≡ None }
-    ensures some { (text : List ℕ) (n : ℕ) → one_text (found_of words.now) name.now ≡ Some text
-        → IsNumber text n → result ≡ Some n }
+    ensures some { ForNumber (found_of words.now) name.now (λ n. result ≡ Some n) }
 {
     words.get_one::<u32>(name)
 }
@@ -26,8 +25,7 @@ pub(crate) fn number_of(words: &ArgMatches<'_>, name: &str) -> Option<u32>
 /// The number that the words give to an option of this name, or the usual one where they give none.
 pub(crate) fn number_or(words: &ArgMatches<'_>, name: &str, usual: u32) -> u32
     ensures usual { one_text (found_of words.now) name.now ≡ None → result ≡ usual }
-    ensures given { (text : List ℕ) (n : ℕ) → one_text (found_of words.now) name.now ≡ Some text
-        → IsNumber text n → result ≡ n }
+    ensures given { ForNumber (found_of words.now) name.now (λ n. result ≡ n) }
 {
     number_of(words, name).unwrap_or(usual)
 }

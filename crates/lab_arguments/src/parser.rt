@@ -58,7 +58,6 @@ fn refusal_of(alloc: Global, error: &Error) -> Refusal
     }
 }
 
-/// The program with all its commands.
 fn program<'a>(alloc: Global, row: &ProgramRow) -> Result<Command<'a>, AllocError> {
     let mut program = Command::new(alloc, "lc3lab")
         .about(row.about)

@@ -1,5 +1,5 @@
 //! The values of `--require`, cut at their commas.
-ghost use Rattle.std.specs.Prelude.{◌≡◌, ◌<◌, ◌++◌, [], ◌∷◌, not, filter, flat_map, map, length, IfNone, IfOk, IfSome, IsTrue, OnOk, position};
+ghost use Rattle.std.specs.Prelude.{◌≡◌, ◌<◌, ◌++◌, [], ◌∷◌, filter, flat_map, map, length, IfNone, IfOk, IfSome, IsTrue, OnOk, position};
 ghost use Rattle.lab_arguments.specs.Pieces.{behind, cuts, cut_pieces, is_no_digit, from, is_of_calls, pieces, is_output, words_in};
 ghost use Rattle.lab_arguments.specs.Private.Requirements.{outputs_in};
 

@@ -60,7 +60,6 @@ pub(crate) fn words_of(alloc: Global, text: &str) -> Result<Vec<&str>, AllocErro
     text.split(',').collect(alloc)
 }
 
-/// How often a word stands among words.
 fn how_often(word: &str, words: &[&str]) -> usize
     ensures count { result ≡ how_often word.now (map (λ w. w.now) words.now) }
 {

@@ -4,10 +4,8 @@ use clap::builder::ValueParser;
 use clap::{Arg, ArgAction, Command};
 use std::alloc::{AllocError, Global};
 
-/// The profiles of the machine.
 const PROFILES: &[&str] = &["a", "b"];
 
-/// The warnings of a source.
 const WARNINGS: &[&str] = &[
     "wraps",
     "unknown-trap",
@@ -28,7 +26,6 @@ fn place<'a>(alloc: Global, row: &Row) -> Arg<'a> {
     Arg::new(alloc, row.name).required(true).help(row.help)
 }
 
-/// An option with a value.
 fn option<'a>(alloc: Global, row: &Row, value: &'a str) -> Arg<'a> {
     Arg::new(alloc, row.name)
         .long(row.name)
@@ -41,7 +38,6 @@ fn up_to<'a>(alloc: Global, row: &Row, value: &'a str, most: u32) -> Arg<'a> {
     option(alloc, row, value).value_parser(clap::value_parser!(u32).range(1..=i64::from(most)))
 }
 
-/// A row's option.
 fn arg_of<'a>(alloc: Global, row: &Row) -> Result<Arg<'a>, AllocError> {
     Ok(match row.takes {
         Takes::Place => place(alloc, row),

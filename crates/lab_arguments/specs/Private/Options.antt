@@ -1,7 +1,7 @@
 -- What the words of an option say.
 use Rattle.std.specs.Prelude.{◌≡◌, ℕ, ◌<◌, ◌^◌, List, [], Option, Some, None, unwrap_or}
 use Rattle.std.specs.Option.{option_map}
-use Rattle.clap.specs.Words.{matched_of, raw_values}
+use Rattle.clap.specs.Words.{matched_of, one_text, raw_values}
 use Rattle.clap.specs.declared.parser.matches.Found.{Found}
 use Rattle.std.specs.Borrow.{Bor}
 use Rattle.std.specs.Str.Parse.{IsNumeral, digits_value, without_leading_plus}
@@ -10,6 +10,10 @@ use Rattle.std.specs.Str.Parse.{IsNumeral, digits_value, without_leading_plus}
 abbrev pub IsNumber : List ℕ → ℕ → Type 0
 IsNumber text n =
     IsNumeral 10 (without_leading_plus text) × (digits_value 10 (without_leading_plus text) ≡ n) × (n < 2 ^ 32)
+
+-- this is so of the number that the words give to an option of this name, where they give one
+abbrev pub ForNumber : Found → List ℕ → (ℕ → Type 0) → Type 0
+ForNumber found name P = (text : List ℕ) (n : ℕ) → one_text found name ≡ Some text → IsNumber text n → P n
 
 -- the values of an option of this name, in their order
 abbrev pub values_in : Found → List ℕ → List (List ℕ)
