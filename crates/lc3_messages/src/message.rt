@@ -1,6 +1,4 @@
 //! A message as it is written.
-ghost use Rattle.std.specs.Prelude.{◌<◌, ◌≤◌, length};
-
 use crate::characters::picture;
 use crate::parts::{Remark, Span};
 use crate::told::{Finding, What};
@@ -10,29 +8,19 @@ use std::fmt::Write;
 /// The most characters of a line that is written below its message.
 const LENGTH: usize = 200;
 
-/// A line as it is shown, and below it a `^` for each character of a part that isn't empty.
-#[derive(Clone, Copy)]
-struct Marked<'a> {
-    line: &'a str,
-    mark: Span,
-    ghost within: { (mark.start < mark.end) × (mark.end ≤ length line.now) },
-}
-
-impl fmt::Display for Marked<'_> {
-    fn fmt<W: fmt::Write>(&self, f: &mut fmt::Formatter<W>) -> fmt::Result {
-        let Span { start, end } = self.mark;
-        for character in self.line.chars() {
-            f.write_char(picture(character))?;
-        }
-        f.write_char('\n')?;
-        for character in self.line.get(..start).unwrap_or("").chars() {
-            f.write_char(if character == '\t' { '\t' } else { ' ' })?;
-        }
-        for _ in self.line.get(start..end).unwrap_or("").chars() {
-            f.write_char('^')?;
-        }
-        f.write_char('\n')
+/// Writes a line as it is shown, and below it a `^` for each character of a part.
+fn write_marked<W: fmt::Write>(f: &mut fmt::Formatter<W>, line: &str, mark: Span) -> fmt::Result {
+    for character in line.chars() {
+        f.write_char(picture(character))?;
     }
+    f.write_char('\n')?;
+    for character in line.get(..mark.start).unwrap_or("").chars() {
+        f.write_char(if character == '\t' { '\t' } else { ' ' })?;
+    }
+    for _ in line.get(mark.start..mark.end).unwrap_or("").chars() {
+        f.write_char('^')?;
+    }
+    f.write_char('\n')
 }
 
 /// What is said of a finding in this file and this line.
@@ -57,7 +45,7 @@ impl fmt::Display for Message<'_> {
         }?;
         let is_short = line.chars().nth(LENGTH).is_none();
         if is_short && mark.start < mark.end && mark.end <= line.len() {
-            write!(f, "{}", Marked { line, mark })?;
+            write_marked(f, line, mark)?;
         }
         Ok(())
     }
