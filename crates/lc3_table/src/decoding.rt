@@ -40,8 +40,7 @@ fn operand(word: u16) -> Option<Operand>
 #[inline(always)]
 fn add(word: u16) -> Option<Instr>
     requires opcode { word / 4096 ≡ 1 }
-    ensures found { IfSome result (λ i. word_of i ≡ word) }
-    ensures in_range { IfSome result (λ i. IsInstruction i) }
+    ensures found { IfSome result (λ i. IsInstruction i × (word_of i ≡ word)) }
     ensures none { IfNone result ((i : Instr) → IsInstruction i → word_of i ≢ word) }
 {
     let dr = Reg::of_low_bits(word >> 9);
@@ -53,8 +52,7 @@ fn add(word: u16) -> Option<Instr>
 #[inline(always)]
 fn and(word: u16) -> Option<Instr>
     requires opcode { word / 4096 ≡ 5 }
-    ensures found { IfSome result (λ i. word_of i ≡ word) }
-    ensures in_range { IfSome result (λ i. IsInstruction i) }
+    ensures found { IfSome result (λ i. IsInstruction i × (word_of i ≡ word)) }
     ensures none { IfNone result ((i : Instr) → IsInstruction i → word_of i ≢ word) }
 {
     let dr = Reg::of_low_bits(word >> 9);
@@ -66,8 +64,7 @@ fn and(word: u16) -> Option<Instr>
 #[inline(always)]
 fn load(word: u16) -> Instr
     requires opcode { word / 4096 ≡ 2 }
-    ensures found { word_of result ≡ word }
-    ensures in_range { IsInstruction result }
+    ensures found { IsInstruction result × (word_of result ≡ word) }
 {
     let dr = Reg::of_low_bits(word >> 9);
     let offset = Off::of_low_bits(word);
@@ -77,8 +74,7 @@ fn load(word: u16) -> Instr
 #[inline(always)]
 fn load_indirect(word: u16) -> Instr
     requires opcode { word / 4096 ≡ 10 }
-    ensures found { word_of result ≡ word }
-    ensures in_range { IsInstruction result }
+    ensures found { IsInstruction result × (word_of result ≡ word) }
 {
     let dr = Reg::of_low_bits(word >> 9);
     let offset = Off::of_low_bits(word);
@@ -88,8 +84,7 @@ fn load_indirect(word: u16) -> Instr
 #[inline(always)]
 fn load_base_offset(word: u16) -> Instr
     requires opcode { word / 4096 ≡ 6 }
-    ensures found { word_of result ≡ word }
-    ensures in_range { IsInstruction result }
+    ensures found { IsInstruction result × (word_of result ≡ word) }
 {
     let dr = Reg::of_low_bits(word >> 9);
     let base = Reg::of_low_bits(word >> 6);
@@ -100,8 +95,7 @@ fn load_base_offset(word: u16) -> Instr
 #[inline(always)]
 fn load_address(word: u16) -> Instr
     requires opcode { word / 4096 ≡ 14 }
-    ensures found { word_of result ≡ word }
-    ensures in_range { IsInstruction result }
+    ensures found { IsInstruction result × (word_of result ≡ word) }
 {
     let dr = Reg::of_low_bits(word >> 9);
     let offset = Off::of_low_bits(word);
@@ -111,8 +105,7 @@ fn load_address(word: u16) -> Instr
 #[inline(always)]
 fn store(word: u16) -> Instr
     requires opcode { word / 4096 ≡ 3 }
-    ensures found { word_of result ≡ word }
-    ensures in_range { IsInstruction result }
+    ensures found { IsInstruction result × (word_of result ≡ word) }
 {
     let sr = Reg::of_low_bits(word >> 9);
     let offset = Off::of_low_bits(word);
@@ -122,8 +115,7 @@ fn store(word: u16) -> Instr
 #[inline(always)]
 fn store_indirect(word: u16) -> Instr
     requires opcode { word / 4096 ≡ 11 }
-    ensures found { word_of result ≡ word }
-    ensures in_range { IsInstruction result }
+    ensures found { IsInstruction result × (word_of result ≡ word) }
 {
     let sr = Reg::of_low_bits(word >> 9);
     let offset = Off::of_low_bits(word);
@@ -133,8 +125,7 @@ fn store_indirect(word: u16) -> Instr
 #[inline(always)]
 fn store_base_offset(word: u16) -> Instr
     requires opcode { word / 4096 ≡ 7 }
-    ensures found { word_of result ≡ word }
-    ensures in_range { IsInstruction result }
+    ensures found { IsInstruction result × (word_of result ≡ word) }
 {
     let sr = Reg::of_low_bits(word >> 9);
     let base = Reg::of_low_bits(word >> 6);
@@ -145,8 +136,7 @@ fn store_base_offset(word: u16) -> Instr
 #[inline(always)]
 fn branch(word: u16) -> Instr
     requires opcode { word / 4096 ≡ 0 }
-    ensures found { word_of result ≡ word }
-    ensures in_range { IsInstruction result }
+    ensures found { IsInstruction result × (word_of result ≡ word) }
 {
     Instr::Br {
         n: word >> 11 & 1 == 1,
@@ -156,12 +146,10 @@ fn branch(word: u16) -> Instr
     }
 }
 
-/// JSR or JSRR.
 #[inline(always)]
 fn subroutine(word: u16) -> Option<Instr>
     requires opcode { word / 4096 ≡ 4 }
-    ensures found { IfSome result (λ i. word_of i ≡ word) }
-    ensures in_range { IfSome result (λ i. IsInstruction i) }
+    ensures found { IfSome result (λ i. IsInstruction i × (word_of i ≡ word)) }
     ensures none { IfNone result ((i : Instr) → IsInstruction i → word_of i ≢ word) }
 {
     if word >> 11 & 1 == 1 {
@@ -178,8 +166,7 @@ fn subroutine(word: u16) -> Option<Instr>
 #[inline(always)]
 fn return_from_interrupt(word: u16) -> Option<Instr>
     requires opcode { word / 4096 ≡ 8 }
-    ensures found { IfSome result (λ i. word_of i ≡ word) }
-    ensures in_range { IfSome result (λ i. IsInstruction i) }
+    ensures found { IfSome result (λ i. IsInstruction i × (word_of i ≡ word)) }
     ensures none { IfNone result ((i : Instr) → IsInstruction i → word_of i ≢ word) }
 {
     if word & 4095 == 0 {
@@ -192,8 +179,7 @@ fn return_from_interrupt(word: u16) -> Option<Instr>
 #[inline(always)]
 fn complement(word: u16) -> Option<Instr>
     requires opcode { word / 4096 ≡ 9 }
-    ensures found { IfSome result (λ i. word_of i ≡ word) }
-    ensures in_range { IfSome result (λ i. IsInstruction i) }
+    ensures found { IfSome result (λ i. IsInstruction i × (word_of i ≡ word)) }
     ensures none { IfNone result ((i : Instr) → IsInstruction i → word_of i ≢ word) }
 {
     if word & 63 == 63 {
@@ -208,8 +194,7 @@ fn complement(word: u16) -> Option<Instr>
 #[inline(always)]
 fn jump(word: u16) -> Option<Instr>
     requires opcode { word / 4096 ≡ 12 }
-    ensures found { IfSome result (λ i. word_of i ≡ word) }
-    ensures in_range { IfSome result (λ i. IsInstruction i) }
+    ensures found { IfSome result (λ i. IsInstruction i × (word_of i ≡ word)) }
     ensures none { IfNone result ((i : Instr) → IsInstruction i → word_of i ≢ word) }
 {
     if word >> 9 & 7 == 0 && word & 63 == 0 {
@@ -223,8 +208,7 @@ fn jump(word: u16) -> Option<Instr>
 #[inline(always)]
 fn trap(word: u16) -> Option<Instr>
     requires opcode { word / 4096 ≡ 15 }
-    ensures found { IfSome result (λ i. word_of i ≡ word) }
-    ensures in_range { IfSome result (λ i. IsInstruction i) }
+    ensures found { IfSome result (λ i. IsInstruction i × (word_of i ≡ word)) }
     ensures none { IfNone result ((i : Instr) → IsInstruction i → word_of i ≢ word) }
 {
     if word >> 8 & 15 == 0 {
@@ -237,8 +221,7 @@ fn trap(word: u16) -> Option<Instr>
 
 #[inline(always)]
 fn instruction(word: u16) -> Option<Instr>
-    ensures found { IfSome result (λ i. word_of i ≡ word) }
-    ensures in_range { IfSome result (λ i. IsInstruction i) }
+    ensures found { IfSome result (λ i. IsInstruction i × (word_of i ≡ word)) }
     ensures none { IfNone result ((i : Instr) → IsInstruction i → word_of i ≢ word) }
 {
     match word >> 12 {

@@ -159,7 +159,6 @@ pub fn operations() -> &'static [Operation]
     &OPERATIONS
 }
 
-/// `BR` and its letters in the order n, z, p.
 #[tactic(auto, unfolding(crate::specs::Words::name))]
 fn branch_name(negative: bool, zero: bool, positive: bool) -> &'static str
     ensures value { result.now ≡ name (op.Branch negative zero positive) }
