@@ -5,12 +5,9 @@ use crate::source::Place;
 use std::alloc::AllocError;
 
 pub(crate) fn bad_token(place: Place<'_>) -> Result<Remark, AllocError> {
-    let (at, character) = place
-        .part
-        .word
-        .char_indices()
-        .find(|(_, character)| !matches!(*character, '!'..='~'))
-        .unwrap_or((0, ' '));
+    let mut characters = place.part.word.char_indices();
+    let bad = characters.find(|(_, character)| !matches!(*character, '!'..='~'));
+    let (at, character) = bad.unwrap_or((0, ' '));
     let start = place.part.span.start.saturating_add(at);
     let (before, behind) = match character {
         '\u{FEFF}' if place.number == 1 && start == 0 => (

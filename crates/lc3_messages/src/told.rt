@@ -65,7 +65,6 @@ fn is_among(names: &[&str], name: &str) -> bool
     names.iter().any(|other| name == *other)
 }
 
-/// Adds warnings, but for those of these names.
 fn add_warnings(
     found: &mut Vec<Finding>,
     warnings: &[Warning],
