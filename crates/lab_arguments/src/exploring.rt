@@ -16,7 +16,6 @@ use crate::{MOST_LOCAL_STEPS, MOST_MEMORY, MOST_WORLDS};
 use clap::ArgMatches;
 use std::alloc::{AllocError, Global};
 
-/// The seed of walks where the words give none.
 const USUAL_SEED: u32 = 1;
 
 /// The most worlds to visit where the words don't say, or those of a walk, if so many are taken.

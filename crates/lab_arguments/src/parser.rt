@@ -41,7 +41,6 @@ fn shown_error(
     Ok(again.err().unwrap_or(error))
 }
 
-/// The text of help, or of what is wrong with the words.
 fn refusal_of(alloc: Global, error: &Error) -> Refusal
     ensures no_command { (text : String Global) → result ≡ NoCommand text
         → kind_of error.now ≡ InvalidSubcommand }

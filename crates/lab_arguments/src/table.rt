@@ -21,7 +21,6 @@ const WARNINGS: &[&str] = &[
     "after-end",
 ];
 
-/// A word at a place of its own.
 fn place<'a>(alloc: Global, row: &Row) -> Arg<'a> {
     Arg::new(alloc, row.name).required(true).help(row.help)
 }
