@@ -33,10 +33,8 @@ impl Part<'_> {
     }
 
     pub fn remark(&self, text: String) -> Remark {
-        Remark {
-            mark: self.span,
-            text,
-        }
+        let mark = self.span;
+        Remark { mark, text }
     }
 }
 
@@ -51,11 +49,10 @@ pub(crate) fn parts_of(alloc: Global, line: &str) -> Result<Vec<Part<'_>>, Alloc
     let mut parts = Vec::new(alloc);
     let mut rest = without_separators(line.as_bytes());
     while let Some((token, after)) = first_token(rest) {
-        let span = Span {
-            start: line.len().saturating_sub(rest.len()),
-            end: line.len().saturating_sub(after.len()),
-        };
-        let word = line.get(span.start..span.end).unwrap_or("");
+        let start = line.len().saturating_sub(rest.len());
+        let end = line.len().saturating_sub(after.len());
+        let word = line.get(start..end).unwrap_or("");
+        let span = Span { start, end };
         parts.push(Part { token, span, word })?;
         rest = without_separators(after);
     }

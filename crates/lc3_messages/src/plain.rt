@@ -28,11 +28,8 @@ pub(crate) fn bad_token(place: Place<'_>) -> Result<Remark, AllocError> {
             " can't stand in a word; words have characters from x21 to x7E",
         ),
     };
-    Ok(Remark {
-        mark: Span {
-            start,
-            end: start.saturating_add(character.len_utf8()),
-        },
-        text: format!(in place.source.alloc; "{before}U+{:04X}{behind}", u32::from(character))?,
-    })
+    let end = start.saturating_add(character.len_utf8());
+    let mark = Span { start, end };
+    let text = format!(in place.source.alloc; "{before}U+{:04X}{behind}", u32::from(character))?;
+    Ok(Remark { mark, text })
 }

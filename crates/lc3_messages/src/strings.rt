@@ -50,11 +50,7 @@ pub(crate) fn bad_string(alloc: Global, part: Part<'_>) -> Result<Remark, AllocE
             (character.len_utf8(), text)
         }
     };
-    Ok(Remark {
-        mark: Span {
-            start,
-            end: start.saturating_add(length),
-        },
-        text,
-    })
+    let end = start.saturating_add(length);
+    let mark = Span { start, end };
+    Ok(Remark { mark, text })
 }

@@ -50,10 +50,8 @@ fn told_faults(source: &Source<'_>, faults: &[LineFault]) -> Result<Vec<Finding>
     let mut told = Vec::new(source.alloc);
     for fault in faults {
         if told.is_empty() || !may_follow(source, *fault)? {
-            told.push(Finding {
-                line: fault.line,
-                what: What::Fault(fault.kind),
-            })?;
+            let (line, what) = (fault.line, What::Fault(fault.kind));
+            told.push(Finding { line, what })?;
         }
     }
     Ok(told)
@@ -75,10 +73,8 @@ fn add_warnings(
 {
     for warning in warnings {
         if !is_among(names, warning.kind.name()) {
-            found.push(Finding {
-                line: warning.line,
-                what: What::Warning(warning.kind),
-            })?;
+            let (line, what) = (warning.line, What::Warning(warning.kind));
+            found.push(Finding { line, what })?;
         }
     }
     Ok(())
