@@ -130,11 +130,8 @@ pub fn next_from(lines: &[Line], behind: usize) -> Option<Next>
 {
     for i in behind..lines.len() {
         if let Some(flow) = flow_of(&lines[i]) {
-            return Some(Next {
-                line: i + 1,
-                flow,
-                prints: prints_string(&lines[i]),
-            });
+            let (line, prints) = (i + 1, prints_string(&lines[i]));
+            return Some(Next { line, flow, prints });
         }
     }
     None

@@ -28,9 +28,8 @@ impl Names {
     pub fn new(alloc: Global) -> Self
         ensures empty { result ≡ [] }
     {
-        Names {
-            words: IndexSet::new(alloc),
-        }
+        let words = IndexSet::new(alloc);
+        Names { words }
     }
 
     pub fn contains(&self, name: &str) -> bool
