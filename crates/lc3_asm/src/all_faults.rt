@@ -93,8 +93,7 @@ pub fn faults_of(
     Ok(found)
 }
 
-/// All the faults of a source text: those of its lines in their order, and then those of the labels
-/// that they name.
+/// All the faults of a source text: those of its lines in their order, and then those of the labels that they name.
 ///
 /// There is none exactly where [`assemble`](crate::assemble) accepts the text, and the first is the
 /// one with which it refuses it. Behind a faulty line the reading goes on: the line counts as its

@@ -1,7 +1,6 @@
 //! What the assembler accepts and people don't mean: warnings about the lines of a source.
 //!
-//! Each kind of warning is a definition of its own in specs/: Numbers, Labels, Around, Returns, Codes,
-//! Strings and Warnings.
+//! Each kind of warning is a definition of its own in specs/: Numbers, Labels, Around, Returns, Codes, Strings and Warnings.
 #![tactic(auto)]
 
 mod around;
