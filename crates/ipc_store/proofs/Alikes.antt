@@ -7,16 +7,14 @@ use Rattle.std.proofs.lemmas.Option.{unwrap_or-slice_get}
 use Rattle.ipc_kernel.specs.declared.place.Place.{Place}
 use Rattle.ipc_kernel.specs.declared.place.Place.TheVariants.{Empty}
 use Rattle.ipc_kernel.specs.declared.process.OpenTables.{OpenTables}
-use Rattle.ipc_kernel.specs.declared.process.Slot.{Slot}
-use Rattle.ipc_kernel.specs.declared.process.Descriptor.{Descriptor}
-use Rattle.ipc_kernel.specs.Processes.{is_referred, with_descriptor, with_slot, closed_process}
+use Rattle.ipc_kernel.specs.Processes.{is_referred}
 use Rattle.ipc_kernel.specs.Places.{place_at, has_name, place_or_empty, places_or_empty}
 use Rattle.ipc_kernel.specs.Kernel.{KernelState}
 use Rattle.ipc_kernel.specs.Alike.{renamed_descriptor, renamed_slot, renamed_process, IsPermutation, IsRenaming, IsAlike, IsConsistent}
 use Rattle.ipc_kernel.proofs.PlaceLemmas.{get_or-emptied, length-emptied}
 use Rattle.ipc_kernel.proofs.KernelLemmas.{kept-Empty}
 use Rattle.ipc_kernel.proofs.IndexLemmas.{place_at-set_same, place_at-set_other, place_at-past}
-use Rattle.ipc_store.proofs.Renamings.{processes_stay, renamed_twice, with_descriptor-renamed, with_slot-renamed, closed-renamed, is_referred-renamed}
+use Rattle.ipc_store.proofs.Renamings.{processes_stay, renamed_twice, is_referred-renamed}
 
 -- what a place holds once each without a name and a reference is emptied
 pub place_at-emptied : (processes : List OpenTables) (ps : List Place) (i : ℕ) → place_at (places_or_empty processes ps) i ≡ place_or_empty processes i (place_at ps i)
@@ -77,17 +75,9 @@ renaming_place f g k j r count a x = record {
 pub renaming_processes : (f g : ℕ → ℕ) (k j : KernelState) → IsRenaming f g k j → (ps qs : List OpenTables) → qs ≡ map (renamed_process f) ps → IsRenaming f g (record k { processes = ps }) (record j { processes = qs })
 renaming_processes f g k j r ps qs same = record { permutation = r.permutation; count = r.count; places = r.places; processes = same }
 
-pub renaming_descriptor : (f g : ℕ → ℕ) (k j : KernelState) → IsRenaming f g k j → (p d : ℕ) (v : Option Descriptor)
-    → IsRenaming f g (record k { processes = with_descriptor k.processes p d v }) (record j { processes = with_descriptor j.processes p d (option_map (renamed_descriptor f) v) })
-renaming_descriptor f g k j r p d v = renaming_processes f g k j r _ _ (ap (λ ps. with_descriptor ps p d (option_map (renamed_descriptor f) v)) r.processes ∙ with_descriptor-renamed f k.processes p d v)
-
-pub renaming_slot : (f g : ℕ → ℕ) (k j : KernelState) → IsRenaming f g k j → (p s : ℕ) (v : Option Slot)
-    → IsRenaming f g (record k { processes = with_slot k.processes p s v }) (record j { processes = with_slot j.processes p s (option_map (renamed_slot f) v) })
-renaming_slot f g k j r p s v = renaming_processes f g k j r _ _ (ap (λ ps. with_slot ps p s (option_map (renamed_slot f) v)) r.processes ∙ with_slot-renamed f k.processes p s v)
-
-pub renaming_closed : (f g : ℕ → ℕ) (k j : KernelState) → IsRenaming f g k j → (p : ℕ)
-    → IsRenaming f g (record k { processes = set k.processes p closed_process }) (record j { processes = set j.processes p closed_process })
-renaming_closed f g k j r p = renaming_processes f g k j r _ _ (ap (λ ps. set ps p closed_process) r.processes ∙ closed-renamed f k.processes p)
+-- each number stays
+pub permutation_itself : IsPermutation (λ n. n) (λ n. n)
+permutation_itself = record { undone = λ n. refl; redone = λ n. refl; within = λ n. (λ e. e, λ e. e) }
 
 -- one renaming after another
 pub permutation_then : (f g h i : ℕ → ℕ) → IsPermutation f g → IsPermutation h i → IsPermutation (λ n. h (f n)) (λ n. g (i n))
@@ -114,7 +104,7 @@ alike_itself k = (
   λ i. i,
   λ i. i,
   record {
-    permutation = record { undone = λ i. refl; redone = λ i. refl; within = λ i. (λ e. e, λ e. e) };
+    permutation = permutation_itself;
     count = refl;
     places = λ i. refl;
     processes = sym (processes_stay (λ i. i) k.processes (λ n e. refl));

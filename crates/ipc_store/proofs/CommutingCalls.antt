@@ -1,5 +1,5 @@
 -- A process's own calls commute with the calls of other processes that take no name away.
-use Rattle.std.proofs.Common.{◌≡◌, ℕ, Bool, true, false, List, [], set, get_or-set_other, Option, Some, None, is_some, refl, sym, ap, ◌∙◌}
+use Rattle.std.proofs.Common.{◌≡◌, ℕ, Bool, true, false, List, [], set, get_or-set_other, Option, Some, None, is_some, refl, sym, ap, subst, ◌∙◌, inl, inr}
 use Rattle.std.specs.Option.{option_map}
 use Rattle.std.proofs.lemmas.List.{set_comm}
 use Rattle.std.proofs.lemmas.Option.{unwrap_or-slice_get}
@@ -8,48 +8,128 @@ use Rattle.ipc_kernel.specs.declared.place.Place.{Place}
 use Rattle.ipc_kernel.specs.declared.place.Place.TheVariants.{Empty}
 use Rattle.ipc_kernel.specs.declared.process.OpenTables.{OpenTables}
 use Rattle.ipc_kernel.specs.declared.call.Call.{Call}
-use Rattle.ipc_kernel.specs.declared.call.Call.TheVariants.{MqOpen, MqClose, SemOpen, SemClose, Exit}
-use Rattle.ipc_kernel.specs.Processes.{process_at}
+use Rattle.ipc_kernel.specs.declared.call.Call.TheVariants.{MqOpen, MqClose, MqUnlink, SemOpen, SemClose, SemUnlink, Exit}
+use Rattle.ipc_kernel.specs.declared.call.Handle.TheVariants.{Mqd, Slot as Sem}
+use Rattle.ipc_kernel.specs.declared.call.Answer.{Answer}
+use Rattle.ipc_kernel.specs.declared.call.Answer.TheVariants.{Done}
+use Rattle.ipc_kernel.specs.declared.call.Reply.TheVariants.{Plain}
+use Rattle.ipc_kernel.specs.Processes.{process_at, closed_process}
 use Rattle.ipc_kernel.specs.Places.{place_at, queue_name, semaphore_name, queue_named, semaphore_named}
 use Rattle.ipc_kernel.specs.Kernel.{KernelState}
 use Rattle.ipc_kernel.specs.Outcomes.{Outcome}
 use Rattle.ipc_kernel.specs.Queues.{sizes_asked}
-use Rattle.ipc_kernel.specs.Answer.{answer}
+use Rattle.ipc_kernel.specs.Answer.{answer, exit}
 use Rattle.ipc_kernel.specs.Alike.{IsRenaming, IsAlike}
-use Rattle.ipc_kernel.specs.Operands.{are_named}
-use Rattle.ipc_kernel.specs.OwnCalls.{is_own, OwnCallsCommute, StartNamed, StayNamed, OwnAlike}
-use Rattle.ipc_store.proofs.OpeningCalls.{mq_open_at, sem_open_at}
-use Rattle.ipc_store.proofs.OperandAnswers.{mq_open_is}
+use Rattle.ipc_kernel.specs.Operands.{are_named, handle_of}
+use Rattle.ipc_kernel.proofs.KernelLemmas.{done_settled}
+use Rattle.ipc_kernel.specs.OwnCalls.{is_own, is_unlink, OwnCallsCommute, StartNamed, StayNamed, OwnAlike}
 use Rattle.ipc_store.proofs.Alikes.{alike_back}
 use Rattle.ipc_store.proofs.AlikeOutcomes.{found_named}
-use Rattle.ipc_store.proofs.NamedPlaces.{is_named, KeepNames, names_kept, all_by}
-use Rattle.ipc_store.proofs.SettledTables.{all_at}
-use Rattle.ipc_store.proofs.TableCalls.{ChangesTables, tables_same, tables_exit, tables_mq_close, tables_sem_close, tables_mq_open, tables_sem_open}
-use Rattle.ipc_store.proofs.NamedCalls.{of_call}
-use Rattle.ipc_store.proofs.OperandRows.{none_behind}
+use Rattle.ipc_store.proofs.NamedPlaces.{is_named, KeepNames, names_kept, all_by, keeps_left}
+use Rattle.ipc_store.proofs.SettledTables.{all_at, settled_named, empty_named}
+use Rattle.ipc_store.proofs.WorkPlaces.{Lookup, Named, New, Nowhere, Finds, is_local, any_handle, RefersTo, found, referred}
+use Rattle.ipc_store.proofs.LocalCalls.{back, IsLocal, local, here, after, after_settled, held_at, slot_at, mq_opened, mq_closed, sem_opened, sem_closed}
+
+-- what a call makes of places ps and of the tables t of its process: the same in each kernel that has them, and each name keeps
+-- its place
+record IsOfTables (ps : List Place) (t : OpenTables) (call : KernelState → ℕ → Outcome) : Type 0 where
+  reply : Answer
+  places : List Place
+  tables : OpenTables
+  same : (k : KernelState) (p : ℕ) → k.places ≡ ps → process_at k.processes p ≡ t → call k p ≡ (reply, record { places = places; processes = set k.processes p tables })
+  keeps : KeepNames ps places
+
+-- what a call makes of the tables t of its process: the same in each kernel that has them and keeps the names, of which it changes
+-- nothing else
+record ChangesTables (ps : List Place) (t : OpenTables) (call : KernelState → ℕ → Outcome) : Type 0 where
+  reply : Answer
+  tables : OpenTables
+  same : (k : KernelState) (p : ℕ) → KeepNames ps k.places → process_at k.processes p ≡ t → call k p ≡ (reply, record { places = k.places; processes = set k.processes p tables })
+
+of_tables : (ps : List Place) (t : OpenTables) (call : KernelState → ℕ → Outcome) → are_named ps ≡ true → ChangesTables ps t call → IsOfTables ps t call
+of_tables ps t call named h = record {
+  reply = h.reply;
+  places = ps;
+  tables = h.tables;
+  same = λ k p at has. h.same k p (subst (KeepNames ps) (sym at) (names_kept ps named)) has ∙ ap (λ qs. (h.reply, record { places = qs; processes = set k.processes p h.tables })) at;
+  keeps = names_kept ps named;
+}
+
+-- the end of a process
+exit_own : (ps : List Place) (t : OpenTables) → ChangesTables ps t exit
+exit_own ps t = record {
+  reply = Done (Plain 0);
+  tables = closed_process;
+  same = λ k p keeps has.
+      let closed = set k.processes p closed_process in done_settled (record { places = k.places; processes = closed }) (Plain 0) (settled_named closed k.places keeps.named);
+}
+
+-- a call on one place
+of_local : (ps : List Place) (t : OpenTables) (c : Call) → are_named ps ≡ true → is_local c ≡ true → (i : ℕ) (l : Lookup) → Finds c ps i l → RefersTo c i t → IsOfTables ps t (λ k p. answer k p c)
+of_local ps t c named is i l finds refers = record {
+  reply = h.reply;
+  places = set ps i (h.object (place_at ps i));
+  tables = h.tables;
+  same = λ k p at has.
+      here c i t (λ x. x ≡ place_at ps i) l _ h k p has (ap (λ qs. place_at qs i) at) (subst (λ qs. Finds c qs i l) (sym at) finds)
+      ∙ ap (λ qs. (h.reply, after h.completes (record { places = set qs i (h.object (place_at qs i)); processes = set k.processes p h.tables }))) at
+      ∙ ap (λ x. (h.reply, x)) (after_settled h.completes _ (settled_named (set k.processes p h.tables) (set ps i (h.object (place_at ps i))) keeps.named));
+  keeps = keeps;
+}
+  where
+    h : IsLocal c i t (λ x. x ≡ place_at ps i) l (λ f k p. answer k p c)
+    h = local c i t (λ x. x ≡ place_at ps i) l (place_at ps i) (λ x e. e) refers is
+
+    keeps : KeepNames ps (set ps i (h.object (place_at ps i)))
+    keeps = keeps_left ps i c l _ named finds (h.leaves (place_at ps i))
+
+-- each call that takes no name away
+of_call : (ps : List Place) (t : OpenTables) (c : Call) → are_named ps ≡ true → is_unlink c ≡ false → IsOfTables ps t (λ k p. answer k p c)
+unfolding answer
+of_call ps t (MqUnlink name) named keeps = absurd (cc)
+of_call ps t (SemUnlink name) named keeps = absurd (cc)
+of_call ps t Exit named keeps = of_tables ps t exit named (exit_own ps t)
+of_call ps t (MqOpen name flags attr) named keeps = let f = found queue_name ps name in of_local ps t (MqOpen name flags attr) named refl f.0 f.1 f.2 (λ h n e is. absurd (cc))
+of_call ps t (SemOpen name flags value) named keeps = let f = found semaphore_name ps name in of_local ps t (SemOpen name flags value) named refl f.0 f.1 f.2 (λ h n e is. absurd (cc))
+of_call ps t c named keeps = let r = referred t (any_handle c) in of_local ps t c named refl r.0 Nowhere tt r.1
+
+-- an own call has the same answer, and makes the same of the tables of its process, in each kernel that keeps the names
+own_local : (ps : List Place) (t : OpenTables) (c : Call) (i : ℕ) (l : Lookup) → handle_of c ≡ None → (l ≡ New → ⊥) → ((qs : List Place) → KeepNames ps qs → Finds c qs i l)
+    → IsLocal c i t (λ x. Unit {0}) l (λ f k p. answer k p c) → ChangesTables ps t (λ k p. answer k p c)
+own_local ps t c i l closes old finds h = record {
+  reply = h.reply;
+  tables = h.tables;
+  same = λ k p keeps has.
+      here c i t (λ x. Unit {0}) l _ h k p has tt (finds k.places keeps)
+      ∙ ap (λ qs. (h.reply, after h.completes (record { places = qs; processes = set k.processes p h.tables }))) (back k.places i Empty _ (sym (stays (place_at k.places i))))
+      ∙ ap (λ x. (h.reply, x)) (after_settled h.completes _ (settled_named (set k.processes p h.tables) k.places keeps.named));
+}
+  where
+    stays : (x : Place) → h.object x ≡ x
+    stays x = elim (h.leaves x) [ inl kind ↦ kind.1 closes | inr new ↦ absurd (old new.1) ]
 
 -- what is there
 there : {A : Type 0} (o : Option A) → is_some o ≡ true → (x : A) × (o ≡ Some x)
 there None e = absurd (cc)
 there (Some x) e = (x, refl)
 
--- an own call has the same answer, and makes the same of the tables of its process, in each kernel that keeps the names
-of_own : (ps : List Place) (t : OpenTables) (c : Call) → is_own ps c ≡ true → ChangesTables (KeepNames ps) t (λ k p. answer k p c)
+of_own : (ps : List Place) (t : OpenTables) (c : Call) → is_own ps c ≡ true → ChangesTables ps t (λ k p. answer k p c)
 unfolding answer
 of_own ps t (MqOpen name flags attr) own =
-    let found = there (queue_named ps name) own in
-    tables_same (KeepNames ps) t _ (λ k p. mq_open_at k p name (sizes_asked attr) (Some found.0) (flags_read flags))
-    (λ k p keeps has. mq_open_is k p name (sizes_asked attr) (flags_read flags)
-    ∙ ap (λ x. mq_open_at k p name (sizes_asked attr) x (flags_read flags)) (keeps.queues name found.0 found.1))
-    (tables_mq_open (KeepNames ps) (λ qs keeps. keeps.named) t name (sizes_asked attr) found.0 (flags_read flags))
-of_own ps t (MqClose d) own = tables_mq_close (KeepNames ps) (λ qs keeps. keeps.named) t d
+    let at = there (queue_named ps name) own in
+    own_local ps t (MqOpen name flags attr) at.0 Named refl (λ e. cc) (λ qs keeps. keeps.queues name at.0 at.1)
+    (mq_opened (MqOpen name flags attr) at.0 t (λ x. Unit {0}) Named refl refl name (sizes_asked attr) (λ qs a x. x) refl (flags_read flags))
+of_own ps t (MqClose d) own =
+    let r = referred t (Some (Mqd d)) in
+    own_local ps t (MqClose d) r.0 Nowhere refl (λ e. cc) (λ qs keeps. tt) (mq_closed (MqClose d) r.0 t (λ x. Unit {0}) Nowhere d refl (held_at t d r.0 (λ n. r.1 (Mqd d) n refl)))
 of_own ps t (SemOpen name flags value) own =
-    let found = there (semaphore_named ps name) own in
-    tables_same (KeepNames ps) t _ (λ k p. sem_open_at k p name flags value (Some found.0))
-    (λ k p keeps has. ap (λ x. sem_open_at k p name flags value x) (keeps.semaphores name found.0 found.1))
-    (tables_sem_open (KeepNames ps) (λ qs keeps. keeps.named) t name flags value found.0)
-of_own ps t (SemClose s) own = tables_sem_close (KeepNames ps) (λ qs keeps. keeps.named) t s
-of_own ps t Exit own = tables_exit (KeepNames ps) (λ qs keeps. keeps.named) t
+    let at = there (semaphore_named ps name) own in
+    own_local ps t (SemOpen name flags value) at.0 Named refl (λ e. cc) (λ qs keeps. keeps.semaphores name at.0 at.1)
+    (sem_opened (SemOpen name flags value) at.0 t (λ x. Unit {0}) Named refl refl name flags value (λ qs a x. x) refl)
+of_own ps t (SemClose s) own =
+    let r = referred t (Some (Sem s)) in
+    own_local ps t (SemClose s) r.0 Nowhere refl (λ e. cc) (λ qs keeps. tt) (sem_closed (SemClose s) r.0 t (λ x. Unit {0}) Nowhere s refl (slot_at t s r.0 (λ n. r.1 (Sem s) n refl)))
+of_own ps t Exit own = exit_own ps t
 of_own ps t other own = absurd (cc)
 
 -- a call is own still where names are kept
@@ -91,7 +171,7 @@ own_calls_commute k p q c d other named own keeps =
     }
 
 pub start_named : StartNamed
-start_named n = none_behind 64
+start_named n = empty_named 64
 
 pub stay_named : StayNamed
 stay_named k p c named keeps =

@@ -1,56 +1,21 @@
 -- Consistent kernels, and what each change makes of one.
 use Rattle.std.proofs.Common.{◌≡◌, ◌≢◌, ℕ, Bool, true, false, cond, ◌||◌, List, [], ◌∷◌, length, set, length-set, Option, Some, None, unwrap_or, slice_get, zero, suc, replicate, refl, sym, ap, subst, ◌∙◌, ◌⊎◌, inl, inr, arith}
-use Rattle.std.specs.List.{list_any}
-use Rattle.std.proofs.lemmas.Bool.{cases_lt, or_parts}
+use Rattle.std.proofs.lemmas.Bool.{cases_lt}
 use Rattle.std.proofs.lemmas.Bool.Decides.{eqb_tells}
 use Rattle.std.proofs.lemmas.Option.{unwrap_or-slice_get}
 use Rattle.std.proofs.lemmas.List.{get_or-replicate, get_or_past, length-replicate}
 use Rattle.ipc_kernel.specs.declared.place.Place.{Place}
 use Rattle.ipc_kernel.specs.declared.place.Place.TheVariants.{Empty}
 use Rattle.ipc_kernel.specs.declared.process.OpenTables.{OpenTables}
-use Rattle.ipc_kernel.specs.declared.process.Slot.{Slot}
-use Rattle.ipc_kernel.specs.declared.process.Descriptor.{Descriptor}
-use Rattle.ipc_kernel.specs.Processes.{process_at, descriptor_of, slot_of, slot_refers, descriptor_refers, process_refers, is_referred, with_descriptor, with_slot, closed_process}
+use Rattle.ipc_kernel.specs.Processes.{process_at, process_refers, is_referred, closed_process}
 use Rattle.ipc_kernel.specs.Places.{place_at, has_name, place_or_empty, queue_name, semaphore_name}
 use Rattle.ipc_kernel.specs.Kernel.{KernelState, empty_kernel}
 use Rattle.ipc_kernel.specs.Alike.{AreDistinct, IsConsistent}
 use Rattle.ipc_kernel.proofs.PlaceLemmas.{length-emptied}
 use Rattle.ipc_kernel.proofs.IndexLemmas.{place_at-set_same, place_at-set_other, place_at-past}
 use Rattle.ipc_store.proofs.Alikes.{done, place_at-emptied}
-
-none_at : {A : Type 0} (q : A → Bool) (d : A) → q d ≡ false → (xs : List A) (i : ℕ) → list_any q xs ≡ false → q (unwrap_or (slice_get xs i) d) ≡ false
-none_at q d is [] i e = is
-none_at q d is (x ∷ xs) zero e = (or_parts (q x) (list_any q xs) e).0
-none_at q d is (x ∷ xs) (suc i) e = none_at q d is xs i (or_parts (q x) (list_any q xs) e).1
-
-none_set : {A : Type 0} (q : A → Bool) (xs : List A) (i : ℕ) (y : A) → list_any q xs ≡ false → q y ≡ false → list_any q (set xs i y) ≡ false
-none_set q [] i y e d = refl
-none_set q (x ∷ xs) zero y e d = rw d (or_parts (q x) (list_any q xs) e).1
-none_set q (x ∷ xs) (suc i) y e d = let first = or_parts (q x) (list_any q xs) e in rw first.0 (none_set q xs i y first.1 d)
-
-abbrev nobody : OpenTables
-nobody = record { descriptors = []; slots = [] }
-
--- the tables of one process, where none refers to a place
-tables_unreferred : (ps : List OpenTables) (p i : ℕ) → is_referred ps i ≡ false
-    → (list_any (descriptor_refers i) (process_at ps p).descriptors ≡ false) × (list_any (slot_refers i) (process_at ps p).slots ≡ false)
-tables_unreferred ps p i e = or_parts _ _ (none_at (process_refers i) nobody refl ps p e)
-
-pub descriptor_unreferred : (ps : List OpenTables) (p d i : ℕ) → is_referred ps i ≡ false → descriptor_refers i (descriptor_of ps p d) ≡ false
-descriptor_unreferred ps p d i e = none_at (descriptor_refers i) None refl (process_at ps p).descriptors d (tables_unreferred ps p i e).0
-
-pub slot_unreferred : (ps : List OpenTables) (p s i : ℕ) → is_referred ps i ≡ false → slot_refers i (slot_of ps p s) ≡ false
-slot_unreferred ps p s i e = none_at (slot_refers i) None refl (process_at ps p).slots s (tables_unreferred ps p i e).1
-
-with_descriptor_unreferred : (ps : List OpenTables) (p d i : ℕ) (v : Option Descriptor) → is_referred ps i ≡ false → descriptor_refers i v ≡ false → is_referred (with_descriptor ps p d v) i ≡ false
-with_descriptor_unreferred ps p d i v e n =
-    let tables = tables_unreferred ps p i e in
-    none_set (process_refers i) ps p _ e (rw (none_set (descriptor_refers i) (process_at ps p).descriptors d v tables.0 n, tables.1) refl)
-
-with_slot_unreferred : (ps : List OpenTables) (p s i : ℕ) (v : Option Slot) → is_referred ps i ≡ false → slot_refers i v ≡ false → is_referred (with_slot ps p s v) i ≡ false
-with_slot_unreferred ps p s i v e n =
-    let tables = tables_unreferred ps p i e in
-    none_set (process_refers i) ps p _ e (rw (tables.0, none_set (slot_refers i) (process_at ps p).slots s v tables.1 n) refl)
+use Rattle.ipc_store.proofs.Renamings.{nobody}
+use Rattle.ipc_store.proofs.SettledTables.{any_set, none_at}
 
 -- a place that the rule leaves is the place, or it is empty
 kept_name : (name_of : Place → Option (List ℕ)) → name_of Empty ≡ None → (processes : List OpenTables) (i : ℕ) (p : Place) (n : List ℕ) → name_of (place_or_empty processes i p) ≡ Some n → name_of p ≡ Some n
@@ -123,20 +88,17 @@ consistent_place k s a x filled queues semaphores = record {
   semaphores = distinct_set semaphore_name refl k.places a x s.semaphores semaphores;
 }
 
--- the tables of the processes are written, and refer to no empty place
-consistent_processes : (k : KernelState) → IsConsistent k → (ps : List OpenTables) → ((i : ℕ) → place_at k.places i ≡ Empty → is_referred ps i ≡ false) → IsConsistent (record k { processes = ps })
-consistent_processes k s ps referred = record { count = s.count; referred = referred; queues = s.queues; semaphores = s.semaphores }
-
-pub consistent_descriptor : (k : KernelState) → IsConsistent k → (p d : ℕ) (v : Option Descriptor) → ((i : ℕ) → place_at k.places i ≡ Empty → descriptor_refers i v ≡ false)
-    → IsConsistent (record k { processes = with_descriptor k.processes p d v })
-consistent_descriptor k s p d v refers = consistent_processes k s _ (λ i e. with_descriptor_unreferred k.processes p d i v (s.referred i e) (refers i e))
-
-pub consistent_slot : (k : KernelState) → IsConsistent k → (p t : ℕ) (v : Option Slot) → ((i : ℕ) → place_at k.places i ≡ Empty → slot_refers i v ≡ false)
-    → IsConsistent (record k { processes = with_slot k.processes p t v })
-consistent_slot k s p t v refers = consistent_processes k s _ (λ i e. with_slot_unreferred k.processes p t i v (s.referred i e) (refers i e))
-
-pub consistent_closed : (k : KernelState) → IsConsistent k → (p : ℕ) → IsConsistent (record k { processes = set k.processes p closed_process })
-consistent_closed k s p = consistent_processes k s _ (λ i e. none_set (process_refers i) k.processes p closed_process (s.referred i e) refl)
+-- the tables of a process are written, and refer to no empty place
+pub consistent_tables : (k : KernelState) → IsConsistent k → (p : ℕ) (u : OpenTables)
+    → ((n : ℕ) → place_at k.places n ≡ Empty → process_refers n (process_at k.processes p) ≡ false → process_refers n u ≡ false)
+    → IsConsistent (record k { processes = set k.processes p u })
+consistent_tables k s p u refers = record {
+  count = s.count;
+  referred = λ n e.
+      let none = none_at (process_refers n) nobody refl k.processes p (s.referred n e) in any_set (process_refers n) k.processes p u nobody (refers n e none ∙ sym none) ∙ s.referred n e;
+  queues = s.queues;
+  semaphores = s.semaphores;
+}
 
 all_closed : (n i : ℕ) → is_referred (replicate n closed_process) i ≡ false
 all_closed zero i = refl

@@ -12,11 +12,9 @@ mod NumberLemmas
 mod ArrangedRows
 mod RowLemmas
 mod KeptLemmas
+mod WorkPlaces
 pub mod LocalCalls
-mod OpeningCalls
 mod SettledTables
 mod OperandRows
 mod NamedPlaces
-mod TableCalls
-mod NamedCalls
 pub mod CommutingCalls

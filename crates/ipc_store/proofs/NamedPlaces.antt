@@ -1,20 +1,30 @@
 -- Places where each object has a name: what is written into one leaves them so, and leaves each name where it was.
-use Rattle.std.proofs.Common.{◌≡◌, ℕ, Bool, true, false, ◌||◌, ◌&&◌, List, [], ◌∷◌, zero, suc, length-set, set, Option, Some, None, unwrap_or, slice_get, position, refl, sym, ap, ◌∙◌}
+use Rattle.std.proofs.Common.{subst, inl, inr, ◌≡◌, ℕ, Bool, true, false, ◌||◌, ◌&&◌, List, [], ◌∷◌, zero, suc, length-set, set, Option, Some, None, unwrap_or, slice_get, position, refl, sym, ap, ◌∙◌}
 use Rattle.std.specs.List.{list_all}
-use Rattle.ipc_objects.specs.Queue.{QueueState}
+use Rattle.ipc_objects.specs.Queue.{QueueState, empty_queue}
 use Rattle.ipc_kernel.specs.declared.place.Place.{Place}
 use Rattle.ipc_kernel.specs.declared.place.Place.TheVariants.{Empty, Mq, Sem}
-use Rattle.ipc_kernel.specs.Places.{place_at, is_empty, has_name, is_name, queue_name, semaphore_name, place_named, queue_named, semaphore_named, with_queue, with_value, with_queue_in, with_value_in}
+use Rattle.ipc_kernel.specs.Places.{place_at, is_empty, has_name, is_name, queue_name, semaphore_name, place_named, queue_named, semaphore_named}
+use Rattle.ipc_kernel.specs.declared.call.Call.{Call}
+use Rattle.ipc_kernel.specs.declared.call.Call.TheVariants.{MqOpen, SemOpen}
+use Rattle.ipc_kernel.specs.Queues.{sizes_asked}
 use Rattle.ipc_kernel.specs.Operands.{are_named}
+use Rattle.ipc_kernel.proofs.PlaceLemmas.{first_empty_place}
+use Rattle.ipc_store.proofs.WorkPlaces.{Lookup, New, Finds, MayLeave, is_open, new_object}
 use Rattle.std.proofs.lemmas.Bool.{and_parts}
 use Rattle.std.proofs.lemmas.List.Folds.{position_or_len-set}
+use Rattle.std.proofs.lemmas.List.Quantifiers.{position-Some}
 use Rattle.std.proofs.lemmas.Option.{unwrap_or-slice_get}
 use Rattle.ipc_store.proofs.SettledTables.{all_at}
-use Rattle.ipc_kernel.proofs.IndexLemmas.{is_name-true, queue_name-with_queue, semaphore_name-with_queue, queue_name-with_value, semaphore_name-with_value}
+use Rattle.ipc_kernel.proofs.IndexLemmas.{is_name-true}
 
 -- whether what is in a place is nothing, or has a name
 abbrev pub is_named : Place → Bool
 is_named p = is_empty p || has_name p
+
+-- the place with a name, as it is found
+pub name_found : (name_of : Place → Option (List ℕ)) (ps : List Place) (n : List ℕ) (i : ℕ) → place_named name_of ps n ≡ Some i → name_of (place_at ps i) ≡ Some n
+name_found name_of ps n i e = ap name_of (unwrap_or-slice_get ps i Empty) ∙ is_name-true n _ (position-Some (λ p. is_name n (name_of p)) ps i Empty e).1
 
 -- each object of the second places has a name, and each name of the first stands in its place
 pub record KeepNames (ps qs : List Place) : Type 0 where
@@ -51,26 +61,6 @@ keeps_written ps i y named new queues semaphores = record {
   semaphores = λ n m e. position_set (λ p. is_name n (semaphore_name p)) ps i y Empty (semaphores n m e) ∙ e;
 }
 
-named_queue : (q : QueueState) (p : Place) → is_named (with_queue q p) ≡ is_named p
-named_queue q Empty = refl
-named_queue q (Mq name queue) = refl
-named_queue q (Sem name value) = refl
-
--- another state of a queue
-pub keeps_queue : (ps : List Place) (i : ℕ) (q : QueueState) → are_named ps ≡ true → KeepNames ps (with_queue_in ps i q)
-keeps_queue ps i q named = keeps_written ps i (with_queue q (place_at ps i)) named (named_queue q (place_at ps i) ∙ all_at is_named ps i Empty refl named)
-    (λ n m e. ap (is_name n) (queue_name-with_queue q (place_at ps i))) (λ n m e. ap (is_name n) (semaphore_name-with_queue q (place_at ps i)))
-
-named_value : (v : ℕ) (p : Place) → is_named (with_value v p) ≡ is_named p
-named_value v Empty = refl
-named_value v (Mq name queue) = refl
-named_value v (Sem name value) = refl
-
--- another value of a semaphore
-pub keeps_value : (ps : List Place) (i v : ℕ) → are_named ps ≡ true → KeepNames ps (with_value_in ps i v)
-keeps_value ps i v named = keeps_written ps i (with_value v (place_at ps i)) named (named_value v (place_at ps i) ∙ all_at is_named ps i Empty refl named)
-    (λ n m e. ap (is_name n) (queue_name-with_value v (place_at ps i))) (λ n m e. ap (is_name n) (semaphore_name-with_value v (place_at ps i)))
-
 -- a name that is found isn't one that isn't
 other_name : (name_of : Place → Option (List ℕ)) (ps : List Place) (name n : List ℕ) (m : ℕ) → place_named name_of ps name ≡ None → place_named name_of ps n ≡ Some m → is_name n (Some name) ≡ false
 other_name name_of ps name n m absent e = by (is_name n (Some name)) refl
@@ -80,12 +70,25 @@ other_name name_of ps name n m absent e = by (is_name n (Some name)) refl
     by true f = let same : Some name ≡ Some n = is_name-true n (Some name) f in let is : name ≡ n = cc in let no : None ≡ Some m = sym absent ∙ ap (place_named name_of ps) is ∙ e in absurd (cc)
 
 -- a new object with a name that none had
-pub keeps_new_queue : (ps : List Place) (i : ℕ) (name : List ℕ) (q : QueueState) → are_named ps ≡ true → queue_named ps name ≡ None → place_at ps i ≡ Empty → KeepNames ps (set ps i (Mq (Some name) q))
+keeps_new_queue : (ps : List Place) (i : ℕ) (name : List ℕ) (q : QueueState) → are_named ps ≡ true → queue_named ps name ≡ None → place_at ps i ≡ Empty → KeepNames ps (set ps i (Mq (Some name) q))
 keeps_new_queue ps i name q named absent empty = keeps_written ps i (Mq (Some name) q) named refl
     (λ n m e. other_name queue_name ps name n m absent e ∙ sym (ap (λ p. is_name n (queue_name p)) empty))
     (λ n m e. sym (ap (λ p. is_name n (semaphore_name p)) empty))
 
-pub keeps_new_semaphore : (ps : List Place) (i : ℕ) (name : List ℕ) (v : ℕ) → are_named ps ≡ true → semaphore_named ps name ≡ None → place_at ps i ≡ Empty → KeepNames ps (set ps i (Sem (Some name) v))
+keeps_new_semaphore : (ps : List Place) (i : ℕ) (name : List ℕ) (v : ℕ) → are_named ps ≡ true → semaphore_named ps name ≡ None → place_at ps i ≡ Empty → KeepNames ps (set ps i (Sem (Some name) v))
 keeps_new_semaphore ps i name v named absent empty = keeps_written ps i (Sem (Some name) v) named refl
     (λ n m e. sym (ap (λ p. is_name n (queue_name p)) empty))
     (λ n m e. other_name semaphore_name ps name n m absent e ∙ sym (ap (λ p. is_name n (semaphore_name p)) empty))
+
+keeps_made : (ps : List Place) (i : ℕ) (c : Call) → are_named ps ≡ true → is_open c ≡ true → Finds c ps i New → KeepNames ps (set ps i (new_object c))
+keeps_made ps i (MqOpen name flags attr) named opens finds = keeps_new_queue ps i name (empty_queue (sizes_asked attr)) named finds.0 (first_empty_place ps i finds.1)
+keeps_made ps i (SemOpen name flags value) named opens finds = keeps_new_semaphore ps i name value named finds.0 (first_empty_place ps i finds.1)
+keeps_made ps i other named opens finds = absurd (cc)
+
+-- what a call leaves
+pub keeps_left : (ps : List Place) (i : ℕ) (c : Call) (l : Lookup) (x : Place) → are_named ps ≡ true → Finds c ps i l → MayLeave c l (place_at ps i) x → KeepNames ps (set ps i x)
+keeps_left ps i c l x named finds (inl kind) = keeps_written ps i x named
+    (ap (λ b. b || has_name x) kind.0.filled ∙ ap (λ b. is_empty (place_at ps i) || b) kind.0.named ∙ all_at is_named ps i Empty refl named)
+    (λ n m e. ap (is_name n) kind.0.queue) (λ n m e. ap (is_name n) kind.0.semaphore)
+keeps_left ps i c l x named finds (inr new) =
+    subst (λ y. KeepNames ps (set ps i y)) (sym new.2) (keeps_made ps i c named new.0 (subst (λ m. Finds c ps i m) new.1 finds))

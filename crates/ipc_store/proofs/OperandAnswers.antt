@@ -1,32 +1,31 @@
 -- Calls that remove no object: what they depend on, and what they change.
-use Rattle.std.proofs.Common.{◌≡◌, ℕ, Bool, true, false, cond, List, set, Option, Some, None, option_and_then, get_or, position, refl, sym, ap, subst, ◌∙◌, ◌⊎◌, inl, inr, Result, Ok, Err}
+use Rattle.std.proofs.Common.{◌≡◌, ℕ, ◌<◌, ◌||◌, Bool, true, false, cond, List, length, set, length-set, get_or, get_or-set_other, get_or-set_same, Option, Some, None, is_some, option_and_then, position, unwrap_or, refl, sym, ap, subst, ◌∙◌, inl, inr, arith}
 use Rattle.std.specs.Option.{option_or}
-use Rattle.std.proofs.lemmas.List.Quantifiers.{position-Some}
+use Rattle.std.proofs.lemmas.Bool.{cases_eq, or_left, or_right}
 use Rattle.std.proofs.lemmas.Option.{cond_some, unwrap_or-slice_get}
-use Rattle.ipc_names.specs.declared.errno.Errno.{Errno}
-use Rattle.ipc_names.specs.declared.flags.Flags.{Flags}
-use Rattle.ipc_names.specs.Flags.{flags_read}
 use Rattle.ipc_kernel.specs.declared.place.Place.{Place}
-use Rattle.ipc_kernel.specs.declared.place.Place.TheVariants.{Empty}
+use Rattle.ipc_kernel.specs.declared.place.Place.TheVariants.{Empty, Mq, Sem as SemPlace}
 use Rattle.ipc_kernel.specs.declared.process.OpenTables.{OpenTables}
 use Rattle.ipc_kernel.specs.declared.call.Call.{Call}
-use Rattle.ipc_kernel.specs.declared.call.Call.TheVariants.{MqOpen, MqClose, MqUnlink, MqSend, MqReceive, MqGetattr, MqSetattr, SemOpen, SemClose, SemUnlink, SemWait, SemTrywait, SemPost, SemGetvalue, Exit}
+use Rattle.ipc_kernel.specs.declared.call.Call.TheVariants.{MqOpen, MqClose, MqUnlink, SemOpen, SemClose, SemUnlink, Exit}
 use Rattle.ipc_kernel.specs.declared.call.Answer.{Answer}
 use Rattle.ipc_kernel.specs.declared.call.Answer.TheVariants.{Done}
 use Rattle.ipc_kernel.specs.declared.call.Reply.TheVariants.{Plain}
+use Rattle.ipc_kernel.specs.declared.call.Handle.{Handle}
 use Rattle.ipc_kernel.specs.declared.call.Handle.TheVariants.{Mqd, Slot as Sem}
-use Rattle.ipc_kernel.specs.Processes.{closed_process}
-use Rattle.ipc_kernel.specs.Places.{place_at, is_empty, has_name, is_name, queue_name, semaphore_name, place_named, queue_named}
+use Rattle.ipc_kernel.specs.Processes.{process_at, process_refers, closed_process}
+use Rattle.ipc_kernel.specs.Places.{place_at, is_empty, has_name, queue_name, semaphore_name, place_named, place_or_empty}
 use Rattle.ipc_kernel.specs.Kernel.{KernelState, IsSettled}
 use Rattle.ipc_kernel.specs.Outcomes.{Outcome}
-use Rattle.ipc_kernel.specs.Queues.{sizes_asked, mq_open}
 use Rattle.ipc_kernel.specs.Answer.{answer}
-use Rattle.ipc_kernel.specs.Operands.{place_of, if_named, are_named, operand_in, with_operand, HasOperand, AnswersByOperand}
+use Rattle.ipc_kernel.specs.Operands.{place_of, if_named, are_named, operand_in, handle_of, with_operand, HasOperand, AnswersByOperand}
 use Rattle.ipc_kernel.proofs.PlaceLemmas.{empty_of, first_empty_place}
-use Rattle.ipc_kernel.proofs.KernelLemmas.{done_settled}
-use Rattle.ipc_store.proofs.SettledTables.{set_back, get_set, settled_named}
-use Rattle.ipc_store.proofs.LocalCalls.{IsLocal, place_of_operand, local_sent, local_received, local_attributes, local_set, local_waited, local_tried, local_posted, local_valued}
-use Rattle.ipc_store.proofs.OpeningCalls.{mq_open_at, local_mq_open, mq_open_new, mq_open_new_is, local_mq_open_new, sem_open_at, local_sem_open, sem_open_new, sem_open_new_is, local_sem_open_new, local_mq_close, local_sem_close}
+use Rattle.ipc_kernel.proofs.KernelLemmas.{done_settled, settled_by, settled_at, kept-Empty}
+use Rattle.ipc_store.proofs.Renamings.{nobody}
+use Rattle.ipc_store.proofs.SettledTables.{all_at, any_set, get_set, place_kept, settled_named}
+use Rattle.ipc_store.proofs.NamedPlaces.{is_named, name_found}
+use Rattle.ipc_store.proofs.WorkPlaces.{Lookup, Named, New, IsFound, Finds, is_local, is_open, new_object, any_handle, RefersTo, IsKind, MayLeave}
+use Rattle.ipc_store.proofs.LocalCalls.{back, IsLocal, local, here, after, after_settled}
 
 -- what a call makes of tables t and of the object o in place i: the same in each settled kernel that has them, and where it works
 -- on that place
@@ -35,75 +34,6 @@ record IsAnswered (c : Call) (i : ℕ) (t : OpenTables) (o : Place) : Type 0 whe
   object : Place
   tables : OpenTables
   same : (k : KernelState) (p : ℕ) → IsSettled k → operand_in k t c ≡ Some i → HasOperand k p i t o → answer k p c ≡ (reply, with_operand k p i object tables)
-
-by_local : (c : Call) (i : ℕ) (t : OpenTables) (o : Place) (call : KernelState → ℕ → Outcome) → ((k : KernelState) (p : ℕ) → operand_in k t c ≡ Some i → HasOperand k p i t o → answer k p c ≡ call k p)
-    → IsLocal i t o call → IsAnswered c i t o
-by_local c i t o call e h = record { reply = h.reply; object = h.object; tables = h.tables; same = λ k p s at has. e k p at has ∙ h.same k p s has }
-
-pub mq_open_is : (k : KernelState) (p : ℕ) (name : List ℕ) (sizes : ℕ × ℕ) (f : Result Flags Errno) → mq_open k p name sizes f ≡ mq_open_at k p name sizes (queue_named k.places name) f
-mq_open_is k p name sizes (Err e) = refl
-mq_open_is k p name sizes (Ok flags) = refl
-
--- the first, or the second where there is no first
-first_or_second : {A : Type 0} (x y : Option A) (a : A) → option_or x y ≡ Some a → (x ≡ Some a) ⊎ ((x ≡ None) × (y ≡ Some a))
-first_or_second None y a e = inr (refl, e)
-first_or_second (Some b) y a e = inl e
-
--- an empty place has no name
-no_name : (name_of : Place → Option (List ℕ)) (ps : List Place) (n : List ℕ) (i : ℕ) → name_of Empty ≡ None → place_named name_of ps n ≡ Some i → place_at ps i ≡ Empty → ⊥
-no_name name_of ps n i none e empty =
-    let named : is_name n (name_of (get_or ps i Empty)) ≡ true = (position-Some (λ p. is_name n (name_of p)) ps i Empty e).1 in
-    let here : get_or ps i Empty ≡ Empty = sym (unwrap_or-slice_get ps i Empty) ∙ empty in
-    let f : false ≡ true = sym (ap (is_name n) (ap name_of here ∙ none)) ∙ named in cc
-
--- an open works on an empty place where no object has the name, and on another where its object has it
-opens_new : (name_of : Place → Option (List ℕ)) (ps : List Place) (n : List ℕ) (i : ℕ) → name_of Empty ≡ None → is_empty (place_at ps i) ≡ true
-    → option_or (place_named name_of ps n) (position is_empty ps) ≡ Some i → (place_named name_of ps n ≡ None) × (position is_empty ps ≡ Some i)
-opens_new name_of ps n i none empty e = elim (first_or_second (place_named name_of ps n) (position is_empty ps) i e) [
-  | inl named ↦ absurd (no_name name_of ps n i none named (empty_of (place_at ps i) empty))
-  | inr new ↦ new
-]
-
-opens_named : (name_of : Place → Option (List ℕ)) (ps : List Place) (n : List ℕ) (i : ℕ) → is_empty (place_at ps i) ≡ false
-    → option_or (place_named name_of ps n) (position is_empty ps) ≡ Some i → place_named name_of ps n ≡ Some i
-opens_named name_of ps n i full e = elim (first_or_second (place_named name_of ps n) (position is_empty ps) i e) [
-  | inl named ↦ named
-  | inr new ↦ (let f : true ≡ false = sym (ap is_empty (first_empty_place ps i new.1)) ∙ full in absurd (cc))
-]
-
--- opens, by whether the place is empty
-mq_opened : (name : List ℕ) (flags : ℕ) (attr : Option (List ℕ)) (i : ℕ) (t : OpenTables) (o : Place) → IsAnswered (MqOpen name flags attr) i t o
-unfolding answer
-mq_opened name flags attr i t o = by (is_empty o) refl
-  where
-    open_is : (k : KernelState) (p : ℕ) (x : Option ℕ) → queue_named k.places name ≡ x → answer k p (MqOpen name flags attr) ≡ mq_open_at k p name (sizes_asked attr) x (flags_read flags)
-    open_is k p x e = mq_open_is k p name (sizes_asked attr) (flags_read flags) ∙ ap (λ y. mq_open_at k p name (sizes_asked attr) y (flags_read flags)) e
-
-    by : (b : Bool) → is_empty o ≡ b → IsAnswered (MqOpen name flags attr) i t o
-    by true e =
-        by_local (MqOpen name flags attr) i t o (λ k p. mq_open_new k p i name (sizes_asked attr) (flags_read flags)) (λ k p at has.
-        let new = opens_new queue_name k.places name i refl (ap is_empty (place_of_operand k p i t o has) ∙ e) at in
-        open_is k p None new.0 ∙ mq_open_new_is k p i name (sizes_asked attr) (flags_read flags) new.1)
-        (local_mq_open_new name (sizes_asked attr) (flags_read flags) i t o)
-    by false e =
-        by_local (MqOpen name flags attr) i t o (λ k p. mq_open_at k p name (sizes_asked attr) (Some i) (flags_read flags)) (λ k p at has.
-        open_is k p (Some i) (opens_named queue_name k.places name i (ap is_empty (place_of_operand k p i t o has) ∙ e) at))
-        (local_mq_open name (sizes_asked attr) (flags_read flags) i t o)
-
-sem_opened : (name : List ℕ) (flags value i : ℕ) (t : OpenTables) (o : Place) → IsAnswered (SemOpen name flags value) i t o
-unfolding answer
-sem_opened name flags value i t o = by (is_empty o) refl
-  where
-    by : (b : Bool) → is_empty o ≡ b → IsAnswered (SemOpen name flags value) i t o
-    by true e =
-        by_local (SemOpen name flags value) i t o (λ k p. sem_open_new k p i name flags value) (λ k p at has.
-        let new = opens_new semaphore_name k.places name i refl (ap is_empty (place_of_operand k p i t o has) ∙ e) at in
-        ap (λ x. sem_open_at k p name flags value x) new.0 ∙ sem_open_new_is k p i name flags value new.1)
-        (local_sem_open_new name flags value i t o)
-    by false e =
-        by_local (SemOpen name flags value) i t o (λ k p. sem_open_at k p name flags value (Some i)) (λ k p at has.
-        ap (λ x. sem_open_at k p name flags value x) (opens_named semaphore_name k.places name i (ap is_empty (place_of_operand k p i t o has) ∙ e) at))
-        (local_sem_open name flags value i t o)
 
 -- the place that is closed, and its object has a name
 closed_place : (ps : List Place) (x : Option ℕ) (i : ℕ) → option_and_then (if_named ps) x ≡ Some i → (x ≡ Some i) × (has_name (place_at ps i) ≡ true)
@@ -114,39 +44,133 @@ closed_place ps (Some n) i e = let named = cond_some (has_name (place_at ps n)) 
 all_named : (ps : List Place) (i : ℕ) → cond (are_named ps) (Some 0) None ≡ Some i → are_named ps ≡ true
 all_named ps i e = (cond_some (are_named ps) 0 i e).0
 
-ended : (i : ℕ) (t : OpenTables) (o : Place) → IsAnswered Exit i t o
+-- what an open finds in the place that it works on, by whether that is empty
+abbrev lookup : Place → Lookup
+lookup o = cond (is_empty o) New Named
+
+finds_name : (name_of : Place → Option (List ℕ)) (ps : List Place) (n : List ℕ) (i : ℕ) (o : Place) → name_of Empty ≡ None → place_at ps i ≡ o
+    → option_or (place_named name_of ps n) (position is_empty ps) ≡ Some i → IsFound name_of n ps i (lookup o)
+finds_name name_of ps n i o nameless is at = by (is_empty o) (place_named name_of ps n) (ap is_empty is) refl at
+  where
+    by : (b : Bool) (x : Option ℕ) → is_empty (place_at ps i) ≡ b → place_named name_of ps n ≡ x → option_or x (position is_empty ps) ≡ Some i → IsFound name_of n ps i (cond b New Named)
+    by true (Some a) empty e f = let no : None ≡ Some n = sym (ap name_of (empty_of _ empty) ∙ nameless) ∙ name_found name_of ps n i (e ∙ f) in absurd (cc)
+    by false (Some a) full e f = e ∙ f
+    by true None empty e f = (e, f)
+    by false None full e f = let no : false ≡ true = sym full ∙ ap is_empty (first_empty_place ps i f) in absurd (cc)
+
+finds : (k : KernelState) (t : OpenTables) (c : Call) (i : ℕ) (o : Place) → place_at k.places i ≡ o → operand_in k t c ≡ Some i → Finds c k.places i (lookup o)
+finds k t (MqOpen name flags attr) i o is at = finds_name queue_name k.places name i o refl is at
+finds k t (SemOpen name flags value) i o is at = finds_name semaphore_name k.places name i o refl is at
+finds k t other i o is at = tt
+
+-- what is open refers to the place that a call works on
+one_place : (t : OpenTables) (x : Option Handle) (i : ℕ) → option_and_then (place_of t) x ≡ Some i → (h : Handle) (n : ℕ) → x ≡ Some h → place_of t h ≡ Some n → n ≡ i
+one_place t x i at h n e is = let same : Some n ≡ Some i = sym is ∙ sym (ap (option_and_then (place_of t)) e) ∙ at in cc
+
+refers : (k : KernelState) (t : OpenTables) (c : Call) (i : ℕ) → operand_in k t c ≡ Some i → RefersTo c i t
+refers k t (MqOpen name flags attr) i at = λ h n e is. absurd (cc)
+refers k t (MqClose d) i at = one_place t (Some (Mqd d)) i (closed_place k.places (place_of t (Mqd d)) i at).0
+refers k t (SemOpen name flags value) i at = λ h n e is. absurd (cc)
+refers k t (SemClose s) i at = one_place t (Some (Sem s)) i (closed_place k.places (place_of t (Sem s)) i at).0
+refers k t Exit i at = λ h n e is. absurd (cc)
+refers k t other i at = one_place t (handle_of other) i at
+
+-- where a call has no open object, what it works on has a name, or is none
+queue_has_name : (p : Place) (n : List ℕ) → queue_name p ≡ Some n → is_named p ≡ true
+queue_has_name (Mq name queue) n e = ap is_some e
+queue_has_name other n e = absurd (cc)
+
+semaphore_has_name : (p : Place) (n : List ℕ) → semaphore_name p ≡ Some n → is_named p ≡ true
+semaphore_has_name (SemPlace name value) n e = ap is_some e
+semaphore_has_name other n e = absurd (cc)
+
+named_found : (name_of : Place → Option (List ℕ)) (ps : List Place) (n : List ℕ) (i : ℕ) → ((p : Place) → name_of p ≡ Some n → is_named p ≡ true)
+    → option_or (place_named name_of ps n) (position is_empty ps) ≡ Some i → is_named (place_at ps i) ≡ true
+named_found name_of ps n i has e = by (place_named name_of ps n) refl e
+  where
+    by : (x : Option ℕ) → place_named name_of ps n ≡ x → option_or x (position is_empty ps) ≡ Some i → is_named (place_at ps i) ≡ true
+    by (Some a) f g = has (place_at ps i) (name_found name_of ps n i (f ∙ g))
+    by None f g = ap is_named (first_empty_place ps i g)
+
+named_operand : (k : KernelState) (t : OpenTables) (c : Call) (i : ℕ) → operand_in k t c ≡ Some i → handle_of c ≡ None → is_named (place_at k.places i) ≡ true
+named_operand k t (MqOpen name flags attr) i at none = named_found queue_name k.places name i (λ p. queue_has_name p name) at
+named_operand k t (MqClose d) i at none = or_right (is_empty (place_at k.places i)) _ (closed_place k.places (place_of t (Mqd d)) i at).1
+named_operand k t (SemOpen name flags value) i at none = named_found semaphore_name k.places name i (λ p. semaphore_has_name p name) at
+named_operand k t (SemClose s) i at none = or_right (is_empty (place_at k.places i)) _ (closed_place k.places (place_of t (Sem s)) i at).1
+named_operand k t Exit i at none = all_at is_named k.places i Empty refl (all_named k.places i at)
+named_operand k t other i at none = absurd (cc)
+
+made_named : (c : Call) → is_open c ≡ true → is_named (new_object c) ≡ true
+made_named (MqOpen name flags attr) e = refl
+made_named (SemOpen name flags value) e = refl
+made_named other e = absurd (cc)
+
+-- an object that was kept is kept with another state
+kept_kind : (b : Bool) (x y : Place) → IsKind x y → cond (has_name x || b) x Empty ≡ x → cond (has_name y || b) y Empty ≡ y
+kept_kind b x y kind e = by (has_name x || b) (ap (λ n. n || b) kind.named) e
+  where
+    by : (a : Bool) → (has_name y || b) ≡ a → cond a x Empty ≡ x → cond (has_name y || b) y Empty ≡ y
+    by true f g = rw f refl
+    by false f g = rw f (sym (empty_of y (kind.filled ∙ sym (ap is_empty g))))
+
+-- another object in place i, and tables that refer to each other place as before, leave a kernel settled
+settled_with : (k : KernelState) (p i : ℕ) (x : Place) (u : OpenTables) → IsSettled k → ((n : ℕ) → (n ≡ i → ⊥) → process_refers n u ≡ process_refers n (process_at k.processes p))
+    → (i < length k.places → place_or_empty (set k.processes p u) i x ≡ x) → IsSettled (with_operand k p i x u)
+settled_with k p i x u s others there = settled_by (set k.processes p u) (set k.places i x) (λ n h.
+    let inside : n < length k.places = omega (arith, length-set k.places i x) in
+    elim (cases_eq n i) [
+      | inl same ↦ (let less : i < length k.places = omega arith in rw (same, get_or-set_same k.places i x Empty less) (there less))
+      | inr other ↦ rw (get_or-set_other k.places i n x Empty other)
+          (ap (λ b. cond (has_name (get_or k.places n Empty) || b) (get_or k.places n Empty) Empty) (any_set (process_refers n) k.processes p u nobody (others n other))
+          ∙ settled_at k.processes k.places s n Empty inside)
+    ])
+
+-- and so does a call on that place
+settled_local : (k : KernelState) (c : Call) (p i : ℕ) (l : Lookup) (x : Place) (u : OpenTables) → IsSettled k → (handle_of c ≡ None → is_named (place_at k.places i) ≡ true) → MayLeave c l (place_at k.places i) x
+    → ((n : ℕ) → (n ≡ i → handle_of c ≡ None → ⊥) → process_refers n u ≡ process_refers n (process_at k.processes p)) → IsSettled (with_operand k p i x u)
+settled_local k c p i l x u s named leaves same = settled_with k p i x u s (λ n apart. same n (λ e none. apart e)) (λ less. elim leaves [
+  | inr new ↦ place_kept (set k.processes p u) i x (ap is_named new.2 ∙ made_named c new.0)
+  | inl kind ↦ by less kind.0 (is_named (place_at k.places i)) refl
+])
+  where
+    by : i < length k.places → IsKind (place_at k.places i) x → (b : Bool) → is_named (place_at k.places i) ≡ b → place_or_empty (set k.processes p u) i x ≡ x
+    by less kind true e = place_kept (set k.processes p u) i x (ap (λ b. b || has_name x) kind.filled ∙ ap (λ b. is_empty (place_at k.places i) || b) kind.named ∙ e)
+    by less kind false e =
+        ap (λ b. cond (has_name x || b) x Empty) (any_set (process_refers i) k.processes p u nobody (same i (λ d none. let no : false ≡ true = sym e ∙ named none in absurd (cc))))
+        ∙ kept_kind _ (place_at k.places i) x kind (rw (unwrap_or-slice_get k.places i Empty) (settled_at k.processes k.places s i Empty less))
+
+by_local : (j : KernelState) (c : Call) (i : ℕ) (t : OpenTables) (o : Place) → operand_in j t c ≡ Some i → is_local c ≡ true → IsAnswered c i t o
+by_local j c i t o at is = record {
+  reply = h.reply;
+  object = h.object o;
+  tables = h.tables;
+  same = λ k p s at_k has.
+      let there : place_at k.places i ≡ o = ap (λ x. unwrap_or x Empty) has.object in
+      let tables : process_at k.processes p ≡ t = ap (λ x. unwrap_or x nobody) has.tables in
+      here c i t (λ x. x ≡ o) (lookup o) _ h k p tables there (finds k t c i o there at_k)
+      ∙ ap (λ x. (h.reply, after h.completes (with_operand k p i (h.object x) h.tables))) there
+      ∙ ap (λ x. (h.reply, x)) (after_settled h.completes _ (settled_local k c p i (lookup o) (h.object o) h.tables s (named_operand k t c i at_k)
+      (subst (λ x. MayLeave c (lookup o) x (h.object o)) (sym there) (h.leaves o))
+      (λ n apart. h.refers n o (λ e none. absurd (apart e none)) ∙ ap (process_refers n) (sym tables))));
+}
+  where
+    h : IsLocal c i t (λ x. x ≡ o) (lookup o) (λ f k p. answer k p c)
+    h = local c i t (λ x. x ≡ o) (lookup o) o (λ x e. e) (refers j t c i at) is
+
+answered : (j : KernelState) (c : Call) (i : ℕ) (t : OpenTables) (o : Place) → operand_in j t c ≡ Some i → IsAnswered c i t o
 unfolding answer
-ended i t o = record {
+answered j (MqUnlink name) i t o at = absurd (cc)
+answered j (SemUnlink name) i t o at = absurd (cc)
+answered j Exit i t o at = record {
   reply = Done (Plain 0);
   object = o;
   tables = closed_process;
-  same = λ k p s at has.
-      let new : KernelState = record { places = k.places; processes = set k.processes p closed_process } in
-      done_settled new (Plain 0) (settled_named (set k.processes p closed_process) k.places (all_named k.places i at))
-      ∙ ap (λ ps. (Done (Plain 0), record { places = ps; processes = set k.processes p closed_process })) (sym (set_back k.places i o has.object));
+  same = λ k p s at_k has.
+      let closed = set k.processes p closed_process in
+      done_settled (record { places = k.places; processes = closed }) (Plain 0) (settled_named closed k.places (all_named k.places i at_k))
+      ∙ ap (λ ps. (Done (Plain 0), record { places = ps; processes = closed })) (sym (back k.places i Empty o (ap (λ x. unwrap_or x Empty) has.object)));
 }
-
-answered : (j : KernelState) (q : ℕ) (c : Call) (i : ℕ) (t : OpenTables) (o : Place) → operand_in j t c ≡ Some i → HasOperand j q i t o → IsAnswered c i t o
-unfolding answer
-answered j q (MqOpen name flags attr) i t o at has = mq_opened name flags attr i t o
-answered j q (MqClose d) i t o at has =
-    let closed = closed_place j.places (place_of t (Mqd d)) i at in
-    by_local (MqClose d) i t o _ (λ k p e h. refl) (local_mq_close d i t o closed.0 (ap has_name (sym (place_of_operand j q i t o has)) ∙ closed.1))
-answered j q (MqUnlink name) i t o at has = absurd (cc)
-answered j q (MqSend d words prio) i t o at has = by_local (MqSend d words prio) i t o _ (λ k p e h. refl) (local_sent d words prio i t o at)
-answered j q (MqReceive d len) i t o at has = by_local (MqReceive d len) i t o _ (λ k p e h. refl) (local_received d len i t o at)
-answered j q (MqGetattr d) i t o at has = by_local (MqGetattr d) i t o _ (λ k p e h. refl) (local_attributes d i t o at)
-answered j q (MqSetattr d flags) i t o at has = by_local (MqSetattr d flags) i t o _ (λ k p e h. refl) (local_set d flags i t o at)
-answered j q (SemOpen name flags value) i t o at has = sem_opened name flags value i t o
-answered j q (SemClose s) i t o at has =
-    let closed = closed_place j.places (place_of t (Sem s)) i at in
-    by_local (SemClose s) i t o _ (λ k p e h. refl) (local_sem_close s i t o closed.0 (ap has_name (sym (place_of_operand j q i t o has)) ∙ closed.1))
-answered j q (SemUnlink name) i t o at has = absurd (cc)
-answered j q (SemWait s) i t o at has = by_local (SemWait s) i t o _ (λ k p e h. refl) (local_waited s i t o at)
-answered j q (SemTrywait s) i t o at has = by_local (SemTrywait s) i t o _ (λ k p e h. refl) (local_tried s i t o at)
-answered j q (SemPost s) i t o at has = by_local (SemPost s) i t o _ (λ k p e h. refl) (local_posted s i t o at)
-answered j q (SemGetvalue s) i t o at has = by_local (SemGetvalue s) i t o _ (λ k p e h. refl) (local_valued s i t o at)
-answered j q Exit i t o at has = ended i t o
+answered j c i t o at = by_local j c i t o at refl
 
 -- what is in the written place, and the written tables
 written : (j : KernelState) (q i : ℕ) (t u x : OpenTables) (o r y : Place) → HasOperand j q i t o → HasOperand (with_operand j q i r u) q i x y → (x ≡ u) × (y ≡ r)
@@ -157,7 +181,7 @@ written j q i t u x o r y has new =
 
 pub answers_by_operand : AnswersByOperand
 answers_by_operand k j p q c i t o sk sj at_k at_j hk hj =
-    let here = answered j q c i t o at_j hj in
+    let here = answered j c i t o at_j in
     record {
       answers = ap (λ (x : Outcome). x.0) (here.same k p sk at_k hk) ∙ sym (ap (λ (x : Outcome). x.0) (here.same j q sj at_j hj));
       kernels = λ u y new.

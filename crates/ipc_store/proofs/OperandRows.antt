@@ -20,6 +20,7 @@ use Rattle.ipc_store.specs.declared.kept.objects.Kind.TheVariants.{Queue, Semaph
 use Rattle.ipc_store.specs.Private.Kinds.{name_of}
 use Rattle.std.proofs.lemmas.List.Folds.{list_all-append, list_all-map}
 use Rattle.ipc_store.proofs.Renamings.{position-map}
+use Rattle.ipc_store.proofs.SettledTables.{empty_named}
 use Rattle.ipc_store.proofs.RowLemmas.{row}
 use Rattle.ipc_store.proofs.KeptLemmas.{kernel_of_row}
 
@@ -146,16 +147,12 @@ opened_there name_of os ts rows kernel ns ms n k named i none at_kernel is found
     ∙ ap (λ (x : KernelState). option_or named (position is_empty x.places)) (sym (kernel_of_row os ts rows kernel (row ns ms) k at_kernel is))
     ∙ sym place
 
-pub none_behind : (m : ℕ) → are_named (replicate m Empty) ≡ true
-none_behind zero = refl
-none_behind (suc m) = none_behind m
-
 padded_named : (os : List Place) (ns : List ℕ) → list_all (λ n. is_empty (place_at os n) || has_name (place_at os n)) ns ≡ true → are_named (padded 64 (map (place_at os) ns)) ≡ true
 unfolding padded
 padded_named os ns e =
     let test : Place → Bool = λ p. is_empty p || has_name p in
     let m = 64 - length (map (place_at os) ns) in
-    list_all-append test (map (place_at os) ns) (replicate m Empty) ∙ ap (λ b. b && list_all test (replicate m Empty)) (list_all-map test (place_at os) ns ∙ e) ∙ none_behind m
+    list_all-append test (map (place_at os) ns) (replicate m Empty) ∙ ap (λ b. b && list_all test (replicate m Empty)) (list_all-map test (place_at os) ns ∙ e) ∙ empty_named m
 
 -- each object of a kernel that is kept has a name
 pub all_there : (os : List Place) (ts : List OpenTables) (rows : List KernelRow) (kernel : ℕ) (ns ms : List ℕ) (k : KernelState) → slice_get rows kernel ≡ Some (row ns ms)

@@ -10,11 +10,14 @@ use Rattle.std.proofs.lemmas.List.{map-set, length-map, append-nil, append_assoc
 use Rattle.ipc_kernel.specs.declared.process.OpenTables.{OpenTables}
 use Rattle.ipc_kernel.specs.declared.process.Slot.{Slot}
 use Rattle.ipc_kernel.specs.declared.process.Descriptor.{Descriptor}
-use Rattle.ipc_kernel.specs.Processes.{process_at, descriptor_of, slot_of, free_descriptor_of, free_slot_of, slot_for, slot_refers, descriptor_refers, process_refers, is_referred, with_descriptor, with_slot, closed_process}
+use Rattle.ipc_kernel.specs.Processes.{process_at, descriptor_of, slot_of, slot_refers, descriptor_refers, process_refers, is_referred}
 use Rattle.ipc_kernel.specs.Alike.{renamed_descriptor, renamed_slot, renamed_process, IsPermutation}
 
 abbrev pub tables : List (Option Descriptor) → List (Option Slot) → OpenTables
 tables descriptors slots = record { descriptors = descriptors; slots = slots }
+
+abbrev pub nobody : OpenTables
+nobody = tables [] []
 
 -- as many descriptors and slots as a process can have
 abbrev pub HasOpenMax : OpenTables → Type 0
@@ -53,41 +56,39 @@ unwrap_map h d None = refl
 unwrap_map h d (Some x) = refl
 
 -- the tables of a process, renamed
-process_at-renamed : (f : ℕ → ℕ) (ps : List OpenTables) (p : ℕ) → process_at (map (renamed_process f) ps) p ≡ renamed_process f (process_at ps p)
-process_at-renamed f ps p = ap (λ o. unwrap_or o (tables [] [])) (slice_get-map (renamed_process f) ps p) ∙ unwrap_map (renamed_process f) (tables [] []) (slice_get ps p)
+pub process_at-renamed : (f : ℕ → ℕ) (ps : List OpenTables) (p : ℕ) → process_at (map (renamed_process f) ps) p ≡ renamed_process f (process_at ps p)
+process_at-renamed f ps p = ap (λ o. unwrap_or o nobody) (slice_get-map (renamed_process f) ps p) ∙ unwrap_map (renamed_process f) nobody (slice_get ps p)
+
+abbrev pub held_by : ℕ → OpenTables → Option Descriptor
+held_by d t = unwrap_or (slice_get t.descriptors d) None
+
+abbrev pub slot_by : ℕ → OpenTables → Option Slot
+slot_by s t = unwrap_or (slice_get t.slots s) None
+
+-- tables with something else in a descriptor, and in a slot
+abbrev pub with_held : OpenTables → ℕ → Option Descriptor → OpenTables
+with_held t d x = record t { descriptors = set t.descriptors d x }
+
+abbrev pub with_slot_held : OpenTables → ℕ → Option Slot → OpenTables
+with_slot_held t s x = record t { slots = set t.slots s x }
+
+pub held-renamed : (f : ℕ → ℕ) (t : OpenTables) (d : ℕ) → held_by d (renamed_process f t) ≡ option_map (renamed_descriptor f) (held_by d t)
+held-renamed f t d = ap (λ o. unwrap_or o None) (slice_get-map (option_map (renamed_descriptor f)) t.descriptors d) ∙ unwrap_map (option_map (renamed_descriptor f)) None (slice_get t.descriptors d)
+
+pub slot_held-renamed : (f : ℕ → ℕ) (t : OpenTables) (s : ℕ) → slot_by s (renamed_process f t) ≡ option_map (renamed_slot f) (slot_by s t)
+slot_held-renamed f t s = ap (λ o. unwrap_or o None) (slice_get-map (option_map (renamed_slot f)) t.slots s) ∙ unwrap_map (option_map (renamed_slot f)) None (slice_get t.slots s)
 
 pub descriptor_of-renamed : (f : ℕ → ℕ) (ps : List OpenTables) (p d : ℕ) → descriptor_of (map (renamed_process f) ps) p d ≡ option_map (renamed_descriptor f) (descriptor_of ps p d)
-descriptor_of-renamed f ps p d =
-    ap (λ (x : OpenTables). unwrap_or (slice_get x.descriptors d) None) (process_at-renamed f ps p)
-    ∙ ap (λ o. unwrap_or o None) (slice_get-map (option_map (renamed_descriptor f)) (process_at ps p).descriptors d)
-    ∙ unwrap_map (option_map (renamed_descriptor f)) None (slice_get (process_at ps p).descriptors d)
+descriptor_of-renamed f ps p d = ap (held_by d) (process_at-renamed f ps p) ∙ held-renamed f (process_at ps p) d
 
 pub slot_of-renamed : (f : ℕ → ℕ) (ps : List OpenTables) (p s : ℕ) → slot_of (map (renamed_process f) ps) p s ≡ option_map (renamed_slot f) (slot_of ps p s)
-slot_of-renamed f ps p s =
-    ap (λ (x : OpenTables). unwrap_or (slice_get x.slots s) None) (process_at-renamed f ps p)
-    ∙ ap (λ o. unwrap_or o None) (slice_get-map (option_map (renamed_slot f)) (process_at ps p).slots s)
-    ∙ unwrap_map (option_map (renamed_slot f)) None (slice_get (process_at ps p).slots s)
+slot_of-renamed f ps p s = ap (slot_by s) (process_at-renamed f ps p) ∙ slot_held-renamed f (process_at ps p) s
 
-pub with_descriptor-renamed : (f : ℕ → ℕ) (ps : List OpenTables) (p d : ℕ) (v : Option Descriptor)
-    → with_descriptor (map (renamed_process f) ps) p d (option_map (renamed_descriptor f) v) ≡ map (renamed_process f) (with_descriptor ps p d v)
-with_descriptor-renamed f ps p d v =
-    let old = process_at ps p in
-    let to = option_map (renamed_descriptor f) in
-    ap (λ (x : OpenTables). set (map (renamed_process f) ps) p (tables (set x.descriptors d (to v)) x.slots)) (process_at-renamed f ps p)
-    ∙ ap (λ ds. set (map (renamed_process f) ps) p (tables ds (map (option_map (renamed_slot f)) old.slots))) (sym (map-set to old.descriptors d v))
-    ∙ sym (map-set (renamed_process f) ps p (tables (set old.descriptors d v) old.slots))
+pub with_held-renamed : (f : ℕ → ℕ) (t : OpenTables) (d : ℕ) (y : Option Descriptor) → with_held (renamed_process f t) d (option_map (renamed_descriptor f) y) ≡ renamed_process f (with_held t d y)
+with_held-renamed f t d y = ap (λ ds. tables ds (map (option_map (renamed_slot f)) t.slots)) (sym (map-set (option_map (renamed_descriptor f)) t.descriptors d y))
 
-pub with_slot-renamed : (f : ℕ → ℕ) (ps : List OpenTables) (p s : ℕ) (v : Option Slot)
-    → with_slot (map (renamed_process f) ps) p s (option_map (renamed_slot f) v) ≡ map (renamed_process f) (with_slot ps p s v)
-with_slot-renamed f ps p s v =
-    let old = process_at ps p in
-    let to = option_map (renamed_slot f) in
-    ap (λ (x : OpenTables). set (map (renamed_process f) ps) p (tables x.descriptors (set x.slots s (to v)))) (process_at-renamed f ps p)
-    ∙ ap (λ ss. set (map (renamed_process f) ps) p (tables (map (option_map (renamed_descriptor f)) old.descriptors) ss)) (sym (map-set to old.slots s v))
-    ∙ sym (map-set (renamed_process f) ps p (tables old.descriptors (set old.slots s v)))
-
-pub closed-renamed : (f : ℕ → ℕ) (ps : List OpenTables) (p : ℕ) → set (map (renamed_process f) ps) p closed_process ≡ map (renamed_process f) (set ps p closed_process)
-closed-renamed f ps p = sym (map-set (renamed_process f) ps p closed_process)
+pub with_slot_held-renamed : (f : ℕ → ℕ) (t : OpenTables) (s : ℕ) (y : Option Slot) → with_slot_held (renamed_process f t) s (option_map (renamed_slot f) y) ≡ renamed_process f (with_slot_held t s y)
+with_slot_held-renamed f t s y = ap (tables (map (option_map (renamed_descriptor f)) t.descriptors)) (sym (map-set (option_map (renamed_slot f)) t.slots s y))
 
 -- a test that an element passes as what it is mapped to does
 list_any-map : {A B : Type 0} (q : B → Bool) (r : A → Bool) (h : A → B) → ((x : A) → q (h x) ≡ r x) → (xs : List A) → list_any q (map h xs) ≡ list_any r xs
@@ -105,15 +106,8 @@ none_is_none : {A B : Type 0} (h : A → B) (o : Option A) → is_none (option_m
 none_is_none h None = refl
 none_is_none h (Some x) = refl
 
-pub free_descriptor-renamed : (f : ℕ → ℕ) (ps : List OpenTables) (p : ℕ) → free_descriptor_of (map (renamed_process f) ps) p ≡ free_descriptor_of ps p
-free_descriptor-renamed f ps p =
-    ap (λ (x : OpenTables). position is_none x.descriptors) (process_at-renamed f ps p)
-    ∙ position-map is_none is_none (option_map (renamed_descriptor f)) (none_is_none (renamed_descriptor f)) (process_at ps p).descriptors
-
-pub free_slot-renamed : (f : ℕ → ℕ) (ps : List OpenTables) (p : ℕ) → free_slot_of (map (renamed_process f) ps) p ≡ free_slot_of ps p
-free_slot-renamed f ps p =
-    ap (λ (x : OpenTables). position is_none x.slots) (process_at-renamed f ps p)
-    ∙ position-map is_none is_none (option_map (renamed_slot f)) (none_is_none (renamed_slot f)) (process_at ps p).slots
+pub free-renamed : {A : Type 0} (h : A → A) (xs : List (Option A)) → position is_none (map (option_map h) xs) ≡ position is_none xs
+free-renamed h xs = position-map is_none is_none (option_map h) (none_is_none h) xs
 
 -- a renaming keeps places apart
 same_test : (f g : ℕ → ℕ) → IsPermutation f g → (a b : ℕ) → (f a == f b) ≡ (a == b)
@@ -125,18 +119,13 @@ same_test f g h a b = elim (eqb_tells a b) [
   ]
 ]
 
-slot_refers-renamed : (f g : ℕ → ℕ) → IsPermutation f g → (i : ℕ) (o : Option Slot) → slot_refers (f i) (option_map (renamed_slot f) o) ≡ slot_refers i o
+pub slot_refers-renamed : (f g : ℕ → ℕ) → IsPermutation f g → (i : ℕ) (o : Option Slot) → slot_refers (f i) (option_map (renamed_slot f) o) ≡ slot_refers i o
 slot_refers-renamed f g h i None = refl
 slot_refers-renamed f g h i (Some s) = same_test f g h s.place i
 
 descriptor_refers-renamed : (f g : ℕ → ℕ) → IsPermutation f g → (i : ℕ) (o : Option Descriptor) → descriptor_refers (f i) (option_map (renamed_descriptor f) o) ≡ descriptor_refers i o
 descriptor_refers-renamed f g h i None = refl
 descriptor_refers-renamed f g h i (Some d) = same_test f g h d.place i
-
-pub slot_for-renamed : (f g : ℕ → ℕ) → IsPermutation f g → (ps : List OpenTables) (p i : ℕ) → slot_for (map (renamed_process f) ps) p (f i) ≡ slot_for ps p i
-slot_for-renamed f g h ps p i =
-    ap (λ (x : OpenTables). position (slot_refers (f i)) x.slots) (process_at-renamed f ps p)
-    ∙ position-map (slot_refers (f i)) (slot_refers i) (option_map (renamed_slot f)) (slot_refers-renamed f g h i) (process_at ps p).slots
 
 pub is_referred-renamed : (f g : ℕ → ℕ) → IsPermutation f g → (ps : List OpenTables) (i : ℕ) → is_referred (map (renamed_process f) ps) (f i) ≡ is_referred ps i
 is_referred-renamed f g h ps i = list_any-map (process_refers (f i)) (process_refers i) (renamed_process f) (λ p.
@@ -174,7 +163,7 @@ map_id : {A : Type 0} (h : A → A) → ((x : A) → h x ≡ x) → (xs : List A
 map_id h same [] = refl
 map_id h same (x ∷ xs) = rw (same x, map_id h same xs) refl
 
-process_id : (p : OpenTables) → renamed_process (λ i. i) p ≡ p
+pub process_id : (p : OpenTables) → renamed_process (λ i. i) p ≡ p
 process_id p =
     ap (λ ds. tables ds (map (option_map (renamed_slot (λ i. i))) p.slots)) (map_id (option_map (renamed_descriptor (λ i. i))) option_map_id p.descriptors)
     ∙ ap (tables p.descriptors) (map_id (option_map (renamed_slot (λ i. i))) option_map_id p.slots)
