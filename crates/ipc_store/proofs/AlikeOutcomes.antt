@@ -1,10 +1,9 @@
 -- Outcomes of one call over two kernels that are alike.
-use Rattle.std.proofs.Common.{◌≡◌, ℕ, ◌<◌, ◌≤◌, false, List, length, set, Option, Some, None, refl, sym, ap, subst, ◌∙◌, position, arith}
+use Rattle.std.proofs.Common.{◌≡◌, ℕ, ◌<◌, false, List, length, set, Option, Some, None, refl, sym, ap, subst, ◌∙◌, position, arith}
 use Rattle.std.specs.Option.{option_map}
 use Rattle.std.proofs.lemmas.Option.{unwrap_or-slice_get}
 use Rattle.std.proofs.lemmas.List.{map-set}
 use Rattle.std.proofs.lemmas.List.Quantifiers.{position-Some}
-use Rattle.ipc_names.specs.declared.errno.Errno.TheVariants.{NoEntry}
 use Rattle.ipc_kernel.specs.declared.place.Place.{Place}
 use Rattle.ipc_kernel.specs.declared.place.Place.TheVariants.{Empty, Mq, Sem}
 use Rattle.ipc_kernel.specs.declared.process.OpenTables.{OpenTables}
@@ -105,9 +104,13 @@ empty_there ps i count h e none = position_there is_empty ps i Empty (omega arit
 empty_within : (ps : List Place) (i : ℕ) → length ps ≡ 64 → position is_empty ps ≡ Some i → i < 64
 empty_within ps i count e = let found = (position-Some is_empty ps i Empty e).0 in omega arith
 
--- what an open finds in both, by a renaming that takes the least empty place of the one to that of the other
+-- what an open finds in both, by a renaming of the one
+abbrev pub BothFind : KernelState → KernelState → (Place → Option (List ℕ)) → List ℕ → Type 0
+BothFind k j name_of n = (i : ℕ) × (l : Lookup) × (h : ℕ → ℕ) × (m : ℕ → ℕ) × IsRenaming h m k j × IsFound name_of n k.places i l × IsFound name_of n j.places (h i) l
+
+-- that which takes the least empty place of the one to that of the other, where no object has the name
 pub found_both : (f g : ℕ → ℕ) (k j : KernelState) → IsTwin f g k j → (name_of : Place → Option (List ℕ)) → name_of Empty ≡ None → AreDistinct name_of k.places → (n : List ℕ)
-    → (i : ℕ) × (l : Lookup) × (h : ℕ → ℕ) × (m : ℕ → ℕ) × IsRenaming h m k j × IsFound name_of n k.places i l × IsFound name_of n j.places (h i) l
+    → BothFind k j name_of n
 found_both f g k j t name_of nameless distinct n = let x = found name_of k.places n in by x.0 x.1 x.2
   where
     r : IsRenaming f g k j
@@ -122,24 +125,21 @@ found_both f g k j t name_of nameless distinct n = let x = found name_of k.place
     absent : place_named name_of k.places n ≡ None → place_named name_of j.places n ≡ None
     absent e = found_named f g k j r name_of nameless distinct n ∙ ap (option_map f) e
 
-    by : (i : ℕ) (l : Lookup) → IsFound name_of n k.places i l
-        → (i : ℕ) × (l : Lookup) × (h : ℕ → ℕ) × (m : ℕ → ℕ) × IsRenaming h m k j × IsFound name_of n k.places i l × IsFound name_of n j.places (h i) l
+    by : (i : ℕ) (l : Lookup) → IsFound name_of n k.places i l → BothFind k j name_of n
     by i Named e = (i, Named, f, g, r, e, found_named f g k j r name_of nameless distinct n ∙ ap (option_map f) e)
     by i New e = new (position is_empty j.places) refl
       where
         less : i < 64
         less = empty_within k.places i first e.1
 
-        new : (o : Option ℕ) → position is_empty j.places ≡ o
-            → (i : ℕ) × (l : Lookup) × (h : ℕ → ℕ) × (m : ℕ → ℕ) × IsRenaming h m k j × IsFound name_of n k.places i l × IsFound name_of n j.places (h i) l
+        new : (o : Option ℕ) → position is_empty j.places ≡ o → BothFind k j name_of n
         new (Some b) d =
             let to = renaming_to f g k j i b t.consistent r less (empty_within j.places b second d) (first_empty_place k.places i e.1) (first_empty_place j.places b d) in
             (i, New, to.0, to.1, to.2, e, (absent e.0, d ∙ ap Some (sym to.3)))
         new None d = absurd (empty_there j.places (f i) second ((r.permutation.within i).1 less) (r.places i ∙ first_empty_place k.places i e.1) d)
     by i Nowhere e = nowhere (position is_empty j.places) refl
       where
-        nowhere : (o : Option ℕ) → position is_empty j.places ≡ o
-            → (i : ℕ) × (l : Lookup) × (h : ℕ → ℕ) × (m : ℕ → ℕ) × IsRenaming h m k j × IsFound name_of n k.places i l × IsFound name_of n j.places (h i) l
+        nowhere : (o : Option ℕ) → position is_empty j.places ≡ o → BothFind k j name_of n
         nowhere None d = (i, Nowhere, f, g, r, e, (absent e.0, d))
         nowhere (Some b) d = absurd (empty_there k.places (g b) first ((r.permutation.within (g b)).0 (subst (λ n. n < 64) (sym (r.permutation.redone b)) (empty_within j.places b second d)))
             (sym (r.places (g b)) ∙ ap (place_at j.places) (r.permutation.redone b) ∙ first_empty_place j.places b d) e.1)

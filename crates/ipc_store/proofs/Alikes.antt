@@ -1,6 +1,5 @@
 -- Kernels of which the one is the other with its places renamed, and what each change makes of both.
-use Rattle.std.proofs.Common.{◌≡◌, ◌≢◌, ◌↔◌, ℕ, ◌==◌, ◌<◌, ◌≤◌, true, false, cond, ◌||◌, List, length, map, set, length-set, Option, refl, sym, ap, subst, ◌∙◌, inl, inr, arith, if◌then◌else◌}
-use Rattle.std.specs.Option.{option_map}
+use Rattle.std.proofs.Common.{◌≡◌, ◌≢◌, ◌↔◌, ℕ, ◌==◌, ◌<◌, ◌≤◌, true, false, List, length, map, set, length-set, refl, sym, ap, subst, ◌∙◌, inl, inr, arith, if◌then◌else◌}
 use Rattle.std.proofs.lemmas.Bool.{cases_lt, eq-eqb, ne_eqb}
 use Rattle.std.proofs.lemmas.Bool.Decides.{eqb_tells}
 use Rattle.std.proofs.lemmas.Option.{unwrap_or-slice_get}
@@ -8,9 +7,9 @@ use Rattle.ipc_kernel.specs.declared.place.Place.{Place}
 use Rattle.ipc_kernel.specs.declared.place.Place.TheVariants.{Empty}
 use Rattle.ipc_kernel.specs.declared.process.OpenTables.{OpenTables}
 use Rattle.ipc_kernel.specs.Processes.{is_referred}
-use Rattle.ipc_kernel.specs.Places.{place_at, has_name, place_or_empty, places_or_empty}
+use Rattle.ipc_kernel.specs.Places.{place_at, place_or_empty, places_or_empty}
 use Rattle.ipc_kernel.specs.Kernel.{KernelState}
-use Rattle.ipc_kernel.specs.Alike.{renamed_descriptor, renamed_slot, renamed_process, IsPermutation, IsRenaming, IsAlike, IsConsistent}
+use Rattle.ipc_kernel.specs.Alike.{renamed_process, IsPermutation, IsRenaming, IsAlike, IsConsistent}
 use Rattle.ipc_kernel.proofs.PlaceLemmas.{get_or-emptied, length-emptied}
 use Rattle.ipc_kernel.proofs.KernelLemmas.{kept-Empty}
 use Rattle.ipc_kernel.proofs.IndexLemmas.{place_at-set_same, place_at-set_other, place_at-past}
@@ -34,10 +33,7 @@ pub renaming_done : (f g : ℕ → ℕ) (k j : KernelState) → IsRenaming f g k
 renaming_done f g k j r = record {
   permutation = r.permutation;
   count = length-emptied j.processes j.places ∙ r.count ∙ sym (length-emptied k.processes k.places);
-  places = λ i. place_at-emptied j.processes j.places (f i)
-      ∙ ap (λ b. cond (has_name (place_at j.places (f i)) || b) (place_at j.places (f i)) Empty) (referred i)
-      ∙ ap (λ p. cond (has_name p || is_referred k.processes i) p Empty) (r.places i)
-      ∙ sym (place_at-emptied k.processes k.places i);
+  places = λ i. simp (place_at-emptied, referred, r.places);
   processes = r.processes;
 }
   where
@@ -158,29 +154,23 @@ pub swap_other : (x y i : ℕ) → (i == x) ≡ false → (i == y) ≡ false →
 swap_other x y i e d = rw (e, d) refl
 
 -- what can be said of an exchanged place by its kind
-by_swap : (P : ℕ → ℕ → Type 0) (x y i : ℕ) → (i ≡ x → P i y) → (i ≡ y → P i x) → P i i → P i (swap x y i)
+by_swap : (P : ℕ → ℕ → Type 0) (x y i : ℕ) → (i ≡ x → P i y) → (i ≡ y → P i x) → ((i == x) ≡ false → (i == y) ≡ false → P i i) → P i (swap x y i)
 by_swap P x y i first second other = elim (eqb_tells i x) [
   | inl same ↦ subst (P i) (sym (swap_first x y i same.1)) (first same.1)
   | inr apart ↦ elim (eqb_tells i y) [
     | inl met ↦ subst (P i) (sym (swap_second x y i met.1)) (second met.1)
-    | inr different ↦ subst (P i) (sym (swap_other x y i apart.0 different.0)) other
+    | inr different ↦ subst (P i) (sym (swap_other x y i apart.0 different.0)) (other apart.0 different.0)
   ]
 ]
 
 swap_twice : (x y i : ℕ) → swap x y (swap x y i) ≡ i
-swap_twice x y i = elim (eqb_tells i x) [
-  | inl same ↦ ap (swap x y) (swap_first x y i same.1) ∙ swap_second x y y refl ∙ sym same.1
-  | inr apart ↦ elim (eqb_tells i y) [
-    | inl met ↦ ap (swap x y) (swap_second x y i met.1) ∙ swap_first x y x refl ∙ sym met.1
-    | inr different ↦ ap (swap x y) (swap_other x y i apart.0 different.0) ∙ swap_other x y i apart.0 different.0
-  ]
-]
+swap_twice x y i = by_swap (λ n m. swap x y m ≡ n) x y i (λ e. swap_second x y y refl ∙ sym e) (λ e. swap_first x y x refl ∙ sym e) (swap_other x y i)
 
 pub swap_permutes : (x y : ℕ) → x < 64 → y < 64 → IsPermutation (swap x y) (swap x y)
 swap_permutes x y h d = record {
   undone = swap_twice x y;
   redone = swap_twice x y;
-  within = λ i. by_swap (λ n m. (m < 64) ↔ (n < 64)) x y i (λ e. (λ _. omega arith, λ _. d)) (λ e. (λ _. omega arith, λ _. h)) (λ e. e, λ e. e);
+  within = λ i. by_swap (λ n m. (m < 64) ↔ (n < 64)) x y i (λ e. (λ _. omega arith, λ _. d)) (λ e. (λ _. omega arith, λ _. h)) (λ _ _. (λ e. e, λ e. e));
 }
 
 -- two empty places of a kernel can be exchanged
@@ -189,7 +179,7 @@ renaming_swap k x y s h d e f = record {
   permutation = swap_permutes x y h d;
   count = refl;
   places = λ i. by_swap (λ n m. place_at k.places m ≡ place_at k.places n) x y i
-      (λ same. f ∙ sym (ap (place_at k.places) same ∙ e)) (λ same. e ∙ sym (ap (place_at k.places) same ∙ f)) refl;
+      (λ same. f ∙ sym (ap (place_at k.places) same ∙ e)) (λ same. e ∙ sym (ap (place_at k.places) same ∙ f)) (λ _ _. refl);
   processes = sym (processes_stay (swap x y) k.processes (λ n here. swap_other x y n (apart n x here (s.referred x e)) (apart n y here (s.referred y f))));
 }
   where

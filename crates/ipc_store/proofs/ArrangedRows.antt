@@ -1,10 +1,10 @@
 -- Kernels that are kept with their places renamed, after an object was made.
-use Rattle.std.proofs.Common.{◌≡◌, ℕ, ◌==◌, ◌<◌, ◌≤◌, ◌⊎◌, inl, inr, Bool, true, false, cond, List, [], length, map, set, length-set, slice_get, unwrap_or, Option, Some, None, refl, sym, ap, subst, ◌∙◌, arith, replicate, ◌-◌}
+use Rattle.std.proofs.Common.{◌≡◌, ℕ, ◌==◌, ◌<◌, ◌≤◌, inl, inr, Bool, true, false, cond, List, [], length, map, set, length-set, slice_get, unwrap_or, Some, sym, ap, subst, ◌∙◌, arith}
 use Rattle.std.specs.Option.{option_map}
 use Rattle.std.proofs.lemmas.Bool.{cases_lt}
 use Rattle.std.proofs.lemmas.Bool.Decides.{eqb_tells}
-use Rattle.std.proofs.lemmas.Option.{slice_get_within, slice_get_past, slice_get-map}
-use Rattle.std.proofs.lemmas.List.{ext_get_or, length-append, length-replicate, length-map, map-set}
+use Rattle.std.proofs.lemmas.Option.{slice_get_within, slice_get_past}
+use Rattle.std.proofs.lemmas.List.{ext_get_or, map-set}
 use Rattle.ipc_kernel.specs.declared.place.Place.{Place}
 use Rattle.ipc_kernel.specs.declared.place.Place.TheVariants.{Empty}
 use Rattle.ipc_kernel.specs.declared.process.OpenTables.{OpenTables}
@@ -16,13 +16,12 @@ use Rattle.ipc_kernel.specs.Alike.{IsPermutation, IsRenaming, IsAlike, renamed_p
 use Rattle.ipc_kernel.specs.Operands.{with_operand}
 use Rattle.ipc_store.specs.Rows.{KernelRow, kernel_of}
 use Rattle.ipc_store.specs.Private.Renamings.{Permutes, renamed_by}
-use Rattle.ipc_store.specs.Private.KeptRows.{AreRows}
+use Rattle.ipc_store.specs.Private.KeptRows.{row, Grows, AddsRow, AreRows}
 use Rattle.ipc_store.proofs.Alikes.{renaming_done}
 use Rattle.ipc_kernel.proofs.IndexLemmas.{place_at-get_or, place_at-past, place_at-set_same, place_at-set_other}
 use Rattle.ipc_kernel.proofs.PlaceLemmas.{length-emptied}
-use Rattle.ipc_store.proofs.KeptLemmas.{Grows, padded_has, padded_behind, rows_grow, rows_with, kernel_of_row}
+use Rattle.ipc_store.proofs.KeptLemmas.{place_of_row, long_row, rows_grow, rows_with, kernel_of_row}
 use Rattle.ipc_store.proofs.NumberLemmas.{numbered, numbers_there, map_at}
-use Rattle.ipc_store.proofs.RowLemmas.{row}
 
 -- numbers, where another one stands at a place, stand among others where f takes their places
 abbrev pub AreMoved : List ℕ → ℕ → ℕ → List ℕ → (ℕ → ℕ) → Type 0
@@ -65,24 +64,8 @@ objects_moved os ns vs place object f g o p moved few made there i n e =
     by true d = let same : n ≡ object = cc in (o, ap (slice_get os) same ∙ made)
     by false d = there (g i) n (sym d)
 
--- what a padded list of places holds
-place_in_padded : (m : ℕ) (qs : List Place) (i : ℕ) → place_at (padded m qs) i ≡ unwrap_or (slice_get qs i) Empty
-place_in_padded m qs i = by (slice_get qs i) (slice_get (padded m qs) i) refl refl
-  where
-    by : (a b : Option Place) → slice_get qs i ≡ a → slice_get (padded m qs) i ≡ b → unwrap_or (slice_get (padded m qs) i) Empty ≡ unwrap_or (slice_get qs i) Empty
-    by (Some x) b here e = ap (λ y. unwrap_or y Empty) (padded_has m qs i x here ∙ sym here)
-    by None (Some x) none e = ap (λ y. unwrap_or y Empty) e ∙ padded_behind m qs i x none e ∙ ap (λ y. unwrap_or y Empty) (sym none)
-    by None None none e = ap (λ y. unwrap_or y Empty) (e ∙ sym none)
-
-place_of_row : (os : List Place) (ns : List ℕ) (i : ℕ) → place_at (padded 64 (map (place_at os) ns)) i ≡ unwrap_or (option_map (place_at os) (slice_get ns i)) Empty
-place_of_row os ns i = place_in_padded 64 (map (place_at os) ns) i ∙ ap (λ y. unwrap_or y Empty) (slice_get-map (place_at os) ns i)
-
-length_padded : (qs : List Place) → length qs ≤ 64 → length (padded 64 qs) ≡ 64
-unfolding padded
-length_padded qs h = omega (arith, length-append qs (replicate (64 - length qs) Empty), length-replicate (64 - length qs) Empty)
-
 length_places : (os : List Place) (ns : List ℕ) → length ns ≤ 64 → length (padded 64 (map (place_at os) ns)) ≡ 64
-length_places os ns h = length_padded (map (place_at os) ns) (omega (arith, length-map ns (place_at os)))
+length_places os ns h = (long_row os ns).2 h
 
 -- the places of a kernel, of which one was written, stand where f takes them
 places_moved : (os : List Place) (ns vs : List ℕ) (place object : ℕ) (f g : ℕ → ℕ) (o : Place) → IsPermutation f g → AreMoved ns place object vs f → place < 64 → length ns ≤ 64 → length vs ≤ 64
@@ -137,9 +120,9 @@ kernel_with_new os ts us rows more ns ms ls vs ws a b place object pid tables r 
 -- and the row of that kernel is one of parts that are kept
 pub rows_with_new : (os : List Place) (ts us : List OpenTables) (rows more : List KernelRow) (ns ms vs ws : List ℕ) (a place object : ℕ) (f g : ℕ → ℕ) (o : Place) (xs : List OpenTables)
     → Grows ts us → AreRows os ts rows → slice_get rows a ≡ Some (row ns ms) → slice_get os object ≡ Some o → IsPermutation f g → AreMoved ns place object vs f → length vs ≤ 64
-    → map (slice_get us) ws ≡ map Some xs → ((i : ℕ) (q : KernelRow) → slice_get more i ≡ Some q → (slice_get rows i ≡ Some q) ⊎ (q ≡ row vs ws)) → AreRows os us more
-rows_with_new os ts us rows more ns ms vs ws a place object f g o xs grows are at_a made p moved few kept only =
+    → map (slice_get us) ws ≡ map Some xs → AddsRow rows more (row vs ws) → AreRows os us more
+rows_with_new os ts us rows more ns ms vs ws a place object f g o xs grows are at_a made p moved few kept adds =
     rows_with os us rows more (row vs ws) (rows_grow os os ts us rows (λ i x e. e) grows are) (record {
       of_objects = objects_moved os ns vs place object f g o p moved few made (are a (row ns ms) at_a).of_objects;
       of_tables = numbers_there us ws xs kept;
-    }) only
+    }) adds

@@ -1,5 +1,5 @@
 -- A process's own calls commute with the calls of other processes that take no name away.
-use Rattle.std.proofs.Common.{◌≡◌, ℕ, Bool, true, false, List, [], set, get_or-set_other, Option, Some, None, is_some, refl, sym, ap, subst, ◌∙◌, inl, inr}
+use Rattle.std.proofs.Common.{◌≡◌, ℕ, Bool, true, false, List, set, get_or-set_other, Option, Some, None, is_some, refl, sym, ap, subst, ◌∙◌, inl, inr}
 use Rattle.std.specs.Option.{option_map}
 use Rattle.std.proofs.lemmas.List.{set_comm}
 use Rattle.std.proofs.lemmas.Option.{unwrap_or-slice_get}
@@ -18,17 +18,17 @@ use Rattle.ipc_kernel.specs.Places.{place_at, queue_name, semaphore_name, queue_
 use Rattle.ipc_kernel.specs.Kernel.{KernelState}
 use Rattle.ipc_kernel.specs.Outcomes.{Outcome}
 use Rattle.ipc_kernel.specs.Queues.{sizes_asked}
-use Rattle.ipc_kernel.specs.Answer.{answer, exit}
+use Rattle.ipc_kernel.specs.Answer.{answer}
 use Rattle.ipc_kernel.specs.Alike.{IsRenaming, IsAlike}
 use Rattle.ipc_kernel.specs.Operands.{are_named, handle_of}
-use Rattle.ipc_kernel.proofs.KernelLemmas.{done_settled}
 use Rattle.ipc_kernel.specs.OwnCalls.{is_own, is_unlink, OwnCallsCommute, StartNamed, StayNamed, OwnAlike}
+use Rattle.ipc_store.proofs.Renamings.{nobody}
 use Rattle.ipc_store.proofs.Alikes.{alike_back}
 use Rattle.ipc_store.proofs.AlikeOutcomes.{found_named}
 use Rattle.ipc_store.proofs.NamedPlaces.{is_named, KeepNames, names_kept, all_by, keeps_left}
 use Rattle.ipc_store.proofs.SettledTables.{all_at, settled_named, empty_named}
 use Rattle.ipc_store.proofs.WorkPlaces.{Lookup, Named, New, Nowhere, Finds, is_local, any_handle, RefersTo, found, referred}
-use Rattle.ipc_store.proofs.LocalCalls.{back, IsLocal, local, here, after, after_settled, held_at, slot_at, mq_opened, mq_closed, sem_opened, sem_closed}
+use Rattle.ipc_store.proofs.LocalCalls.{back, ended, IsLocal, local, here, after, after_settled, held_at, slot_at, mq_opened, mq_closed, sem_opened, sem_closed}
 
 -- what a call makes of places ps and of the tables t of its process: the same in each kernel that has them, and each name keeps
 -- its place
@@ -45,24 +45,6 @@ record ChangesTables (ps : List Place) (t : OpenTables) (call : KernelState → 
   reply : Answer
   tables : OpenTables
   same : (k : KernelState) (p : ℕ) → KeepNames ps k.places → process_at k.processes p ≡ t → call k p ≡ (reply, record { places = k.places; processes = set k.processes p tables })
-
-of_tables : (ps : List Place) (t : OpenTables) (call : KernelState → ℕ → Outcome) → are_named ps ≡ true → ChangesTables ps t call → IsOfTables ps t call
-of_tables ps t call named h = record {
-  reply = h.reply;
-  places = ps;
-  tables = h.tables;
-  same = λ k p at has. h.same k p (subst (KeepNames ps) (sym at) (names_kept ps named)) has ∙ ap (λ qs. (h.reply, record { places = qs; processes = set k.processes p h.tables })) at;
-  keeps = names_kept ps named;
-}
-
--- the end of a process
-exit_own : (ps : List Place) (t : OpenTables) → ChangesTables ps t exit
-exit_own ps t = record {
-  reply = Done (Plain 0);
-  tables = closed_process;
-  same = λ k p keeps has.
-      let closed = set k.processes p closed_process in done_settled (record { places = k.places; processes = closed }) (Plain 0) (settled_named closed k.places keeps.named);
-}
 
 -- a call on one place
 of_local : (ps : List Place) (t : OpenTables) (c : Call) → are_named ps ≡ true → is_local c ≡ true → (i : ℕ) (l : Lookup) → Finds c ps i l → RefersTo c i t → IsOfTables ps t (λ k p. answer k p c)
@@ -88,7 +70,13 @@ of_call : (ps : List Place) (t : OpenTables) (c : Call) → are_named ps ≡ tru
 unfolding answer
 of_call ps t (MqUnlink name) named keeps = absurd (cc)
 of_call ps t (SemUnlink name) named keeps = absurd (cc)
-of_call ps t Exit named keeps = of_tables ps t exit named (exit_own ps t)
+of_call ps t Exit named keeps = record {
+  reply = Done (Plain 0);
+  places = ps;
+  tables = closed_process;
+  same = λ k p at has. ended k p (ap are_named at ∙ named) ∙ ap (λ qs. (Done (Plain 0), record { places = qs; processes = set k.processes p closed_process })) at;
+  keeps = names_kept ps named;
+}
 of_call ps t (MqOpen name flags attr) named keeps = let f = found queue_name ps name in of_local ps t (MqOpen name flags attr) named refl f.0 f.1 f.2 (λ h n e is. absurd (cc))
 of_call ps t (SemOpen name flags value) named keeps = let f = found semaphore_name ps name in of_local ps t (SemOpen name flags value) named refl f.0 f.1 f.2 (λ h n e is. absurd (cc))
 of_call ps t c named keeps = let r = referred t (any_handle c) in of_local ps t c named refl r.0 Nowhere tt r.1
@@ -129,7 +117,7 @@ of_own ps t (SemOpen name flags value) own =
 of_own ps t (SemClose s) own =
     let r = referred t (Some (Sem s)) in
     own_local ps t (SemClose s) r.0 Nowhere refl (λ e. cc) (λ qs keeps. tt) (sem_closed (SemClose s) r.0 t (λ x. Unit {0}) Nowhere s refl (slot_at t s r.0 (λ n. r.1 (Sem s) n refl)))
-of_own ps t Exit own = exit_own ps t
+of_own ps t Exit own = record { reply = Done (Plain 0); tables = closed_process; same = λ k p keeps has. ended k p keeps.named }
 of_own ps t other own = absurd (cc)
 
 -- a call is own still where names are kept
@@ -143,9 +131,7 @@ own_kept ps qs other keeps own = own
 
 -- the tables of another process
 process_at-set_other : (ts : List OpenTables) (p q : ℕ) (t : OpenTables) → (p ≡ q → ⊥) → process_at (set ts p t) q ≡ process_at ts q
-process_at-set_other ts p q t other =
-    let nobody : OpenTables = record { descriptors = []; slots = [] } in
-    unwrap_or-slice_get (set ts p t) q nobody ∙ get_or-set_other ts p q t nobody (λ e. other (sym e)) ∙ sym (unwrap_or-slice_get ts q nobody)
+process_at-set_other ts p q t other = simp (unwrap_or-slice_get, get_or-set_other ts p q t nobody (λ e. other (sym e)))
 
 pub own_calls_commute : OwnCallsCommute
 own_calls_commute k p q c d other named own keeps =
@@ -153,20 +139,14 @@ own_calls_commute k p q c d other named own keeps =
     let theirs = of_call k.places (process_at k.processes q) d named keeps in
     let mine_first = mine.same k p (names_kept k.places named) refl in
     let theirs_first = theirs.same k q refl refl in
-    let after_mine : KernelState = record { places = k.places; processes = set k.processes p mine.tables } in
-    let after_theirs : KernelState = record { places = theirs.places; processes = set k.processes q theirs.tables } in
-    let theirs_second : answer after_mine q d ≡ (theirs.reply, record { places = theirs.places; processes = set (set k.processes p mine.tables) q theirs.tables }) =
-    theirs.same after_mine q refl (process_at-set_other k.processes p q mine.tables other) in
-    let mine_second : answer after_theirs p c ≡ (mine.reply, record { places = theirs.places; processes = set (set k.processes q theirs.tables) p mine.tables }) =
-    mine.same after_theirs p theirs.keeps (process_at-set_other k.processes q p theirs.tables (λ e. other (sym e))) in
-    let both_mine = ap (λ (o : Outcome). answer o.1 q d) mine_first ∙ theirs_second in
-    let both_theirs = ap (λ (o : Outcome). answer o.1 p c) theirs_first ∙ mine_second in
+    let theirs_second = theirs.same (record { places = k.places; processes = set k.processes p mine.tables }) q refl (process_at-set_other k.processes p q mine.tables other) in
+    let mine_second =
+    mine.same (record { places = theirs.places; processes = set k.processes q theirs.tables }) p theirs.keeps (process_at-set_other k.processes q p theirs.tables (λ e. other (sym e))) in
+    let both = set_comm k.processes p q mine.tables theirs.tables other in
     record {
-      second = ap (λ (o : Outcome). o.0) both_mine ∙ sym (ap (λ (o : Outcome). o.0) theirs_first);
-      first = ap (λ (o : Outcome). o.0) both_theirs ∙ sym (ap (λ (o : Outcome). o.0) mine_first);
-      kernel = ap (λ (o : Outcome). o.1) both_mine
-          ∙ ap (λ ts. record { places = theirs.places; processes = ts }) (set_comm k.processes p q mine.tables theirs.tables other)
-          ∙ sym (ap (λ (o : Outcome). o.1) both_theirs);
+      second = simp (mine_first, theirs_first, theirs_second);
+      first = simp (mine_first, theirs_first, mine_second);
+      kernel = simp (mine_first, theirs_first, theirs_second, mine_second, both);
       own = ap (λ (o : Outcome). is_own o.1.places c) theirs_first ∙ own_kept k.places theirs.places c theirs.keeps own;
     }
 

@@ -1,9 +1,8 @@
 -- Consistent kernels, and what each change makes of one.
-use Rattle.std.proofs.Common.{◌≡◌, ◌≢◌, ℕ, Bool, true, false, cond, ◌||◌, List, [], ◌∷◌, length, set, length-set, Option, Some, None, unwrap_or, slice_get, zero, suc, replicate, refl, sym, ap, subst, ◌∙◌, ◌⊎◌, inl, inr, arith}
-use Rattle.std.proofs.lemmas.Bool.{cases_lt}
+use Rattle.std.proofs.Common.{◌≡◌, ◌≢◌, ℕ, Bool, true, false, cond, ◌||◌, List, length, set, length-set, Option, Some, None, zero, suc, replicate, refl, sym, ap, ◌∙◌, ◌⊎◌, inl, inr, arith}
+use Rattle.std.proofs.lemmas.Bool.{cases_lt, or_right}
 use Rattle.std.proofs.lemmas.Bool.Decides.{eqb_tells}
-use Rattle.std.proofs.lemmas.Option.{unwrap_or-slice_get}
-use Rattle.std.proofs.lemmas.List.{get_or-replicate, get_or_past, length-replicate}
+use Rattle.std.proofs.lemmas.List.{length-replicate}
 use Rattle.ipc_kernel.specs.declared.place.Place.{Place}
 use Rattle.ipc_kernel.specs.declared.place.Place.TheVariants.{Empty}
 use Rattle.ipc_kernel.specs.declared.process.OpenTables.{OpenTables}
@@ -15,7 +14,7 @@ use Rattle.ipc_kernel.proofs.PlaceLemmas.{length-emptied}
 use Rattle.ipc_kernel.proofs.IndexLemmas.{place_at-set_same, place_at-set_other, place_at-past}
 use Rattle.ipc_store.proofs.Alikes.{done, place_at-emptied}
 use Rattle.ipc_store.proofs.Renamings.{nobody}
-use Rattle.ipc_store.proofs.SettledTables.{any_set, none_at}
+use Rattle.ipc_store.proofs.SettledTables.{any_set, none_at, place_at-empties}
 
 -- a place that the rule leaves is the place, or it is empty
 kept_name : (name_of : Place → Option (List ℕ)) → name_of Empty ≡ None → (processes : List OpenTables) (i : ℕ) (p : Place) (n : List ℕ) → name_of (place_or_empty processes i p) ≡ Some n → name_of p ≡ Some n
@@ -28,13 +27,9 @@ kept_name name_of nameless processes i p n e = by_case (has_name p || is_referre
 kept_referred : (processes : List OpenTables) (i : ℕ) (p : Place) → place_or_empty processes i p ≡ Empty → (p ≡ Empty → is_referred processes i ≡ false) → is_referred processes i ≡ false
 kept_referred processes i p e h = by_case (is_referred processes i) refl
   where
-    or_true : (b : Bool) → (b || true) ≡ true
-    or_true true = refl
-    or_true false = refl
-
     by_case : (b : Bool) → is_referred processes i ≡ b → is_referred processes i ≡ false
     by_case false same = same
-    by_case true same = h (subst (λ b. cond b p Empty ≡ Empty) (or_true (has_name p)) (subst (λ b. cond (has_name p || b) p Empty ≡ Empty) same e))
+    by_case true same = h (sym (ap (λ b. cond b p Empty) (or_right (has_name p) (is_referred processes i) same)) ∙ e)
 
 distinct_done : (name_of : Place → Option (List ℕ)) → name_of Empty ≡ None → (k : KernelState) → AreDistinct name_of k.places → AreDistinct name_of (done k).places
 distinct_done name_of nameless k s i j n a b = s i j n (here i a) (here j b)
@@ -104,15 +99,8 @@ all_closed : (n i : ℕ) → is_referred (replicate n closed_process) i ≡ fals
 all_closed zero i = refl
 all_closed (suc n) i = all_closed n i
 
--- in the kernel in which nothing is made every place is empty
-pub empty_places : (n i : ℕ) → place_at (empty_kernel n).places i ≡ Empty
-empty_places n i = unwrap_or-slice_get (replicate 64 Empty) i Empty ∙ elim (cases_lt i 64) [
-  | inl less ↦ get_or-replicate 64 i Empty Empty less
-  | inr past ↦ get_or_past (replicate 64 Empty) i Empty (omega (arith, length-replicate 64 Empty))
-]
-
 no_name : (name_of : Place → Option (List ℕ)) → name_of Empty ≡ None → (k i : ℕ) (n : List ℕ) → name_of (place_at (empty_kernel k).places i) ≡ Some n → ⊥
-no_name name_of nameless k i n e = let f = sym nameless ∙ sym (ap name_of (empty_places k i)) ∙ e in cc
+no_name name_of nameless k i n e = let f = sym nameless ∙ sym (ap name_of (place_at-empties 64 i)) ∙ e in cc
 
 pub consistent_empty : (n : ℕ) → IsConsistent (empty_kernel n)
 consistent_empty n = record {

@@ -1,5 +1,5 @@
 -- Renamings in two lists, and exchanges of where they take two places.
-use Rattle.std.proofs.Common.{◌≡◌, ◌≢◌, ◌↔◌, ℕ, ◌<◌, ◌≤◌, ◌⊎◌, List, length, length-set, set, get_or, get_or-set_other, get_or-set_same, refl, sym, ap, subst, ◌∙◌, inl, inr, arith}
+use Rattle.std.proofs.Common.{◌==◌, if◌then◌else◌, ◌≡◌, ◌↔◌, ℕ, ◌<◌, ◌≤◌, ◌⊎◌, List, length, length-set, set, get_or, get_or-set_other, get_or-set_same, refl, sym, ap, subst, ◌∙◌, inl, inr, arith}
 use Rattle.std.proofs.lemmas.Bool.{cases_lt, ne_eqb}
 use Rattle.std.proofs.lemmas.Bool.Decides.{eqb_tells}
 use Rattle.std.proofs.lemmas.List.{get_or_default, get_or_past}
@@ -7,7 +7,8 @@ use Rattle.std.proofs.lemmas.Option.{unwrap_or-slice_get}
 use Rattle.ipc_store.specs.declared.renaming.Renaming.{Renaming}
 use Rattle.ipc_kernel.specs.Alike.{IsPermutation}
 use Rattle.ipc_store.specs.Private.Renamings.{Permutes, renamed_by, Follows}
-use Rattle.ipc_store.proofs.Alikes.{permutation_then, swap, swap_first, swap_second, swap_other, swap_permutes}
+use Rattle.ipc_store.proofs.Renamings.{same_test}
+use Rattle.ipc_store.proofs.Alikes.{permutation_itself, permutation_then, swap, swap_second, swap_other, swap_permutes}
 
 pub renamed_by-read : (to : List ℕ) (i : ℕ) → i < length to → renamed_by to i ≡ get_or to i 0
 renamed_by-read to i h = unwrap_or-slice_get to i i ∙ get_or_default to i i 0 h
@@ -15,11 +16,11 @@ renamed_by-read to i h = unwrap_or-slice_get to i i ∙ get_or_default to i i 0 
 pub renamed_by-past : (to : List ℕ) (i : ℕ) → length to ≤ i → renamed_by to i ≡ i
 renamed_by-past to i past = unwrap_or-slice_get to i i ∙ get_or_past to i i past
 
-pub renamed_by-set_same : (to : List ℕ) (i x : ℕ) → i < length to → renamed_by (set to i x) i ≡ x
-renamed_by-set_same to i x h = unwrap_or-slice_get (set to i x) i i ∙ get_or-set_same to i x i h
-
-pub renamed_by-set_other : (to : List ℕ) (i j x : ℕ) → i ≢ j → renamed_by (set to j x) i ≡ renamed_by to i
-renamed_by-set_other to i j x apart = unwrap_or-slice_get (set to j x) i i ∙ get_or-set_other to j i x i apart ∙ sym (unwrap_or-slice_get to i i)
+renamed_by-set : (to : List ℕ) (i x n : ℕ) → i < length to → renamed_by (set to i x) n ≡ (if n == i then x else renamed_by to n)
+renamed_by-set to i x n h = unwrap_or-slice_get (set to i x) n n ∙ elim (eqb_tells n i) [
+  | inl same ↦ rw (same.0, same.1) (get_or-set_same to i x i h)
+  | inr apart ↦ rw apart.0 (get_or-set_other to i n x n apart.1 ∙ sym (unwrap_or-slice_get to n n))
+]
 
 -- functions that take each number to where those of a permutation do are one
 permutation_along : (f g h i : ℕ → ℕ) → ((n : ℕ) → h n ≡ f n) → ((n : ℕ) → i n ≡ g n) → IsPermutation f g → IsPermutation h i
@@ -32,7 +33,7 @@ permutation_along f g h i to from p = record {
 -- a list that takes each place to itself
 pub identity_permutes : (to : List ℕ) → ((k : ℕ) → k < length to → renamed_by to k ≡ k) → IsPermutation (renamed_by to) (renamed_by to)
 identity_permutes to each = permutation_along (λ n. n) (λ n. n) (renamed_by to) (renamed_by to) stays stays
-    (record { undone = λ n. refl; redone = λ n. refl; within = λ n. (λ e. e, λ e. e) })
+    permutation_itself
   where
     stays : (n : ℕ) → renamed_by to n ≡ n
     stays n = elim (cases_lt n (length to)) [ inl less ↦ each n less | inr past ↦ renamed_by-past to n past ]
@@ -42,28 +43,20 @@ pub exchanged_to : (to from : List ℕ) (a b there back : ℕ) → length to ≡
     → (n : ℕ) → renamed_by (set (set to a b) back there) n ≡ swap b there (renamed_by to n)
 exchanged_to to from a b there back count p ha hb is_there is_back n =
     let less : renamed_by from b < 64 = (p.within (renamed_by from b)).0 (subst (λ m. m < 64) (sym (p.redone b)) hb) in
-    let inside : back < length (set to a b) = omega (arith, length-set to a b, is_back, count, less) in
-    elim (eqb_tells n back) [
-      | inl same ↦ ap (renamed_by (set (set to a b) back there)) same.1 ∙ renamed_by-set_same (set to a b) back there inside
-          ∙ sym (swap_first b there (renamed_by to n) (ap (renamed_by to) (same.1 ∙ is_back) ∙ p.redone b))
-      | inr apart ↦ renamed_by-set_other (set to a b) n back there apart.1 ∙ elim (eqb_tells n a) [
-        | inl met ↦ ap (renamed_by (set to a b)) met.1 ∙ renamed_by-set_same to a b (omega (arith, count, ha)) ∙ sym (swap_second b there (renamed_by to n) (ap (renamed_by to) met.1 ∙ sym is_there))
-        | inr different ↦ renamed_by-set_other to n a b different.1
-            ∙ sym (swap_other b there (renamed_by to n) (ne_eqb _ _ (λ e. apart.1 (sym (p.undone n) ∙ ap (renamed_by from) e ∙ sym is_back)))
-            (ne_eqb _ _ (λ e. different.1 (sym (p.undone n) ∙ ap (renamed_by from) (e ∙ is_there) ∙ p.undone a))))
-      ]
-    ]
+    let met : (renamed_by to n == b) ≡ (n == back) = ap (λ m. renamed_by to n == m) (sym (p.redone b) ∙ ap (renamed_by to) (sym is_back)) ∙ same_test (renamed_by to) (renamed_by from) p n back in
+    let same : (renamed_by to n == there) ≡ (n == a) = ap (λ m. renamed_by to n == m) is_there ∙ same_test (renamed_by to) (renamed_by from) p n a in
+    renamed_by-set (set to a b) back there n (omega (arith, length-set to a b, is_back, count, less))
+    ∙ ap (λ m. if n == back then there else m) (renamed_by-set to a b n (omega (arith, count, ha))) ∙ rw (met, same) refl
 
 exchanged_from : (to from : List ℕ) (a b there back : ℕ) → length from ≡ 64 → IsPermutation (renamed_by to) (renamed_by from) → a < 64 → b < 64 → there ≡ renamed_by to a → back ≡ renamed_by from b
     → (n : ℕ) → renamed_by (set (set from b a) there back) n ≡ renamed_by from (swap b there n)
 exchanged_from to from a b there back count p ha hb is_there is_back n =
-    let less : renamed_by to a < 64 = (p.within a).1 ha in
-    let inside : there < length (set from b a) = omega (arith, length-set from b a, is_there, count, less) in
-    elim (eqb_tells n there) [
-      | inl same ↦ ap (renamed_by (set (set from b a) there back)) same.1 ∙ renamed_by-set_same (set from b a) there back inside ∙ is_back ∙ sym (ap (renamed_by from) (swap_second b there n same.1))
-      | inr apart ↦ renamed_by-set_other (set from b a) n there back apart.1 ∙ elim (eqb_tells n b) [
-        | inl met ↦ ap (renamed_by (set from b a)) met.1 ∙ renamed_by-set_same from b a (omega (arith, count, hb)) ∙ sym (ap (renamed_by from) (swap_first b there n met.1 ∙ is_there) ∙ p.undone a)
-        | inr different ↦ renamed_by-set_other from n b a different.1 ∙ sym (ap (renamed_by from) (swap_other b there n different.0 apart.0))
+    renamed_by-set (set from b a) there back n (omega (arith, length-set from b a, is_there, count, (p.within a).1 ha))
+    ∙ ap (λ m. if n == there then back else m) (renamed_by-set from b a n (omega (arith, count, hb))) ∙ elim (eqb_tells n there) [
+      | inl same ↦ ap (λ c. if c then back else (if n == b then a else renamed_by from n)) same.0 ∙ is_back ∙ ap (renamed_by from) (sym (swap_second b there n same.1))
+      | inr apart ↦ elim (eqb_tells n b) [
+        | inl met ↦ rw (apart.0, met.0) (sym (ap (renamed_by from) is_there ∙ p.undone a))
+        | inr different ↦ rw (apart.0, different.0) refl
       ]
     ]
 

@@ -1,12 +1,12 @@
 -- What each call makes of the tables of its process and of the object that it works on: the same in each kernel that has them, and
 -- in each with its places renamed.
-use Rattle.std.proofs.Common.{◌≡◌, ◌≢◌, ℕ, ◌-◌, ◌+◌, ◌==◌, Bool, true, false, cond, ◌||◌, ◌&&◌, not, nat_lt, nat_le, List, [], ◌∷◌, zero, suc, length, set, Option, Some, None, Result, Ok, Err, is_none, position, unwrap_or, slice_get, option_and_then, refl, sym, ap, subst, ◌∙◌, ◌⊎◌, inl, inr}
+use Rattle.std.proofs.Common.{◌≡◌, ℕ, ◌-◌, ◌+◌, ◌==◌, Bool, true, false, cond, ◌||◌, ◌&&◌, not, nat_lt, nat_le, List, [], ◌∷◌, length, set, Option, Some, None, Result, Ok, Err, is_none, position, unwrap_or, slice_get, option_and_then, refl, sym, ap, ◌∙◌, inl, inr}
 use Rattle.std.specs.Option.{option_map}
 use Rattle.std.specs.List.{list_any}
 use Rattle.std.proofs.lemmas.Bool.{false≢true, or_parts}
 use Rattle.std.proofs.lemmas.Bool.Decides.{eqb_tells}
 use Rattle.std.proofs.lemmas.Iterator.Adapters.{option_map_id}
-use Rattle.std.proofs.lemmas.List.{map-set, set-get_or}
+use Rattle.std.proofs.lemmas.List.{set-get_or}
 use Rattle.std.proofs.lemmas.List.Quantifiers.{position-Some}
 use Rattle.std.proofs.lemmas.Option.{unwrap_or-slice_get}
 use Rattle.ipc_names.specs.declared.errno.Errno.{Errno}
@@ -24,26 +24,26 @@ use Rattle.ipc_kernel.specs.declared.process.OpenTables.{OpenTables}
 use Rattle.ipc_kernel.specs.declared.process.Slot.{Slot}
 use Rattle.ipc_kernel.specs.declared.process.Descriptor.{Descriptor}
 use Rattle.ipc_kernel.specs.declared.call.Call.{Call}
-use Rattle.ipc_kernel.specs.declared.call.Call.TheVariants.{MqOpen, MqClose, MqUnlink, MqSend, MqReceive, MqGetattr, MqSetattr, SemOpen, SemClose, SemUnlink, SemWait, SemTrywait, SemPost, SemGetvalue, Exit}
-use Rattle.ipc_kernel.specs.declared.call.Handle.{Handle}
+use Rattle.ipc_kernel.specs.declared.call.Call.TheVariants.{MqOpen, MqClose, MqSend, MqReceive, MqGetattr, MqSetattr, SemOpen, SemClose, SemWait, SemTrywait, SemPost, SemGetvalue}
 use Rattle.ipc_kernel.specs.declared.call.Handle.TheVariants.{Mqd, Slot as Sem}
 use Rattle.ipc_kernel.specs.declared.call.Reply.{Reply}
 use Rattle.ipc_kernel.specs.declared.call.Reply.TheVariants.{Plain, Message as received, Attr, Value}
 use Rattle.ipc_kernel.specs.declared.call.Answer.{Answer}
 use Rattle.ipc_kernel.specs.declared.call.Answer.TheVariants.{Done, Wait}
-use Rattle.ipc_kernel.specs.Processes.{process_at, descriptor_of, slot_of, free_descriptor_of, free_slot_of, slot_for, descriptor_refers, slot_refers, process_refers}
-use Rattle.ipc_kernel.specs.Places.{place_at, is_empty, has_name, queue_name, semaphore_name, place_named, queue_named, semaphore_named, queue_in, semaphore_value, with_queue, with_value, are_sizes, places_or_empty}
+use Rattle.ipc_kernel.specs.Processes.{process_at, closed_process, descriptor_of, slot_of, free_descriptor_of, free_slot_of, descriptor_refers, slot_refers, process_refers}
+use Rattle.ipc_kernel.specs.Places.{place_at, is_empty, queue_name, semaphore_name, place_named, queue_in, semaphore_value, with_queue, with_value, are_sizes}
 use Rattle.ipc_kernel.specs.Kernel.{KernelState, IsSettled}
 use Rattle.ipc_kernel.specs.Outcomes.{Outcome, refusal, completion, wait_or_again, open_queue, open_semaphore, with_queue_at, with_value_at}
 use Rattle.ipc_kernel.specs.Queues.{sizes_asked, descriptor_for, new_descriptor, mq_create_at, mq_create, mq_look_up, mq_open, mq_close, mq_send, mq_receive, take_first, attributes, mq_getattr, mq_setattr}
 use Rattle.ipc_kernel.specs.Semaphores.{new_slot, one_more_open, sem_open_place, sem_create_at, sem_create, sem_look_up, sem_open, sem_close, sem_wait, sem_trywait, sem_post, sem_getvalue}
-use Rattle.ipc_kernel.specs.Answer.{answer}
+use Rattle.ipc_kernel.specs.Answer.{answer, exit}
 use Rattle.ipc_kernel.specs.Alike.{renamed_descriptor, renamed_slot, renamed_process, IsPermutation}
-use Rattle.ipc_kernel.specs.Operands.{handle_of, place_of, with_operand, HasOperand}
-use Rattle.ipc_store.proofs.Renamings.{nobody, held_by, slot_by, with_held, with_slot_held, held-renamed, slot_held-renamed, with_held-renamed, with_slot_held-renamed, free-renamed, position-map, slot_refers-renamed, process_id}
-use Rattle.ipc_store.proofs.SettledTables.{any_set, none_at}
+use Rattle.ipc_kernel.specs.Operands.{are_named, handle_of, place_of, with_operand, HasOperand}
+use Rattle.ipc_kernel.proofs.KernelLemmas.{done_settled}
+use Rattle.ipc_store.proofs.Renamings.{nobody, held_by, slot_by, with_held, with_slot_held, held-renamed, slot_held-renamed, with_held-renamed, with_slot_held-renamed, free-renamed, slot_for-renamed, process_id}
+use Rattle.ipc_store.proofs.SettledTables.{any_set, none_at, settled_named}
 use Rattle.ipc_store.proofs.Alikes.{done, permutation_itself}
-use Rattle.ipc_store.proofs.WorkPlaces.{Lookup, Named, New, Nowhere, IsFound, Finds, is_open, new_object, is_local, any_handle, RefersTo, OpensNone, Keeps, IsKind, kind_itself, kind_queue, kind_value, MayLeave, stays, found, referred}
+use Rattle.ipc_store.proofs.WorkPlaces.{Lookup, Named, New, Nowhere, IsFound, Finds, is_open, new_object, is_local, RefersTo, OpensNone, Keeps, IsKind, kind_queue, kind_value, MayLeave, stays, found}
 
 -- an element that is written back changes nothing
 pub back : {A : Type 0} (xs : List A) (i : ℕ) (d x : A) → unwrap_or (slice_get xs i) d ≡ x → set xs i x ≡ xs
@@ -51,9 +51,11 @@ back xs i d x e = ap (set xs i) (sym e ∙ unwrap_or-slice_get xs i d) ∙ set-g
 
 -- the kernel as it was
 pub kept : (k : KernelState) (p i : ℕ) (t : OpenTables) (o : Place) → HasOperand k p i t o → with_operand k p i o t ≡ k
-kept k p i t o has =
-    ap (λ ps. record { places = ps; processes = set k.processes p t }) (back k.places i o o (ap (λ x. unwrap_or x o) has.object))
-    ∙ ap (λ ps. record { places = k.places; processes = ps }) (back k.processes p t t (ap (λ x. unwrap_or x t) has.tables))
+kept k p i t o has = simp (back k.places i o o (ap (λ x. unwrap_or x o) has.object), back k.processes p t t (ap (λ x. unwrap_or x t) has.tables))
+
+-- the end of a process, where each object has a name
+pub ended : (k : KernelState) (p : ℕ) → are_named k.places ≡ true → exit k p ≡ (Done (Plain 0), record { places = k.places; processes = set k.processes p closed_process })
+ended k p named = done_settled (record { places = k.places; processes = set k.processes p closed_process }) (Plain 0) (settled_named (set k.processes p closed_process) k.places named)
 
 -- the kernel whose places without a name and a reference are emptied, if a call is completed
 abbrev pub after : Bool → KernelState → KernelState
@@ -70,8 +72,12 @@ pub record Shows (c : Call) (f g : ℕ → ℕ) (k : KernelState) (p i : ℕ) (t
   pub object : Fits (place_at k.places (f i))
   pub finds : Finds c k.places (f i) l
 
+-- a call of a process over a kernel, by where a renaming takes places
+abbrev pub RenamedCall : Type 0
+RenamedCall = (ℕ → ℕ) → KernelState → ℕ → Outcome
+
 -- what a call makes of place i and of tables t is the same in each kernel that shows them
-pub record IsLocal (c : Call) (i : ℕ) (t : OpenTables) (Fits : Place → Type 0) (l : Lookup) (call : (ℕ → ℕ) → KernelState → ℕ → Outcome) : Type 0 where
+pub record IsLocal (c : Call) (i : ℕ) (t : OpenTables) (Fits : Place → Type 0) (l : Lookup) (call : RenamedCall) : Type 0 where
   pub reply : Answer
   pub completes : Bool
   pub object : Place → Place
@@ -97,14 +103,15 @@ free_there : {A : Type 0} (xs : List (Option A)) (i : ℕ) → position is_none 
 free_there xs i e = unwrap_or-slice_get xs i None ∙ none_of _ (position-Some is_none xs i None e).1
 
 module _ (c : Call) (i : ℕ) (t : OpenTables) (Fits : Place → Type 0) (l : Lookup) where
-  abbrev Step : ((ℕ → ℕ) → KernelState → ℕ → Outcome) → Type 0
+  abbrev Step : RenamedCall → Type 0
   Step call = IsLocal c i t Fits l call
 
   abbrev Shown : (ℕ → ℕ) → (ℕ → ℕ) → KernelState → ℕ → Type 0
   Shown f g k p = Shows c f g k p i t Fits l
 
-  like : (x y : (ℕ → ℕ) → KernelState → ℕ → Outcome) → ((f g : ℕ → ℕ) (k : KernelState) (p : ℕ) → Shown f g k p → x f k p ≡ y f k p) → Step y → Step x
-  like x y e h = record {
+  -- a call that is another one wherever a kernel shows that
+  same_as : (x y : RenamedCall) → ((f g : ℕ → ℕ) (k : KernelState) (p : ℕ) → Shown f g k p → x f k p ≡ y f k p) → Step y → Step x
+  same_as x y e h = record {
     reply = h.reply;
     completes = h.completes;
     object = h.object;
@@ -115,10 +122,9 @@ module _ (c : Call) (i : ℕ) (t : OpenTables) (Fits : Place → Type 0) (l : Lo
   }
 
   back_in : (f g : ℕ → ℕ) (k : KernelState) (p : ℕ) → Shown f g k p → with_operand k p (f i) (place_at k.places (f i)) (renamed_process f t) ≡ k
-  back_in f g k p s =
-      ap (λ ps. record { places = ps; processes = set k.processes p (renamed_process f t) }) (back k.places (f i) Empty _ refl)
-      ∙ ap (λ us. record { places = k.places; processes = us }) (back k.processes p nobody _ s.tables)
+  back_in f g k p s = simp (back k.places (f i) Empty (place_at k.places (f i)) refl, back k.processes p nobody (renamed_process f t) s.tables)
 
+  -- a call that changes nothing
   unchanged : (a : Answer) → Step (λ f k p. (a, k))
   unchanged a = record {
     reply = a;
@@ -133,7 +139,7 @@ module _ (c : Call) (i : ℕ) (t : OpenTables) (Fits : Place → Type 0) (l : Lo
   refused : (e : Errno) → Step (λ f k p. refusal k e)
   refused e = unchanged (Done (Plain (65536 - number_of e)))
 
-  choice : (b : Bool) (x y : (ℕ → ℕ) → KernelState → ℕ → Outcome) → Step x → Step y → Step (λ f k p. cond b (x f k p) (y f k p))
+  choice : (b : Bool) (x y : RenamedCall) → Step x → Step y → Step (λ f k p. cond b (x f k p) (y f k p))
   choice true x y h j = h
   choice false x y h j = j
 
@@ -143,30 +149,25 @@ module _ (c : Call) (i : ℕ) (t : OpenTables) (Fits : Place → Type 0) (l : Lo
   finished h u r refers leaves = record { reply = Done r; completes = true; object = h; tables = u; same = λ f g k p s. refl; refers = refers; leaves = leaves }
 
   told : (r : Reply) → Step (λ f k p. completion k r)
-  told r = like _ _ (λ f g k p s. ap (λ x. completion x r) (sym (back_in f g k p s))) (finished (λ x. x) t r (λ n x keeps. refl) (stays c l))
+  told r = same_as _ _ (λ f g k p s. ap (λ x. completion x r) (sym (back_in f g k p s))) (finished (λ x. x) t r (λ n x keeps. refl) (stays c l))
 
   -- another state of an open object
   changed : (h : Place → Place) (a : ℕ) (r : Reply) → a ≡ i → ((x : Place) → IsKind x (h x)) → (handle_of c ≡ None → ⊥)
       → Step (λ f k p. completion (record k { places = set k.places (f a) (h (place_at k.places (f a))) }) r)
-  changed h a r same kind handled = like _ _
-      (λ f g k p s. ap (λ n. completion (record { places = set k.places (f n) (h (place_at k.places (f n))); processes = k.processes }) r) same
-      ∙ ap (λ us. completion (record { places = set k.places (f i) (h (place_at k.places (f i))); processes = us }) r) (sym (back k.processes p nobody _ s.tables)))
-      (finished h t r (λ n x keeps. refl) (λ x. inl (kind x, λ e. absurd (handled e))))
+  changed h a r same kind handled =
+      same_as _ _ (λ f g k p s. simp (same, back k.processes p nobody (renamed_process f t) s.tables)) (finished h t r (λ n x keeps. refl) (λ x. inl (kind x, λ e. absurd (handled e))))
 
   -- other tables, which w writes, and another object
   put : (h : Place → Place) (w : (ℕ → ℕ) → OpenTables → OpenTables) (u : OpenTables) (r : Reply) → ((f : ℕ → ℕ) → w f (renamed_process f t) ≡ renamed_process f u)
       → ((n : ℕ) (x : Place) → Keeps c l i t n (h x) → process_refers n u ≡ process_refers n t) → ((x : Place) → MayLeave c l x (h x))
       → Step (λ f k p. completion (with_operand k p (f i) (h (place_at k.places (f i))) (w f (process_at k.processes p))) r)
-  put h w u r writes refers leaves = like _ _
-      (λ f g k p s. ap (λ x. completion (with_operand k p (f i) (h (place_at k.places (f i))) x) r) (ap (w f) s.tables ∙ writes f))
-      (finished h u r refers leaves)
+  put h w u r writes refers leaves = same_as _ _ (λ f g k p s. simp (s.tables, writes f)) (finished h u r refers leaves)
 
+  -- other tables alone
   alone : (w : (ℕ → ℕ) → OpenTables → OpenTables) (u : OpenTables) (r : Reply) → ((f : ℕ → ℕ) → w f (renamed_process f t) ≡ renamed_process f u)
       → ((n : ℕ) (x : Place) → Keeps c l i t n x → process_refers n u ≡ process_refers n t)
       → Step (λ f k p. completion (record k { processes = set k.processes p (w f (process_at k.processes p)) }) r)
-  alone w u r writes refers = like _ _
-      (λ f g k p s. ap (λ ps. completion (record { places = ps; processes = set k.processes p (w f (process_at k.processes p)) }) r) (sym (back k.places (f i) Empty _ refl)))
-      (put (λ x. x) w u r writes refers (stays c l))
+  alone w u r writes refers = same_as _ _ (λ f g k p s. simp (back k.places (f i) Empty (place_at k.places (f i)) refl)) (put (λ x. x) w u r writes refers (stays c l))
 
   held : (d : ℕ) (y : Option Descriptor) (r : Reply) → ((n : ℕ) (x : Place) → Keeps c l i t n x → descriptor_refers n y ≡ descriptor_refers n (held_by d t))
       → Step (λ f k p. completion (record k { processes = set k.processes p (with_held (process_at k.processes p) d (option_map (renamed_descriptor f) y)) }) r)
@@ -182,7 +183,7 @@ module _ (c : Call) (i : ℕ) (t : OpenTables) (Fits : Place → Type 0) (l : Lo
       → ((f g : ℕ → ℕ) → IsPermutation f g → look f (renamed_process f t) ≡ option_map (shown f) x) → Step (λ f k p. call f k p None)
       → ((y : A) → x ≡ Some y → Step (λ f k p. call f k p (Some (shown f y)))) → Step (λ f k p. call f k p (look f (process_at k.processes p)))
   read {A} x look shown call law none some =
-      like _ (λ f k p. call f k p (option_map (shown f) x)) (λ f g k p s. ap (call f k p) (ap (look f) s.tables ∙ law f g s.permutation)) (by x refl)
+      same_as _ (λ f k p. call f k p (option_map (shown f) x)) (λ f g k p s. ap (call f k p) (ap (look f) s.tables ∙ law f g s.permutation)) (by x refl)
     where
       by : (y : Option A) → x ≡ y → Step (λ f k p. call f k p (option_map (shown f) y))
       by None e = none
@@ -241,11 +242,11 @@ module _ (c : Call) (i : ℕ) (t : OpenTables) (Fits : Place → Type 0) (l : Lo
     looked name_of name call found named absent = by l refl found
       where
         by : (m : Lookup) → l ≡ m → ((ps : List Place) (a : ℕ) → Finds c ps a l → IsFound name_of name ps a m) → Step (λ f k p. call k p (place_named name_of k.places name))
-        by Named e is = like _ (λ f k p. call k p (Some (f i))) (λ f g k p s. ap (call k p) (is k.places (f i) s.finds)) (named e)
-        by New e is = like _ (λ f k p. call k p None) (λ f g k p s. ap (call k p) (is k.places (f i) s.finds).0)
-            (absent (λ make none some. like _ (λ f k p. make k p (Some (f i))) (λ f g k p s. ap (make k p) (is k.places (f i) s.finds).1) (some e)))
-        by Nowhere e is = like _ (λ f k p. call k p None) (λ f g k p s. ap (call k p) (is k.places (f i) s.finds).0)
-            (absent (λ make none some. like _ (λ f k p. make k p None) (λ f g k p s. ap (make k p) (is k.places (f i) s.finds).1) none))
+        by Named e is = same_as _ (λ f k p. call k p (Some (f i))) (λ f g k p s. ap (call k p) (is k.places (f i) s.finds)) (named e)
+        by New e is = same_as _ (λ f k p. call k p None) (λ f g k p s. ap (call k p) (is k.places (f i) s.finds).0)
+            (absent (λ make none some. same_as _ (λ f k p. make k p (Some (f i))) (λ f g k p s. ap (make k p) (is k.places (f i) s.finds).1) (some e)))
+        by Nowhere e is = same_as _ (λ f k p. call k p None) (λ f g k p s. ap (call k p) (is k.places (f i) s.finds).0)
+            (absent (λ make none some. same_as _ (λ f k p. make k p None) (λ f g k p s. ap (make k p) (is k.places (f i) s.finds).1) none))
 
     pub mq_opened : (name : List ℕ) (sizes : ℕ × ℕ) → ((ps : List Place) (a : ℕ) → Finds c ps a l → IsFound queue_name name ps a l) → new_object c ≡ Mq (Some name) (empty_queue sizes)
         → (r : Result Flags Errno) → Step (λ f k p. mq_open k p name sizes r)
@@ -264,7 +265,7 @@ module _ (c : Call) (i : ℕ) (t : OpenTables) (Fits : Place → Type 0) (l : Lo
         (looked semaphore_name name (λ k p x. sem_look_up k p name (has_flag o_creat flags) (has_flag o_excl flags) value x) found
         (λ is. choice (has_flag o_creat flags && has_flag o_excl flags) _ _ (refused Exists)
         (read (position (slot_refers i) t.slots) (λ f u. position (slot_refers (f i)) u.slots) (λ f s. s) (λ f k p x. sem_open_place k p (f i) x)
-        (λ f g h. position-map (slot_refers (f i)) (slot_refers i) (option_map (renamed_slot f)) (slot_refers-renamed f g h i) t.slots ∙ sym (option_map_id (position (slot_refers i) t.slots)))
+        (λ f g h. slot_for-renamed f g h i t ∙ sym (option_map_id (position (slot_refers i) t.slots)))
         (by_free_slot (λ f k p x. new_slot k p (f i) x) (refused TooManyOpen) (λ s e. slot_held s (Some first_open) (Plain s) (λ n y. new_slot_held s e n y (λ none. none.0 is)))) (λ s e. once_more s)))
         (λ at. choice (has_flag o_creat flags) _ _ (by_free_slot (λ f k p x. sem_create k p name value x) (refused TooManyOpen) (λ s e. at (λ k p x. sem_create_at k p s name value x) (refused NoSpace) (λ is.
         put (λ x. SemPlace (Some name) value) (λ f x. with_slot_held x s (Some (record { place = f i; opens = 1 }))) (with_slot_held t s (Some first_open)) (Plain s)
@@ -285,7 +286,7 @@ module _ (c : Call) (i : ℕ) (t : OpenTables) (Fits : Place → Type 0) (l : Lo
       → Step (λ f k p. call k p (option_and_then (λ h. option_map (λ v. (h, v)) (see (place_at k.places (place h)))) (look (process_at k.processes p))))
   on_object {H} {V} place shown see look call moved law at o fits none some =
       read (look t) (λ f. look) shown (λ f k p x. call k p (option_and_then (λ h. option_map (λ v. (h, v)) (see (place_at k.places (place h)))) x)) (λ f g h. law f) none (λ h e.
-      like _ (λ f k p. call k p (option_map (λ v. (shown f h, v)) (see o)))
+      same_as _ (λ f k p. call k p (option_map (λ v. (shown f h, v)) (see o)))
       (λ f g k p s. ap (λ n. call k p (option_map (λ v. (shown f h, v)) (see (place_at k.places n)))) (moved f h ∙ ap f (at h e))
       ∙ ap (λ x. call k p (option_map (λ v. (shown f h, v)) (see x))) (fits _ s.object)) (seen h e (see o)))
     where
@@ -363,7 +364,7 @@ local (SemGetvalue s) i t Fits l o fits at is = semaphore_call (SemGetvalue s) i
 local other i t Fits l o fits at is = absurd (cc)
 
 -- a call in a kernel as it is
-pub here : (c : Call) (i : ℕ) (t : OpenTables) (Fits : Place → Type 0) (l : Lookup) (call : (ℕ → ℕ) → KernelState → ℕ → Outcome) (h : IsLocal c i t Fits l call) (k : KernelState) (p : ℕ)
+pub here : (c : Call) (i : ℕ) (t : OpenTables) (Fits : Place → Type 0) (l : Lookup) (call : RenamedCall) (h : IsLocal c i t Fits l call) (k : KernelState) (p : ℕ)
     → process_at k.processes p ≡ t → Fits (place_at k.places i) → Finds c k.places i l
     → call (λ n. n) k p ≡ (h.reply, after h.completes (with_operand k p i (h.object (place_at k.places i)) h.tables))
 here c i t Fits l call h k p has fits finds =

@@ -1,13 +1,11 @@
 -- Places where each object has a name: what is written into one leaves them so, and leaves each name where it was.
 use Rattle.std.proofs.Common.{subst, inl, inr, ◌≡◌, ℕ, Bool, true, false, ◌||◌, ◌&&◌, List, [], ◌∷◌, zero, suc, length-set, set, Option, Some, None, unwrap_or, slice_get, position, refl, sym, ap, ◌∙◌}
 use Rattle.std.specs.List.{list_all}
-use Rattle.ipc_objects.specs.Queue.{QueueState, empty_queue}
 use Rattle.ipc_kernel.specs.declared.place.Place.{Place}
-use Rattle.ipc_kernel.specs.declared.place.Place.TheVariants.{Empty, Mq, Sem}
+use Rattle.ipc_kernel.specs.declared.place.Place.TheVariants.{Empty}
 use Rattle.ipc_kernel.specs.Places.{place_at, is_empty, has_name, is_name, queue_name, semaphore_name, place_named, queue_named, semaphore_named}
 use Rattle.ipc_kernel.specs.declared.call.Call.{Call}
 use Rattle.ipc_kernel.specs.declared.call.Call.TheVariants.{MqOpen, SemOpen}
-use Rattle.ipc_kernel.specs.Queues.{sizes_asked}
 use Rattle.ipc_kernel.specs.Operands.{are_named}
 use Rattle.ipc_kernel.proofs.PlaceLemmas.{first_empty_place}
 use Rattle.ipc_store.proofs.WorkPlaces.{Lookup, New, Finds, MayLeave, is_open, new_object}
@@ -70,19 +68,13 @@ other_name name_of ps name n m absent e = by (is_name n (Some name)) refl
     by true f = let same : Some name ≡ Some n = is_name-true n (Some name) f in let is : name ≡ n = cc in let no : None ≡ Some m = sym absent ∙ ap (place_named name_of ps) is ∙ e in absurd (cc)
 
 -- a new object with a name that none had
-keeps_new_queue : (ps : List Place) (i : ℕ) (name : List ℕ) (q : QueueState) → are_named ps ≡ true → queue_named ps name ≡ None → place_at ps i ≡ Empty → KeepNames ps (set ps i (Mq (Some name) q))
-keeps_new_queue ps i name q named absent empty = keeps_written ps i (Mq (Some name) q) named refl
-    (λ n m e. other_name queue_name ps name n m absent e ∙ sym (ap (λ p. is_name n (queue_name p)) empty))
-    (λ n m e. sym (ap (λ p. is_name n (semaphore_name p)) empty))
-
-keeps_new_semaphore : (ps : List Place) (i : ℕ) (name : List ℕ) (v : ℕ) → are_named ps ≡ true → semaphore_named ps name ≡ None → place_at ps i ≡ Empty → KeepNames ps (set ps i (Sem (Some name) v))
-keeps_new_semaphore ps i name v named absent empty = keeps_written ps i (Sem (Some name) v) named refl
-    (λ n m e. sym (ap (λ p. is_name n (queue_name p)) empty))
-    (λ n m e. other_name semaphore_name ps name n m absent e ∙ sym (ap (λ p. is_name n (semaphore_name p)) empty))
-
 keeps_made : (ps : List Place) (i : ℕ) (c : Call) → are_named ps ≡ true → is_open c ≡ true → Finds c ps i New → KeepNames ps (set ps i (new_object c))
-keeps_made ps i (MqOpen name flags attr) named opens finds = keeps_new_queue ps i name (empty_queue (sizes_asked attr)) named finds.0 (first_empty_place ps i finds.1)
-keeps_made ps i (SemOpen name flags value) named opens finds = keeps_new_semaphore ps i name value named finds.0 (first_empty_place ps i finds.1)
+keeps_made ps i (MqOpen name flags attr) named opens finds =
+    let empty = first_empty_place ps i finds.1 in
+    keeps_written ps i _ named refl (λ n m e. other_name queue_name ps name n m finds.0 e ∙ sym (ap (λ p. is_name n (queue_name p)) empty)) (λ n m e. sym (ap (λ p. is_name n (semaphore_name p)) empty))
+keeps_made ps i (SemOpen name flags value) named opens finds =
+    let empty = first_empty_place ps i finds.1 in
+    keeps_written ps i _ named refl (λ n m e. sym (ap (λ p. is_name n (queue_name p)) empty)) (λ n m e. other_name semaphore_name ps name n m finds.0 e ∙ sym (ap (λ p. is_name n (semaphore_name p)) empty))
 keeps_made ps i other named opens finds = absurd (cc)
 
 -- what a call leaves

@@ -63,16 +63,13 @@ written (x ∷ ns) (suc i) m (suc j) n e = written ns i m j n e
 -- one thing more is copied
 pub copied_more : {X : Type 0} (ps : List X) (ns : List ℕ) (i d : ℕ) (xs : List X) (x : X) → i < length ns → map (slice_get ps) (take i ns) ≡ map Some xs
     → slice_get ps (get_or ns i d) ≡ Some x → map (slice_get ps) (take (i + 1) ns) ≡ map Some (xs ++ x ∷ [])
-copied_more ps ns i d xs x h so_far is =
-    map_more (slice_get ps) ns i d h ∙ ap (λ ys. ys ++ slice_get ps (get_or ns i d) ∷ []) so_far ∙ ap (λ y. map Some xs ++ y ∷ []) is ∙ sym (map-append Some xs (x ∷ []))
+copied_more ps ns i d xs x h so_far is = simp (map_more (slice_get ps) ns i d h, map-append, so_far, is)
 
 -- one thing more is kept
 pub kept_more : {X : Type 0} (ps qs : List X) (ns : List ℕ) (xs : List X) (i n : ℕ) (d : X) → ((k : ℕ) (y : X) → slice_get ps k ≡ Some y → slice_get qs k ≡ Some y)
     → i < length xs → map (slice_get ps) ns ≡ map Some (take i xs) → slice_get qs n ≡ Some (get_or xs i d)
     → map (slice_get qs) (ns ++ n ∷ []) ≡ map Some (take (i + 1) xs)
-kept_more ps qs ns xs i n d grows h so_far kept =
-    map-append (slice_get qs) ns (n ∷ []) ∙ ap (λ ys. ys ++ slice_get qs n ∷ []) (there_still ps qs ns (take i xs) grows so_far)
-    ∙ ap (λ y. map Some (take i xs) ++ y ∷ []) kept ∙ sym (map_more Some xs i d h)
+kept_more ps qs ns xs i n d grows h so_far kept = simp (map-append, map_more Some xs i d h, there_still ps qs ns (take i xs) grows so_far, kept)
 
 -- what was kept at first is the same after more was kept
 same_still : {X : Type 0} (ps qs : List X) (n : ℕ) (d : X) → ((k : ℕ) (y : X) → slice_get ps k ≡ Some y → slice_get qs k ≡ Some y)
@@ -86,8 +83,10 @@ pub made_more : {X : Type 0} (f : X → X) (ps qs rs : List X) (ns ms : List ℕ
     → slice_get rs n ≡ Some (f (unwrap_or (slice_get qs (get_or ns i d)) e))
     → map (slice_get rs) (ms ++ n ∷ []) ≡ map Some (map f (map (λ m. unwrap_or (slice_get ps m) e) (take (i + 1) ns)))
 made_more f ps qs rs ns ms i n d e first later h there so_far made =
-    map-append (slice_get rs) ms (n ∷ []) ∙ ap (λ ys. ys ++ slice_get rs n ∷ []) (there_still qs rs ms (map f (map (λ m. unwrap_or (slice_get ps m) e) (take i ns))) later so_far)
-    ∙ ap (λ y. map Some (map f (map (λ m. unwrap_or (slice_get ps m) e) (take i ns))) ++ y ∷ []) (made ∙ ap (λ x. Some (f x)) (same_still ps qs (get_or ns i d) e first there))
-    ∙ sym (map-append Some (map f (map (λ m. unwrap_or (slice_get ps m) e) (take i ns))) (f (unwrap_or (slice_get ps (get_or ns i d)) e) ∷ []))
-    ∙ ap (map Some) (sym (ap (map f) (map_more (λ m. unwrap_or (slice_get ps m) e) ns i d h)
-    ∙ map-append f (map (λ m. unwrap_or (slice_get ps m) e) (take i ns)) (unwrap_or (slice_get ps (get_or ns i d)) e ∷ [])))
+    simp (
+      map-append,
+      map_more (λ m. unwrap_or (slice_get ps m) e) ns i d h,
+      there_still qs rs ms (map f (map (λ m. unwrap_or (slice_get ps m) e) (take i ns))) later so_far,
+      made,
+      same_still ps qs (get_or ns i d) e first there,
+    )

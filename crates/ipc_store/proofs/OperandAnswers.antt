@@ -1,7 +1,7 @@
 -- Calls that remove no object: what they depend on, and what they change.
 use Rattle.std.proofs.Common.{◌≡◌, ℕ, ◌<◌, ◌||◌, Bool, true, false, cond, List, length, set, length-set, get_or, get_or-set_other, get_or-set_same, Option, Some, None, is_some, option_and_then, position, unwrap_or, refl, sym, ap, subst, ◌∙◌, inl, inr, arith}
 use Rattle.std.specs.Option.{option_or}
-use Rattle.std.proofs.lemmas.Bool.{cases_eq, or_left, or_right}
+use Rattle.std.proofs.lemmas.Bool.{cases_eq, or_right}
 use Rattle.std.proofs.lemmas.Option.{cond_some, unwrap_or-slice_get}
 use Rattle.ipc_kernel.specs.declared.place.Place.{Place}
 use Rattle.ipc_kernel.specs.declared.place.Place.TheVariants.{Empty, Mq, Sem as SemPlace}
@@ -20,12 +20,12 @@ use Rattle.ipc_kernel.specs.Outcomes.{Outcome}
 use Rattle.ipc_kernel.specs.Answer.{answer}
 use Rattle.ipc_kernel.specs.Operands.{place_of, if_named, are_named, operand_in, handle_of, with_operand, HasOperand, AnswersByOperand}
 use Rattle.ipc_kernel.proofs.PlaceLemmas.{empty_of, first_empty_place}
-use Rattle.ipc_kernel.proofs.KernelLemmas.{done_settled, settled_by, settled_at, kept-Empty}
+use Rattle.ipc_kernel.proofs.KernelLemmas.{settled_by, settled_at}
 use Rattle.ipc_store.proofs.Renamings.{nobody}
-use Rattle.ipc_store.proofs.SettledTables.{all_at, any_set, get_set, place_kept, settled_named}
+use Rattle.ipc_store.proofs.SettledTables.{all_at, any_set, get_set, place_kept}
 use Rattle.ipc_store.proofs.NamedPlaces.{is_named, name_found}
-use Rattle.ipc_store.proofs.WorkPlaces.{Lookup, Named, New, IsFound, Finds, is_local, is_open, new_object, any_handle, RefersTo, IsKind, MayLeave}
-use Rattle.ipc_store.proofs.LocalCalls.{back, IsLocal, local, here, after, after_settled}
+use Rattle.ipc_store.proofs.WorkPlaces.{Lookup, Named, New, IsFound, Finds, is_local, is_open, new_object, RefersTo, IsKind, MayLeave}
+use Rattle.ipc_store.proofs.LocalCalls.{back, ended, IsLocal, local, here, after, after_settled}
 
 -- what a call makes of tables t and of the object o in place i: the same in each settled kernel that has them, and where it works
 -- on that place
@@ -84,18 +84,15 @@ semaphore_has_name : (p : Place) (n : List ℕ) → semaphore_name p ≡ Some n 
 semaphore_has_name (SemPlace name value) n e = ap is_some e
 semaphore_has_name other n e = absurd (cc)
 
-named_found : (name_of : Place → Option (List ℕ)) (ps : List Place) (n : List ℕ) (i : ℕ) → ((p : Place) → name_of p ≡ Some n → is_named p ≡ true)
-    → option_or (place_named name_of ps n) (position is_empty ps) ≡ Some i → is_named (place_at ps i) ≡ true
-named_found name_of ps n i has e = by (place_named name_of ps n) refl e
-  where
-    by : (x : Option ℕ) → place_named name_of ps n ≡ x → option_or x (position is_empty ps) ≡ Some i → is_named (place_at ps i) ≡ true
-    by (Some a) f g = has (place_at ps i) (name_found name_of ps n i (f ∙ g))
-    by None f g = ap is_named (first_empty_place ps i g)
+named_found : (name_of : Place → Option (List ℕ)) (ps : List Place) (n : List ℕ) (i : ℕ) (b : Bool) → ((p : Place) → name_of p ≡ Some n → is_named p ≡ true)
+    → IsFound name_of n ps i (cond b New Named) → is_named (place_at ps i) ≡ true
+named_found name_of ps n i true has e = ap is_named (first_empty_place ps i e.1)
+named_found name_of ps n i false has e = has (place_at ps i) (name_found name_of ps n i e)
 
 named_operand : (k : KernelState) (t : OpenTables) (c : Call) (i : ℕ) → operand_in k t c ≡ Some i → handle_of c ≡ None → is_named (place_at k.places i) ≡ true
-named_operand k t (MqOpen name flags attr) i at none = named_found queue_name k.places name i (λ p. queue_has_name p name) at
+named_operand k t (MqOpen name flags attr) i at none = named_found queue_name k.places name i _ (λ p. queue_has_name p name) (finds k t (MqOpen name flags attr) i _ refl at)
 named_operand k t (MqClose d) i at none = or_right (is_empty (place_at k.places i)) _ (closed_place k.places (place_of t (Mqd d)) i at).1
-named_operand k t (SemOpen name flags value) i at none = named_found semaphore_name k.places name i (λ p. semaphore_has_name p name) at
+named_operand k t (SemOpen name flags value) i at none = named_found semaphore_name k.places name i _ (λ p. semaphore_has_name p name) (finds k t (SemOpen name flags value) i _ refl at)
 named_operand k t (SemClose s) i at none = or_right (is_empty (place_at k.places i)) _ (closed_place k.places (place_of t (Sem s)) i at).1
 named_operand k t Exit i at none = all_at is_named k.places i Empty refl (all_named k.places i at)
 named_operand k t other i at none = absurd (cc)
@@ -113,31 +110,27 @@ kept_kind b x y kind e = by (has_name x || b) (ap (λ n. n || b) kind.named) e
     by true f g = rw f refl
     by false f g = rw f (sym (empty_of y (kind.filled ∙ sym (ap is_empty g))))
 
--- another object in place i, and tables that refer to each other place as before, leave a kernel settled
-settled_with : (k : KernelState) (p i : ℕ) (x : Place) (u : OpenTables) → IsSettled k → ((n : ℕ) → (n ≡ i → ⊥) → process_refers n u ≡ process_refers n (process_at k.processes p))
-    → (i < length k.places → place_or_empty (set k.processes p u) i x ≡ x) → IsSettled (with_operand k p i x u)
-settled_with k p i x u s others there = settled_by (set k.processes p u) (set k.places i x) (λ n h.
-    let inside : n < length k.places = omega (arith, length-set k.places i x) in
-    elim (cases_eq n i) [
-      | inl same ↦ (let less : i < length k.places = omega arith in rw (same, get_or-set_same k.places i x Empty less) (there less))
-      | inr other ↦ rw (get_or-set_other k.places i n x Empty other)
-          (ap (λ b. cond (has_name (get_or k.places n Empty) || b) (get_or k.places n Empty) Empty) (any_set (process_refers n) k.processes p u nobody (others n other))
-          ∙ settled_at k.processes k.places s n Empty inside)
-    ])
-
--- and so does a call on that place
+-- a call on place i leaves a kernel settled
 settled_local : (k : KernelState) (c : Call) (p i : ℕ) (l : Lookup) (x : Place) (u : OpenTables) → IsSettled k → (handle_of c ≡ None → is_named (place_at k.places i) ≡ true) → MayLeave c l (place_at k.places i) x
     → ((n : ℕ) → (n ≡ i → handle_of c ≡ None → ⊥) → process_refers n u ≡ process_refers n (process_at k.processes p)) → IsSettled (with_operand k p i x u)
-settled_local k c p i l x u s named leaves same = settled_with k p i x u s (λ n apart. same n (λ e none. apart e)) (λ less. elim leaves [
-  | inr new ↦ place_kept (set k.processes p u) i x (ap is_named new.2 ∙ made_named c new.0)
-  | inl kind ↦ by less kind.0 (is_named (place_at k.places i)) refl
-])
+settled_local k c p i l x u s named leaves same = settled_by (set k.processes p u) (set k.places i x) (λ n h.
+    let inside : n < length k.places = omega (arith, length-set k.places i x) in
+    elim (cases_eq n i) [
+      | inl here ↦ (let less : i < length k.places = omega arith in rw (here, get_or-set_same k.places i x Empty less) (kept less leaves))
+      | inr other ↦ rw (get_or-set_other k.places i n x Empty other)
+          (ap (λ b. cond (has_name (get_or k.places n Empty) || b) (get_or k.places n Empty) Empty) (any_set (process_refers n) k.processes p u nobody (same n (λ e none. other e)))
+          ∙ settled_at k.processes k.places s n Empty inside)
+    ])
   where
     by : i < length k.places → IsKind (place_at k.places i) x → (b : Bool) → is_named (place_at k.places i) ≡ b → place_or_empty (set k.processes p u) i x ≡ x
     by less kind true e = place_kept (set k.processes p u) i x (ap (λ b. b || has_name x) kind.filled ∙ ap (λ b. is_empty (place_at k.places i) || b) kind.named ∙ e)
     by less kind false e =
         ap (λ b. cond (has_name x || b) x Empty) (any_set (process_refers i) k.processes p u nobody (same i (λ d none. let no : false ≡ true = sym e ∙ named none in absurd (cc))))
         ∙ kept_kind _ (place_at k.places i) x kind (rw (unwrap_or-slice_get k.places i Empty) (settled_at k.processes k.places s i Empty less))
+
+    kept : i < length k.places → MayLeave c l (place_at k.places i) x → place_or_empty (set k.processes p u) i x ≡ x
+    kept less (inl kind) = by less kind.0 (is_named (place_at k.places i)) refl
+    kept less (inr new) = place_kept (set k.processes p u) i x (ap is_named new.2 ∙ made_named c new.0)
 
 by_local : (j : KernelState) (c : Call) (i : ℕ) (t : OpenTables) (o : Place) → operand_in j t c ≡ Some i → is_local c ≡ true → IsAnswered c i t o
 by_local j c i t o at is = record {
@@ -166,9 +159,8 @@ answered j Exit i t o at = record {
   object = o;
   tables = closed_process;
   same = λ k p s at_k has.
-      let closed = set k.processes p closed_process in
-      done_settled (record { places = k.places; processes = closed }) (Plain 0) (settled_named closed k.places (all_named k.places i at_k))
-      ∙ ap (λ ps. (Done (Plain 0), record { places = ps; processes = closed })) (sym (back k.places i Empty o (ap (λ x. unwrap_or x Empty) has.object)));
+      ended k p (all_named k.places i at_k)
+      ∙ ap (λ ps. (Done (Plain 0), record { places = ps; processes = set k.processes p closed_process })) (sym (back k.places i Empty o (ap (λ x. unwrap_or x Empty) has.object)));
 }
 answered j c i t o at = by_local j c i t o at refl
 

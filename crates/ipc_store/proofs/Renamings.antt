@@ -6,6 +6,7 @@ use Rattle.std.proofs.lemmas.Bool.{eq-eqb, or_left, or_right}
 use Rattle.std.proofs.lemmas.Iterator.Adapters.{option_map_id}
 use Rattle.std.proofs.lemmas.Bool.Decides.{eqb_tells}
 use Rattle.std.proofs.lemmas.Option.{slice_get-map}
+use Rattle.std.proofs.lemmas.Simd.{map-map}
 use Rattle.std.proofs.lemmas.List.{map-set, length-map, append-nil, append_assoc, drop_all, drop_more, length-take-le, map_more, set_at, take_all}
 use Rattle.ipc_kernel.specs.declared.process.OpenTables.{OpenTables}
 use Rattle.ipc_kernel.specs.declared.process.Slot.{Slot}
@@ -26,30 +27,18 @@ HasOpenMax p = (length p.descriptors ≡ 16) × (length p.slots ≡ 16)
 -- one element more is mapped in its place, and all are
 pub renamed_more : {X : Type 0} (f : X → X) (xs ys : List X) (i : ℕ) (d : X) → i < length xs → ys ≡ map f (take i xs) ++ drop i xs → set ys i (f (get_or xs i d)) ≡ map f (take (i + 1) xs) ++ drop (i + 1) xs
 renamed_more f xs ys i d h e =
-    ap (λ zs. set zs i (f (get_or xs i d))) (e ∙ ap (λ zs. map f (take i xs) ++ zs) (drop_more xs i d h))
-    ∙ set_at (map f (take i xs)) (get_or xs i d) (drop (i + 1) xs) (f (get_or xs i d)) i (length-map (take i xs) f ∙ length-take-le i xs (omega arith))
-    ∙ sym (ap (λ zs. zs ++ drop (i + 1) xs) (map_more f xs i d h) ∙ append_assoc (map f (take i xs)) (f (get_or xs i d) ∷ []) (drop (i + 1) xs))
+    simp (e, drop_more xs i d h, set_at (map f (take i xs)) (get_or xs i d) (drop (i + 1) xs) (f (get_or xs i d)) i (length-map (take i xs) f ∙ length-take-le i xs (omega arith)), map_more f xs i d h, append_assoc)
 
 pub renamed_all : {X : Type 0} (f : X → X) (xs : List X) (i : ℕ) → length xs ≤ i → map f (take i xs) ++ drop i xs ≡ map f xs
-renamed_all f xs i h = ap (λ zs. map f zs ++ drop i xs) (take_all i xs h) ∙ ap (λ zs. map f xs ++ zs) (drop_all i xs h) ∙ append-nil (map f xs)
+renamed_all f xs i h = simp (take_all i xs h, drop_all i xs h, append-nil)
 
--- a map after a map
-pub map_twice : {A B C : Type 0} (h : B → C) (i : A → B) (j : A → C) → ((x : A) → h (i x) ≡ j x) → (xs : List A) → map h (map i xs) ≡ map j xs
-map_twice h i j same [] = refl
-map_twice h i j same (x ∷ xs) = rw (same x, map_twice h i j same xs) refl
-
-option_twice : {A B C : Type 0} (h : B → C) (i : A → B) (j : A → C) → ((x : A) → h (i x) ≡ j x) → (o : Option A) → option_map h (option_map i o) ≡ option_map j o
-option_twice h i j same None = refl
-option_twice h i j same (Some x) = ap (λ y. Some y) (same x)
+-- one renaming after another
+option_map-map : {A B C : Type 0} (h : B → C) (i : A → B) (o : Option A) → option_map h (option_map i o) ≡ option_map (λ x. h (i x)) o
+option_map-map h i None = refl
+option_map-map h i (Some x) = refl
 
 pub renamed_twice : (f h : ℕ → ℕ) (ps : List OpenTables) → map (renamed_process h) (map (renamed_process f) ps) ≡ map (renamed_process (λ i. h (f i))) ps
-renamed_twice f h ps = map_twice (renamed_process h) (renamed_process f) (renamed_process (λ i. h (f i))) (λ p.
-    ap (λ ds. tables ds (map (option_map (renamed_slot h)) (map (option_map (renamed_slot f)) p.slots)))
-    (map_twice (option_map (renamed_descriptor h)) (option_map (renamed_descriptor f)) (option_map (renamed_descriptor (λ i. h (f i))))
-    (option_twice (renamed_descriptor h) (renamed_descriptor f) (renamed_descriptor (λ i. h (f i))) (λ x. refl)) p.descriptors)
-    ∙ ap (tables (map (option_map (renamed_descriptor (λ i. h (f i)))) p.descriptors))
-    (map_twice (option_map (renamed_slot h)) (option_map (renamed_slot f)) (option_map (renamed_slot (λ i. h (f i))))
-    (option_twice (renamed_slot h) (renamed_slot f) (renamed_slot (λ i. h (f i))) (λ x. refl)) p.slots)) ps
+renamed_twice f h ps = simp (map-map, option_map-map)
 
 unwrap_map : {A B : Type 0} (h : A → B) (d : A) (o : Option A) → unwrap_or (option_map h o) (h d) ≡ h (unwrap_or o d)
 unwrap_map h d None = refl
@@ -90,27 +79,27 @@ with_held-renamed f t d y = ap (λ ds. tables ds (map (option_map (renamed_slot 
 pub with_slot_held-renamed : (f : ℕ → ℕ) (t : OpenTables) (s : ℕ) (y : Option Slot) → with_slot_held (renamed_process f t) s (option_map (renamed_slot f) y) ≡ renamed_process f (with_slot_held t s y)
 with_slot_held-renamed f t s y = ap (tables (map (option_map (renamed_descriptor f)) t.descriptors)) (sym (map-set (option_map (renamed_slot f)) t.slots s y))
 
--- a test that an element passes as what it is mapped to does
-list_any-map : {A B : Type 0} (q : B → Bool) (r : A → Bool) (h : A → B) → ((x : A) → q (h x) ≡ r x) → (xs : List A) → list_any q (map h xs) ≡ list_any r xs
-list_any-map q r h same [] = refl
-list_any-map q r h same (x ∷ xs) = rw (same x, list_any-map q r h same xs) refl
+-- a test of what elements are mapped to
+list_any-map : {A B : Type 0} (q : B → Bool) (h : A → B) (xs : List A) → list_any q (map h xs) ≡ list_any (λ x. q (h x)) xs
+list_any-map q h [] = refl
+list_any-map q h (x ∷ xs) = rw (list_any-map q h xs) refl
 
-prefix-map : {A B : Type 0} (q : B → Bool) (r : A → Bool) (h : A → B) → ((x : A) → q (h x) ≡ r x) → (xs : List A) → position_or_len q (map h xs) ≡ position_or_len r xs
-prefix-map q r h same [] = refl
-prefix-map q r h same (x ∷ xs) = rw (same x, prefix-map q r h same xs) refl
+prefix-map : {A B : Type 0} (q : B → Bool) (h : A → B) (xs : List A) → position_or_len q (map h xs) ≡ position_or_len (λ x. q (h x)) xs
+prefix-map q h [] = refl
+prefix-map q h (x ∷ xs) = rw (prefix-map q h xs) refl
 
-pub position-map : {A B : Type 0} (q : B → Bool) (r : A → Bool) (h : A → B) → ((x : A) → q (h x) ≡ r x) → (xs : List A) → position q (map h xs) ≡ position r xs
-position-map q r h same xs = rw (prefix-map q r h same xs, length-map xs h) refl
+pub position-map : {A B : Type 0} (q : B → Bool) (h : A → B) (xs : List A) → position q (map h xs) ≡ position (λ x. q (h x)) xs
+position-map q h xs = rw (prefix-map q h xs, length-map xs h) refl
 
 none_is_none : {A B : Type 0} (h : A → B) (o : Option A) → is_none (option_map h o) ≡ is_none o
 none_is_none h None = refl
 none_is_none h (Some x) = refl
 
 pub free-renamed : {A : Type 0} (h : A → A) (xs : List (Option A)) → position is_none (map (option_map h) xs) ≡ position is_none xs
-free-renamed h xs = position-map is_none is_none (option_map h) (none_is_none h) xs
+free-renamed h xs = simp (position-map, none_is_none)
 
 -- a renaming keeps places apart
-same_test : (f g : ℕ → ℕ) → IsPermutation f g → (a b : ℕ) → (f a == f b) ≡ (a == b)
+pub same_test : (f g : ℕ → ℕ) → IsPermutation f g → (a b : ℕ) → (f a == f b) ≡ (a == b)
 same_test f g h a b = elim (eqb_tells a b) [
   | inl same ↦ eq-eqb (f a) (f b) (ap f same.1) ∙ sym same.0
   | inr apart ↦ elim (eqb_tells (f a) (f b)) [
@@ -119,7 +108,7 @@ same_test f g h a b = elim (eqb_tells a b) [
   ]
 ]
 
-pub slot_refers-renamed : (f g : ℕ → ℕ) → IsPermutation f g → (i : ℕ) (o : Option Slot) → slot_refers (f i) (option_map (renamed_slot f) o) ≡ slot_refers i o
+slot_refers-renamed : (f g : ℕ → ℕ) → IsPermutation f g → (i : ℕ) (o : Option Slot) → slot_refers (f i) (option_map (renamed_slot f) o) ≡ slot_refers i o
 slot_refers-renamed f g h i None = refl
 slot_refers-renamed f g h i (Some s) = same_test f g h s.place i
 
@@ -127,12 +116,11 @@ descriptor_refers-renamed : (f g : ℕ → ℕ) → IsPermutation f g → (i : �
 descriptor_refers-renamed f g h i None = refl
 descriptor_refers-renamed f g h i (Some d) = same_test f g h d.place i
 
+pub slot_for-renamed : (f g : ℕ → ℕ) → IsPermutation f g → (i : ℕ) (t : OpenTables) → position (slot_refers (f i)) (renamed_process f t).slots ≡ position (slot_refers i) t.slots
+slot_for-renamed f g h i t = simp (position-map, slot_refers-renamed f g h)
+
 pub is_referred-renamed : (f g : ℕ → ℕ) → IsPermutation f g → (ps : List OpenTables) (i : ℕ) → is_referred (map (renamed_process f) ps) (f i) ≡ is_referred ps i
-is_referred-renamed f g h ps i = list_any-map (process_refers (f i)) (process_refers i) (renamed_process f) (λ p.
-    rw (
-      list_any-map (descriptor_refers (f i)) (descriptor_refers i) (option_map (renamed_descriptor f)) (descriptor_refers-renamed f g h i) p.descriptors,
-      list_any-map (slot_refers (f i)) (slot_refers i) (option_map (renamed_slot f)) (slot_refers-renamed f g h i) p.slots,
-    ) refl) ps
+is_referred-renamed f g h ps i = simp (list_any-map, descriptor_refers-renamed f g h, slot_refers-renamed f g h)
 
 -- maps that agree on each element by the places to which it refers
 pub map_where : {A B : Type 0} (refers : ℕ → A → Bool) (P : ℕ → Type 0) (u v : A → B) → ((x : A) → ((n : ℕ) → refers n x ≡ true → P n) → u x ≡ v x)
@@ -153,21 +141,18 @@ slot_where f h None each = refl
 slot_where f h (Some s) each = ap (λ n. Some (record s { place = n })) (sym (each s.place (eq-eqb s.place s.place refl)))
 
 pub process_where : (f h : ℕ → ℕ) (p : OpenTables) → ((n : ℕ) → process_refers n p ≡ true → h n ≡ f n) → renamed_process f p ≡ renamed_process h p
-process_where f h p each =
-    ap (λ ds. tables ds (map (option_map (renamed_slot f)) p.slots))
-    (map_where descriptor_refers (λ n. h n ≡ f n) _ _ (descriptor_where f h) p.descriptors (λ n e. each n (or_left _ _ e)))
-    ∙ ap (tables (map (option_map (renamed_descriptor h)) p.descriptors))
-    (map_where slot_refers (λ n. h n ≡ f n) _ _ (slot_where f h) p.slots (λ n e. each n (or_right (list_any (descriptor_refers n) p.descriptors) _ e)))
+process_where f h p each = simp (
+  map_where descriptor_refers (λ n. h n ≡ f n) _ _ (descriptor_where f h) p.descriptors (λ n e. each n (or_left _ _ e)),
+  map_where slot_refers (λ n. h n ≡ f n) _ _ (slot_where f h) p.slots (λ n e. each n (or_right (list_any (descriptor_refers n) p.descriptors) _ e)),
+)
 
-map_id : {A : Type 0} (h : A → A) → ((x : A) → h x ≡ x) → (xs : List A) → map h xs ≡ xs
-map_id h same [] = refl
-map_id h same (x ∷ xs) = rw (same x, map_id h same xs) refl
+map_same : {A : Type 0} (h : A → A) → ((x : A) → h x ≡ x) → (xs : List A) → map h xs ≡ xs
+map_same h same [] = refl
+map_same h same (x ∷ xs) = rw (same x, map_same h same xs) refl
 
 pub process_id : (p : OpenTables) → renamed_process (λ i. i) p ≡ p
-process_id p =
-    ap (λ ds. tables ds (map (option_map (renamed_slot (λ i. i))) p.slots)) (map_id (option_map (renamed_descriptor (λ i. i))) option_map_id p.descriptors)
-    ∙ ap (tables p.descriptors) (map_id (option_map (renamed_slot (λ i. i))) option_map_id p.slots)
+process_id p = simp (map_same (option_map (renamed_descriptor (λ i. i))) option_map_id, map_same (option_map (renamed_slot (λ i. i))) option_map_id)
 
 -- where each place that is referred to stays, the tables do
 pub processes_stay : (f : ℕ → ℕ) (ps : List OpenTables) → ((n : ℕ) → is_referred ps n ≡ true → f n ≡ n) → map (renamed_process f) ps ≡ ps
-processes_stay f ps each = map_where process_refers (λ n. n ≡ f n) _ _ (process_where f (λ n. n)) ps (λ n e. sym (each n e)) ∙ map_id (renamed_process (λ n. n)) process_id ps
+processes_stay f ps each = map_where process_refers (λ n. n ≡ f n) _ _ (process_where f (λ n. n)) ps (λ n e. sym (each n e)) ∙ map_same (renamed_process (λ n. n)) process_id ps

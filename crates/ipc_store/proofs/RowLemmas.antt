@@ -1,12 +1,8 @@
 -- Rows that stand one behind another among numbers.
-use Rattle.std.proofs.Common.{◌≡◌, ℕ, ◌+◌, ◌≤◌, ◌⊎◌, inl, inr, List, [], ◌∷◌, ◌++◌, length, map, take, drop, slice_get, Some, refl, ap, ◌∙◌, arith, zero, suc}
+use Rattle.std.proofs.Common.{◌≡◌, ℕ, ◌+◌, ◌≤◌, ◌⊎◌, inl, inr, List, [], ◌∷◌, ◌++◌, length, map, take, drop, slice_get, Some, refl, arith, zero, suc}
 use Rattle.std.proofs.lemmas.List.{append_assoc, length-append, length-drop, drop_at, take_at, take_all, drop-append-le, take-append-le, map-append}
 use Rattle.ipc_store.specs.declared.kept.rows.Span.{Span}
-use Rattle.ipc_store.specs.Rows.{KernelRow}
-use Rattle.ipc_store.specs.Private.KeptRows.{row_of, AreWithin}
-
-abbrev pub row : List ℕ → List ℕ → KernelRow
-row objects tables = record { objects = objects; tables = tables }
+use Rattle.ipc_store.specs.Private.KeptRows.{row, row_of, AreWithin}
 
 abbrev pub span : ℕ → ℕ → ℕ → Span
 span start objects tables = record { start = start; objects = objects; tables = tables }
@@ -30,13 +26,10 @@ grown_only (z ∷ xs) x zero y e = inl e
 grown_only (z ∷ xs) x (suc i) y e = grown_only xs x i y e
 
 cut_still : (ns more : List ℕ) (a n : ℕ) → a + n ≤ length ns → take n (drop a (ns ++ more)) ≡ take n (drop a ns)
-cut_still ns more a n h =
-    ap (take n) (drop-append-le a ns more (omega arith)) ∙ take-append-le n (drop a ns) more (omega (arith, length-drop a ns))
+cut_still ns more a n h = simp (drop-append-le a ns more (omega arith), take-append-le n (drop a ns) more (omega (arith, length-drop a ns)))
 
 row_still : (ns more : List ℕ) (s : Span) → s.start + s.objects + s.tables ≤ length ns → row_of (ns ++ more) s ≡ row_of ns s
-row_still ns more s h =
-    ap (λ os. row os (take s.tables (drop (s.start + s.objects) (ns ++ more)))) (cut_still ns more s.start s.objects (omega arith))
-    ∙ ap (row (take s.objects (drop s.start ns))) (cut_still ns more (s.start + s.objects) s.tables h)
+row_still ns more s h = simp (cut_still ns more s.start s.objects (omega arith), cut_still ns more (s.start + s.objects) s.tables h)
 
 -- numbers behind all rows change none
 pub rows_still : (ns more : List ℕ) (ss : List Span) → AreWithin ns ss → map (row_of (ns ++ more)) ss ≡ map (row_of ns) ss
@@ -46,20 +39,15 @@ rows_still ns more (s ∷ ss) within =
 
 row_new : (ns os ts : List ℕ) → row_of ((ns ++ os) ++ ts) (span (length ns) (length os) (length ts)) ≡ row os ts
 row_new ns os ts =
-    let first : take (length os) (drop (length ns) ((ns ++ os) ++ ts)) ≡ os =
-    ap (λ l. take (length os) (drop (length ns) l)) (append_assoc ns os ts) ∙ ap (take (length os)) (drop_at ns (os ++ ts) (length ns) refl) ∙ take_at os ts (length os) refl in
-    let second : take (length ts) (drop (length ns + length os) ((ns ++ os) ++ ts)) ≡ ts =
-    ap (take (length ts)) (drop_at (ns ++ os) ts (length ns + length os) (length-append ns os)) ∙ take_all (length ts) ts (omega arith) in
-    ap (λ l. row l (take (length ts) (drop (length ns + length os) ((ns ++ os) ++ ts)))) first ∙ ap (row os) second
+    rw (drop_at (ns ++ os) ts (length ns + length os) (length-append ns os))
+    (simp (append_assoc, drop_at ns (os ++ ts) (length ns) refl, take_at os ts (length os) refl, take_all (length ts) ts (omega arith)))
 
 -- the rows with one more
 pub rows_more : (ns os ts : List ℕ) (ss : List Span) (a b d : ℕ) → AreWithin ns ss → a ≡ length ns → b ≡ length os → d ≡ length ts
     → map (row_of ((ns ++ os) ++ ts)) (ss ++ span a b d ∷ []) ≡ map (row_of ns) ss ++ row os ts ∷ []
 rows_more ns os ts ss a b d within is_a is_b is_d =
-    let ms = (ns ++ os) ++ ts in
-    map-append (row_of ms) ss (span a b d ∷ [])
-    ∙ ap (λ l. l ++ row_of ms (span a b d) ∷ []) (ap (λ l. map (row_of l) ss) (append_assoc ns os ts) ∙ rows_still ns (os ++ ts) ss within)
-    ∙ ap (λ r. map (row_of ns) ss ++ r ∷ []) (rw (is_a, is_b, is_d) (row_new ns os ts))
+    let still : map (row_of ((ns ++ os) ++ ts)) ss ≡ map (row_of ns) ss = rw append_assoc (rows_still ns (os ++ ts) ss within) in
+    rw (is_a, is_b, is_d) (simp (map-append, still, row_new ns os ts))
 
 -- each of them ends among the numbers
 pub within_more : (ns os ts : List ℕ) (ss : List Span) (a b d : ℕ) → AreWithin ns ss → a ≡ length ns → b ≡ length os → d ≡ length ts

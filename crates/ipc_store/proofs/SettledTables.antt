@@ -1,18 +1,14 @@
 -- Kernels in which other tables of a process leave each place as it was.
-use Rattle.std.proofs.Common.{◌≡◌, ℕ, ◌<◌, Bool, true, false, cond, ◌||◌, List, [], ◌∷◌, zero, suc, replicate, length, get_or, set, arith, Option, Some, None, is_none, position, unwrap_or, slice_get, refl, sym, ap, ◌∙◌, inl, inr}
+use Rattle.std.proofs.Common.{◌≡◌, ℕ, Bool, true, false, ◌||◌, List, [], ◌∷◌, zero, suc, replicate, get_or, set, Some, unwrap_or, slice_get, refl, sym, ap, ◌∙◌}
 use Rattle.std.specs.List.{list_any, list_all}
 use Rattle.std.proofs.lemmas.Bool.{and_parts, or_parts}
-use Rattle.std.proofs.lemmas.List.{ext_get_or, set-get_or}
-use Rattle.std.proofs.lemmas.List.Quantifiers.{position-Some}
-use Rattle.std.proofs.lemmas.Option.{unwrap_or-slice_get, get_or_from_slice_get}
+use Rattle.std.proofs.lemmas.Option.{unwrap_or-slice_get}
 use Rattle.ipc_kernel.specs.declared.place.Place.{Place}
 use Rattle.ipc_kernel.specs.declared.place.Place.TheVariants.{Empty, Mq, Sem}
 use Rattle.ipc_kernel.specs.declared.process.OpenTables.{OpenTables}
-use Rattle.ipc_kernel.specs.Processes.{is_referred}
 use Rattle.ipc_kernel.specs.Places.{place_at, is_empty, has_name, place_or_empty, places_or_empty}
 use Rattle.ipc_kernel.specs.Operands.{are_named}
-use Rattle.ipc_kernel.proofs.PlaceLemmas.{get_or-emptied, length-emptied}
-use Rattle.ipc_kernel.proofs.KernelLemmas.{kept-Empty, settled_by, settled_at}
+use Rattle.ipc_kernel.proofs.KernelLemmas.{kept-Empty, settled_by}
 
 -- an element that was written is read
 pub get_set : {A : Type 0} (xs : List A) (i : ℕ) (x y : A) → slice_get xs i ≡ Some x → slice_get (set xs i y) i ≡ Some y
@@ -47,7 +43,12 @@ place_kept ps n (Sem name value) e = rw e refl
 pub settled_named : (ps : List OpenTables) (places : List Place) → are_named places ≡ true → places_or_empty ps places ≡ places
 settled_named ps places e = settled_by ps places (λ n h. place_kept ps n (get_or places n Empty) (ap (λ p. is_empty p || has_name p) (sym (unwrap_or-slice_get places n Empty)) ∙ all_at (λ p. is_empty p || has_name p) places n Empty refl e))
 
--- empty places are so
+-- empty places
+pub place_at-empties : (m i : ℕ) → place_at (replicate m Empty) i ≡ Empty
+place_at-empties zero i = refl
+place_at-empties (suc m) zero = refl
+place_at-empties (suc m) (suc i) = place_at-empties m i
+
 pub empty_named : (m : ℕ) → are_named (replicate m Empty) ≡ true
 empty_named zero = refl
 empty_named (suc m) = empty_named m

@@ -1,44 +1,17 @@
 -- What a call works on: the place of what it has open, or where an open finds a name; and what it may leave there.
-use Rattle.std.proofs.Common.{◌≡◌, ◌≢◌, ℕ, ◌-◌, ◌+◌, ◌==◌, Bool, true, false, cond, ◌||◌, ◌&&◌, not, nat_lt, nat_le, List, [], ◌∷◌, zero, suc, length, set, Option, Some, None, Result, Ok, Err, is_none, position, unwrap_or, slice_get, option_and_then, refl, sym, ap, subst, ◌∙◌, ◌⊎◌, inl, inr}
-use Rattle.std.specs.Option.{option_map}
-use Rattle.std.specs.List.{list_any}
-use Rattle.std.proofs.lemmas.Bool.{false≢true, or_parts}
-use Rattle.std.proofs.lemmas.Bool.Decides.{eqb_tells}
-use Rattle.std.proofs.lemmas.Iterator.Adapters.{option_map_id}
-use Rattle.std.proofs.lemmas.List.{map-set, set-get_or}
-use Rattle.std.proofs.lemmas.List.Quantifiers.{position-Some}
-use Rattle.std.proofs.lemmas.Option.{unwrap_or-slice_get}
-use Rattle.ipc_names.specs.declared.errno.Errno.{Errno}
-use Rattle.ipc_names.specs.declared.errno.Errno.TheVariants.{Again, BadDescriptor, Exists, Invalid, MessageSize, NoEntry, NoSpace, Overflow, TooManyOpen}
-use Rattle.ipc_names.specs.declared.flags.Flags.{Flags}
-use Rattle.ipc_names.specs.Errno.{number_of}
-use Rattle.ipc_names.specs.Flags.{flags_read, has_flag, o_creat, o_excl, o_nonblock}
-use Rattle.ipc_objects.specs.declared.queue.Message.{Message}
-use Rattle.ipc_objects.specs.Limits.{mq_prio_max, sem_value_max}
-use Rattle.ipc_objects.specs.Queue.{QueueState, empty_queue, with_message}
-use Rattle.ipc_kernel.specs.Limits.{opens_max}
+use Rattle.std.proofs.Common.{◌≡◌, ℕ, Bool, true, false, List, Option, Some, None, position, unwrap_or, refl, sym, ap, ◌∙◌, ◌⊎◌, inl}
+use Rattle.ipc_objects.specs.Queue.{QueueState, empty_queue}
 use Rattle.ipc_kernel.specs.declared.place.Place.{Place}
 use Rattle.ipc_kernel.specs.declared.place.Place.TheVariants.{Empty, Mq, Sem as SemPlace}
 use Rattle.ipc_kernel.specs.declared.process.OpenTables.{OpenTables}
-use Rattle.ipc_kernel.specs.declared.process.Slot.{Slot}
-use Rattle.ipc_kernel.specs.declared.process.Descriptor.{Descriptor}
 use Rattle.ipc_kernel.specs.declared.call.Call.{Call}
-use Rattle.ipc_kernel.specs.declared.call.Call.TheVariants.{MqOpen, MqClose, MqUnlink, MqSend, MqReceive, MqGetattr, MqSetattr, SemOpen, SemClose, SemUnlink, SemWait, SemTrywait, SemPost, SemGetvalue, Exit}
+use Rattle.ipc_kernel.specs.declared.call.Call.TheVariants.{MqOpen, MqClose, MqUnlink, SemOpen, SemClose, SemUnlink, Exit}
 use Rattle.ipc_kernel.specs.declared.call.Handle.{Handle}
 use Rattle.ipc_kernel.specs.declared.call.Handle.TheVariants.{Mqd, Slot as Sem}
-use Rattle.ipc_kernel.specs.declared.call.Reply.{Reply}
-use Rattle.ipc_kernel.specs.declared.call.Reply.TheVariants.{Plain, Message as received, Attr, Value}
-use Rattle.ipc_kernel.specs.declared.call.Answer.{Answer}
-use Rattle.ipc_kernel.specs.declared.call.Answer.TheVariants.{Done, Wait}
-use Rattle.ipc_kernel.specs.Processes.{process_at, descriptor_of, slot_of, free_descriptor_of, free_slot_of, slot_for, descriptor_refers, slot_refers, process_refers}
-use Rattle.ipc_kernel.specs.Places.{place_at, is_empty, has_name, queue_name, semaphore_name, place_named, queue_named, semaphore_named, queue_in, semaphore_value, with_queue, with_value, are_sizes, places_or_empty}
-use Rattle.ipc_kernel.specs.Kernel.{KernelState, IsSettled}
-use Rattle.ipc_kernel.specs.Outcomes.{Outcome, refusal, completion, wait_or_again, open_queue, open_semaphore, with_queue_at, with_value_at}
-use Rattle.ipc_kernel.specs.Queues.{sizes_asked, descriptor_for, new_descriptor, mq_create_at, mq_create, mq_look_up, mq_open, mq_close, mq_send, mq_receive, take_first, attributes, mq_getattr, mq_setattr}
-use Rattle.ipc_kernel.specs.Semaphores.{new_slot, one_more_open, sem_open_place, sem_create_at, sem_create, sem_look_up, sem_open, sem_close, sem_wait, sem_trywait, sem_post, sem_getvalue}
-use Rattle.ipc_kernel.specs.Answer.{answer}
-use Rattle.ipc_kernel.specs.Alike.{renamed_descriptor, renamed_slot, renamed_process, IsPermutation}
-use Rattle.ipc_kernel.specs.Operands.{handle_of, place_of, with_operand, HasOperand}
+use Rattle.ipc_kernel.specs.Processes.{process_refers}
+use Rattle.ipc_kernel.specs.Places.{is_empty, has_name, queue_name, semaphore_name, place_named, with_queue, with_value}
+use Rattle.ipc_kernel.specs.Queues.{sizes_asked}
+use Rattle.ipc_kernel.specs.Operands.{handle_of, place_of}
 
 -- what an open finds by its name: an object, or none and an empty place, or neither
 pub data Lookup : Type 0 where

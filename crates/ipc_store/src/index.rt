@@ -92,7 +92,6 @@ impl Index {
         Ok(())
     }
 
-    /// The chain of a hash.
     fn chain(&self, hash: u32) -> usize {
         hash as usize & self.newest.len().wrapping_sub(1)
     }

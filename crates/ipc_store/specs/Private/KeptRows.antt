@@ -1,9 +1,21 @@
 -- How the rows of kernels that are kept stand among numbers.
-use Rattle.std.specs.Prelude.{◌≡◌, ℕ, ◌+◌, ◌≤◌, List, Some, length, take, drop, slice_get}
+use Rattle.std.specs.Prelude.{◌≡◌, ℕ, ◌+◌, ◌≤◌, ◌⊎◌, List, [], ◌∷◌, ◌++◌, Some, length, take, drop, slice_get}
 use Rattle.ipc_kernel.specs.declared.place.Place.{Place}
 use Rattle.ipc_kernel.specs.declared.process.OpenTables.{OpenTables}
 use Rattle.ipc_store.specs.declared.kept.rows.Span.{Span}
 use Rattle.ipc_store.specs.Rows.{KernelRow}
+
+-- the row of these numbers of objects and of tables
+abbrev pub row : List ℕ → List ℕ → KernelRow
+row objects tables = record { objects = objects; tables = tables }
+
+-- what stands in the one list stands at the same place in the other
+abbrev pub Grows : {X : Type 0} → List X → List X → Type 0
+Grows {X} xs ys = (i : ℕ) (x : X) → slice_get xs i ≡ Some x → slice_get ys i ≡ Some x
+
+-- a row is added to others, or nothing is
+abbrev pub AddsRow : List KernelRow → List KernelRow → KernelRow → Type 0
+AddsRow old new r = (new ≡ old) ⊎ (new ≡ old ++ r ∷ [])
 
 -- each number of a row is that of an object, or of tables
 pub record IsRow (objects : List Place) (tables : List OpenTables) (r : KernelRow) : Type 0 where

@@ -4,7 +4,6 @@ ghost use Rattle.ipc_store.specs.Private.Renamings.{Permutes};
 use crate::arrangement::Arrangement;
 use ipc_kernel::{Descriptor, OpenTables, Slot};
 
-/// Takes the place of each open descriptor.
 fn arrange_descriptors(descriptors: &[Option<Descriptor>], arrangement: &mut Arrangement)
     requires permutation { Permutes arrangement.old.renaming }
     ensures permutation { Permutes arrangement.new.renaming }
@@ -16,7 +15,6 @@ fn arrange_descriptors(descriptors: &[Option<Descriptor>], arrangement: &mut Arr
     }
 }
 
-/// Takes the place of each open slot.
 fn arrange_slots(slots: &[Option<Slot>], arrangement: &mut Arrangement)
     requires permutation { Permutes arrangement.old.renaming }
     ensures permutation { Permutes arrangement.new.renaming }

@@ -1,12 +1,12 @@
 //! Objects, each once.
-ghost use Rattle.std.specs.Prelude.{◌≡◌, ◌||◌, ℕ, [], Some, map, position, slice_get, IfOk, IfSome};
+ghost use Rattle.std.specs.Prelude.{◌≡◌, ◌||◌, [], Some, length, map, position, slice_get, unwrap_or, IfOk, IfSome};
 ghost use Rattle.std.specs.List.{list_all};
 ghost use Rattle.std.specs.Str.{bytes_eq};
-ghost use Rattle.std.specs.Option.{option_copied, option_or};
+ghost use Rattle.std.specs.Option.{option_copied};
 ghost use Rattle.ipc_kernel.specs.declared.place.Place.{Place};
 ghost use Rattle.ipc_kernel.specs.declared.place.Place.TheVariants.{Empty};
-ghost use Rattle.ipc_kernel.specs.Limits.{object_places};
-ghost use Rattle.ipc_kernel.specs.Places.{place_at, is_empty, has_name, is_name, padded};
+ghost use Rattle.ipc_kernel.specs.Places.{place_at, is_empty, has_name, is_name};
+ghost use Rattle.ipc_store.specs.Private.KeptRows.{Grows};
 ghost use Rattle.ipc_store.specs.Private.Kinds.{name_of};
 
 use super::rows::number_of;
@@ -31,7 +31,6 @@ fn is_text(text: &str, other: &str) -> bool
     text == other
 }
 
-/// Whether a name is this one.
 #[inline(always)]
 fn is_name(name: &Name, other: Option<&Name>) -> bool
     ensures same { result ≡ is_name name.now (option_copied other.entry) }
@@ -114,7 +113,6 @@ impl Objects {
         self.objects.get(number as usize)
     }
 
-    /// Whether an object is one of a kind with a name.
     fn is_named(&self, number: u32, kind: Kind, name: &Name) -> bool
         ensures named { result ≡ is_name name.now (name_of kind (place_at self.now number)) }
     {
@@ -131,7 +129,6 @@ impl Objects {
         self.get(number).is_some_and(|object| object.has_name())
     }
 
-    /// Whether an object is none.
     fn is_empty(&self, number: u32) -> bool
         ensures empty { result ≡ is_empty (place_at self.now number) }
     {
@@ -141,7 +138,6 @@ impl Objects {
         }
     }
 
-    /// Whether an object is none, or has a name.
     fn is_empty_or_named(&self, number: u32) -> bool
         ensures named { result
             ≡ (is_empty (place_at self.now number) || has_name (place_at self.now number)) }
@@ -169,26 +165,18 @@ impl Objects {
         numbers.iter().position(|number| self.is_empty(*number))
     }
 
-    /// The least empty place of a kernel, whose objects are given by their numbers, up to the last.
-    fn empty_place(&self, numbers: &[u32]) -> Option<usize>
-        ensures place { result ≡ position is_empty
-            (padded object_places (map (place_at self.now) numbers.now)) }
+    /// The place of the one of a kind with a name among objects, which are given by their numbers;
+    /// or else the first that is none, or the one behind them.
+    pub(crate) fn opened(&self, numbers: &[u32], kind: Kind, name: &Name) -> usize
+        ensures place { result ≡ unwrap_or
+            (position (λ n. is_name name.now (name_of kind (place_at self.now n))) numbers.now)
+            (unwrap_or (position (λ n. is_empty (place_at self.now n)) numbers.now)
+            (length numbers.now)) }
     {
-        if let Some(place) = self.first_empty(numbers) {
-            return Some(place);
+        match self.place_named(numbers, kind, name) {
+            Some(place) => place,
+            None => self.first_empty(numbers).unwrap_or(numbers.len()),
         }
-        if numbers.len() < OBJECT_PLACES {
-            return Some(numbers.len());
-        }
-        None
-    }
-
-    /// The place that is named, if there is one, or else the least empty place.
-    pub(crate) fn named_or_empty(&self, numbers: &[u32], named: Option<usize>) -> Option<usize>
-        ensures place { result ≡ option_or named (position is_empty
-            (padded object_places (map (place_at self.now) numbers.now))) }
-    {
-        named.or_else(|| self.empty_place(numbers))
     }
 
     /// Whether each of some objects, which are given by their numbers, has a name.
@@ -222,8 +210,7 @@ impl Objects {
     /// Keeps an object; with its number.
     pub(crate) fn keep(&mut self, alloc: Global, object: &Place) -> Result<u32, AllocError>
         ensures kept { IfOk result (λ i. slice_get self.new i ≡ Some object.now) }
-        ensures grows { (i : ℕ) (x : Place)
-            → slice_get self.old i ≡ Some x → slice_get self.new i ≡ Some x }
+        ensures grows { Grows self.old self.new }
     {
         let digest = object.digest();
         if let Some(number) = self.find(object, digest) {
@@ -249,8 +236,7 @@ impl Objects {
     ) -> Result<Vec<u32>, AllocError>
         ensures kept { IfOk result (λ numbers.
             map (slice_get self.new) numbers.items ≡ map Some objects.now) }
-        ensures grows { (i : ℕ) (x : Place)
-            → slice_get self.old i ≡ Some x → slice_get self.new i ≡ Some x }
+        ensures grows { Grows self.old self.new }
     {
         let mut numbers = Vec::with_capacity(alloc, objects.len())?;
         for object in objects {

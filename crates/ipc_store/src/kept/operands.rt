@@ -10,15 +10,8 @@ ghost use Rattle.ipc_kernel.specs.Operands.{place_of, if_named, are_named, opera
 
 use super::Kernels;
 use super::objects::Kind;
-use ipc_kernel::{Call, Handle};
+use ipc_kernel::{Call, Handle, OBJECT_PLACES};
 use ipc_names::Name;
-
-/// The number of a place, if it is small enough.
-fn as_place(at: usize) -> Option<u8>
-    ensures place { IfSome result (λ i. i ≡ at) }
-{
-    u8::try_from(at).ok()
-}
 
 impl Kernels {
     /// The place of the object of a kind with a name in a kernel, or else the least empty one.
@@ -29,10 +22,11 @@ impl Kernels {
             ≡ Some i) }
     {
         let (objects, _) = self.rows.row(kernel)?;
-        let named = self.objects.place_named(objects, kind, name);
-        let first = self.objects.named_or_empty(objects, named)?;
-        let place = as_place(first)?;
-        Some(place)
+        let place = self.objects.opened(objects, kind, name);
+        if place >= OBJECT_PLACES {
+            return None;
+        }
+        Some(place as u8)
     }
 
     /// A place of a kernel, if the object in it has a name.
@@ -48,7 +42,6 @@ impl Kernels {
         None
     }
 
-    /// Whether each object of a kernel has a name.
     fn are_named(&self, kernel: u32) -> bool
         ensures named { IsTrue result → (k : KernelState)
             → slice_get self.now.kernels kernel ≡ Some k → IsTrue (are_named k.places) }

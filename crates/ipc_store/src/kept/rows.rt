@@ -1,7 +1,6 @@
 //! Rows of numbers, each once.
-ghost use Rattle.std.specs.Prelude.{◌≡◌, ◌<◌, ◌⊎◌, ℕ, [], Some, length, slice_get, slice_set, IfOk, IfSome, IsTrue, ◌+◌, ◌≤◌, None, IfNone};
-ghost use Rattle.ipc_store.specs.Rows.{KernelRow};
-ghost use Rattle.ipc_store.specs.Private.KeptRows.{row_of};
+ghost use Rattle.std.specs.Prelude.{◌≡◌, ◌<◌, [], Some, length, slice_get, slice_set, IfOk, IfSome, IsTrue, ◌+◌, ◌≤◌, None, IfNone};
+ghost use Rattle.ipc_store.specs.Private.KeptRows.{AddsRow, row, row_of};
 
 use super::changes::{Change, digest_from};
 use super::digests::Digests;
@@ -47,8 +46,7 @@ const TABLES: usize = OBJECT_PLACES;
 /// The parts of a row that stands at a place among numbers.
 fn parts_of(numbers: &[u32], span: Span) -> (&[u32], &[u32])
     requires within { span.start + span.objects + span.tables ≤ length numbers.now }
-    ensures row { record { objects = result.0.now; tables = result.1.now }
-        ≡ row_of numbers.now span }
+    ensures row { row result.0.now result.1.now ≡ row_of numbers.now span }
 {
     let (_, numbers) = numbers.split_at(span.start as usize);
     let (objects, others) = numbers.split_at(span.objects as usize);
@@ -69,8 +67,7 @@ impl Rows {
 
     /// The row with a number, if there is one: its objects, and its tables.
     pub(crate) fn row(&self, number: u32) -> Option<(&[u32], &[u32])>
-        ensures row { IfSome result (λ r. slice_get self.now number
-            ≡ Some (record { objects = r.0.now; tables = r.1.now })) }
+        ensures row { IfSome result (λ r. slice_get self.now number ≡ Some (row r.0.now r.1.now)) }
         ensures none { IfNone result (slice_get self.now number ≡ None) }
     {
         match self.spans.get(number as usize) {
@@ -82,7 +79,7 @@ impl Rows {
     /// The number of a row, if it is kept.
     fn find(&self, objects: &[u32], tables: &[u32], digest: u64) -> Option<u32>
         ensures found { IfSome result (λ i. slice_get self.now i
-            ≡ Some (record { objects = objects.now; tables = tables.now })) }
+            ≡ Some (row objects.now tables.now)) }
     {
         let index = &self.digests.index;
         index.find(digest, |at| self.is_at(at, objects, tables))
@@ -91,7 +88,7 @@ impl Rows {
     /// Whether a row is the one with a number.
     fn is_at(&self, number: u32, objects: &[u32], tables: &[u32]) -> bool
         ensures same { IsTrue result → slice_get self.now number
-            ≡ Some (record { objects = objects.now; tables = tables.now }) }
+            ≡ Some (row objects.now tables.now) }
     {
         match self.row(number) {
             Some(row) => are_same(row.0, objects) && are_same(row.1, tables),
@@ -102,28 +99,26 @@ impl Rows {
     /// The number of the row that those of a row make, each changed at a place, if it is kept.
     pub(crate) fn find_changed(
         &self,
-        row: u32,
+        number: u32,
         objects: &Change<'_>,
         tables: &Change<'_>,
     ) -> Option<u32>
-        ensures found { IfSome result (λ i. slice_get self.now i ≡ Some (record {
-          objects = slice_set objects.now.numbers.now objects.now.at objects.now.number;
-          tables = slice_set tables.now.numbers.now tables.now.at tables.now.number;
-        })) }
+        ensures found { IfSome result (λ i. slice_get self.now i ≡ Some (row
+            (slice_set objects.now.numbers.now objects.now.at objects.now.number)
+            (slice_set tables.now.numbers.now tables.now.at tables.now.number))) }
         ensures range { IfSome result (λ i. objects.now.at < length objects.now.numbers.now) }
     {
         let growth = objects.growth(0).wrapping_add(tables.growth(TABLES));
-        let digest = self.digests.get(row).wrapping_add(growth);
+        let digest = self.digests.get(number).wrapping_add(growth);
         let index = &self.digests.index;
         index.find(digest, |at| self.is_changed(at, objects, tables))
     }
 
     /// Whether others, each changed at a place, make the row with a number.
     fn is_changed(&self, number: u32, objects: &Change<'_>, tables: &Change<'_>) -> bool
-        ensures same { IsTrue result → slice_get self.now number ≡ Some (record {
-          objects = slice_set objects.now.numbers.now objects.now.at objects.now.number;
-          tables = slice_set tables.now.numbers.now tables.now.at tables.now.number;
-        }) }
+        ensures same { IsTrue result → slice_get self.now number ≡ Some (row
+            (slice_set objects.now.numbers.now objects.now.at objects.now.number)
+            (slice_set tables.now.numbers.now tables.now.at tables.now.number)) }
         ensures range { IsTrue result → objects.now.at < length objects.now.numbers.now }
     {
         match self.row(number) {
@@ -140,13 +135,8 @@ impl Rows {
 
     /// Keeps a row; with its number.
     pub(crate) fn keep(&mut self, objects: &[u32], tables: &[u32]) -> Result<u32, AllocError>
-        ensures kept { IfOk result (λ i. slice_get self.new i
-            ≡ Some (record { objects = objects.now; tables = tables.now })) }
-        ensures grows { (i : ℕ) (r : KernelRow)
-            → slice_get self.old i ≡ Some r → slice_get self.new i ≡ Some r }
-        ensures only { (i : ℕ) (r : KernelRow) → slice_get self.new i ≡ Some r
-            → (slice_get self.old i ≡ Some r)
-            ⊎ (r ≡ record { objects = objects.now; tables = tables.now }) }
+        ensures kept { IfOk result (λ i. slice_get self.new i ≡ Some (row objects.now tables.now)) }
+        ensures adds { AddsRow self.old self.new (row objects.now tables.now) }
     {
         let digest = digest_from(0, objects).wrapping_add(digest_from(TABLES, tables));
         if let Some(number) = self.find(objects, tables, digest) {
@@ -165,15 +155,9 @@ impl Rows {
         Ok(())
     }
 
-    /// Adds a row; with its number.
     fn add(&mut self, objects: &[u32], tables: &[u32], digest: u64) -> Result<u32, AllocError>
-        ensures kept { IfOk result (λ i. slice_get self.new i
-            ≡ Some (record { objects = objects.now; tables = tables.now })) }
-        ensures grows { (i : ℕ) (r : KernelRow)
-            → slice_get self.old i ≡ Some r → slice_get self.new i ≡ Some r }
-        ensures only { (i : ℕ) (r : KernelRow) → slice_get self.new i ≡ Some r
-            → (slice_get self.old i ≡ Some r)
-            ⊎ (r ≡ record { objects = objects.now; tables = tables.now }) }
+        ensures kept { IfOk result (λ i. slice_get self.new i ≡ Some (row objects.now tables.now)) }
+        ensures adds { AddsRow self.old self.new (row objects.now tables.now) }
     {
         let number = number_of(self.spans.len())?;
         let span = Span {

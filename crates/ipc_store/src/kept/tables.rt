@@ -1,9 +1,10 @@
 //! Tables of processes, each once.
-ghost use Rattle.std.specs.Prelude.{◌≡◌, ℕ, List, [], Some, map, slice_get, slice_set, IfOk, IfSome};
+ghost use Rattle.std.specs.Prelude.{◌≡◌, List, [], Some, map, slice_get, slice_set, IfOk, IfSome};
 ghost use Rattle.std.specs.Option.{option_copied};
 ghost use Rattle.ipc_kernel.specs.declared.process.OpenTables.{OpenTables};
 ghost use Rattle.ipc_kernel.specs.Processes.{process_at};
 ghost use Rattle.ipc_kernel.specs.Alike.{renamed_process};
+ghost use Rattle.ipc_store.specs.Private.KeptRows.{Grows};
 ghost use Rattle.ipc_store.specs.Private.Renamings.{renamed_by};
 
 use super::changes::with_number;
@@ -65,8 +66,7 @@ impl Tables {
     /// Keeps tables; with their number.
     pub(crate) fn keep(&mut self, tables: &OpenTables) -> Result<u32, AllocError>
         ensures kept { IfOk result (λ i. slice_get self.new i ≡ Some tables.now) }
-        ensures grows { (i : ℕ) (x : OpenTables)
-            → slice_get self.old i ≡ Some x → slice_get self.new i ≡ Some x }
+        ensures grows { Grows self.old self.new }
     {
         let digest = tables.digest();
         if let Some(number) = self.find(tables, digest) {
@@ -87,8 +87,7 @@ impl Tables {
     ) -> Result<Vec<u32>, AllocError>
         ensures kept { IfOk result (λ numbers.
             map (slice_get self.new) numbers.items ≡ map Some processes.now) }
-        ensures grows { (i : ℕ) (x : OpenTables)
-            → slice_get self.old i ≡ Some x → slice_get self.new i ≡ Some x }
+        ensures grows { Grows self.old self.new }
     {
         let mut numbers = Vec::with_capacity(alloc, processes.len())?;
         for tables in processes {
@@ -117,8 +116,7 @@ impl Tables {
         to: &[u8],
         taken: Taken,
     ) -> Result<Option<u32>, AllocError>
-        ensures grows { (i : ℕ) (x : OpenTables)
-            → slice_get self.old i ≡ Some x → slice_get self.new i ≡ Some x }
+        ensures grows { Grows self.old self.new }
         ensures renamed { IfOk result (λ found. IfSome found (λ i. slice_get self.new i
             ≡ Some (renamed_process (renamed_by to.now) (process_at self.old number)))) }
     {
@@ -143,8 +141,7 @@ impl Tables {
         to: &[u8],
         taken: Taken,
     ) -> Result<Option<Vec<u32>>, AllocError>
-        ensures grows { (i : ℕ) (x : OpenTables)
-            → slice_get self.old i ≡ Some x → slice_get self.new i ≡ Some x }
+        ensures grows { Grows self.old self.new }
         ensures renamed { IfOk result (λ found. IfSome found (λ kept. (us : List OpenTables)
             × (map (slice_get self.new) kept.items ≡ map Some us)
             × (us ≡ map (renamed_process (renamed_by to.now))
@@ -173,8 +170,7 @@ impl Tables {
         to: &[u8],
         taken: Taken,
     ) -> Result<Option<Vec<u32>>, AllocError>
-        ensures grows { (i : ℕ) (x : OpenTables)
-            → slice_get self.old i ≡ Some x → slice_get self.new i ≡ Some x }
+        ensures grows { Grows self.old self.new }
         ensures renamed { IfOk result (λ found. IfSome found (λ kept. (us : List OpenTables)
             × (map (slice_get self.new) kept.items ≡ map Some us)
             × (us ≡ map (renamed_process (renamed_by to.now))

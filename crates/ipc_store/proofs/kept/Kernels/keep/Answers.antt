@@ -1,7 +1,9 @@
 use Rattle.std.proofs.Common.{Some, ap, ◌∙◌}
 use Rattle.std.proofs.lemmas.Result.{IfOk-weaker}
 use Rattle.ipc_kernel.specs.Kernel.{KernelState}
-use Rattle.ipc_store.proofs.KeptLemmas.{rows_grow, rows_kept, kept_grows, kernel_of_parts}
+use Rattle.ipc_store.proofs.KeptLemmas.{rows_grow, adds_grows, rows_with, kept_grows, kernel_of_parts}
+use Rattle.ipc_store.proofs.NumberLemmas.{numbers_there}
+use Rattle.ipc_store.specs.Private.KeptRows.{row}
 use Rattle.ipc_store.proofs.kept.Kernels.keep.Goals as goal
 
 pub invariant_of-self : goal.invariant_of-self
@@ -12,14 +14,17 @@ invariant_of-self-in_err-tables c =
     rows_grow c.self.inside.objects c.keep_all.new.self c.self.inside.tables c.keep_all-2.new.self c.self.inside.rows c.keep_all.ensures.grows c.keep_all-2.ensures.grows c.self.invariant
 
 pub invariant_of-self-2 : goal.invariant_of-self-2
-invariant_of-self-2 c = rows_kept c.self.inside.objects c.keep_all.new.self c.self.inside.tables c.keep_all-2.new.self c.self.inside.rows c.keep.new.self
-    c.as_slice.result.now c.as_slice-2.result.now c.objects.result.now c.tables.result.now c.keep_all.ensures.grows c.keep_all-2.ensures.grows c.self.invariant
-    (rw c.as_slice.ensures.value c.in_ok-objects.ensures.kept) (rw c.as_slice-2.ensures.value c.in_ok-tables.ensures.kept) c.keep.ensures.only
+invariant_of-self-2 c = rows_with c.keep_all.new.self c.keep_all-2.new.self c.self.inside.rows c.keep.new.self (row c.as_slice.result.now c.as_slice-2.result.now)
+    (rows_grow c.self.inside.objects c.keep_all.new.self c.self.inside.tables c.keep_all-2.new.self c.self.inside.rows c.keep_all.ensures.grows c.keep_all-2.ensures.grows c.self.invariant)
+    (record {
+      of_objects = numbers_there c.keep_all.new.self c.as_slice.result.now c.objects.result.now (rw c.as_slice.ensures.value c.in_ok-objects.ensures.kept);
+      of_tables = numbers_there c.keep_all-2.new.self c.as_slice-2.result.now c.tables.result.now (rw c.as_slice-2.ensures.value c.in_ok-tables.ensures.kept);
+    }) c.keep.ensures.adds
 
 pub returns-clause-grows : goal.returns-clause-grows
 returns-clause-grows c =
     rw (← c.self.view_is) (IfOk-weaker c.keep.result _ _ (λ i kept. kept_grows c.self.inside.objects c.keep_all.new.self c.self.inside.tables c.keep_all-2.new.self c.self.inside.rows c.keep.new.self
-    c.keep_all.ensures.grows c.keep_all-2.ensures.grows c.keep.ensures.grows c.self.invariant) c.keep.ensures.kept)
+    c.keep_all.ensures.grows c.keep_all-2.ensures.grows (adds_grows c.self.inside.rows c.keep.new.self _ c.keep.ensures.adds) c.self.invariant) c.keep.ensures.kept)
 
 pub returns-clause-kept : goal.returns-clause-kept
 returns-clause-kept c =

@@ -1,6 +1,6 @@
 use Rattle.std.proofs.Common.{◌≡◌, Some, map, slice_get, set, refl, sym, subst}
 use Rattle.ipc_store.specs.Private.Renamings.{renamed_by}
-use Rattle.ipc_store.proofs.KeptLemmas.{rows_grow, kept_grows}
+use Rattle.ipc_store.proofs.KeptLemmas.{rows_grow, adds_grows, kept_grows}
 use Rattle.ipc_store.proofs.ArrangedRows.{kernel_with_new, rows_with_new}
 use Rattle.ipc_store.proofs.kept.Kernels.keep_with_new.Goals as goal
 
@@ -21,7 +21,7 @@ invariant_of-self-in_err-number c =
     c.args.kernel c.args.place c.args.object (renamed_by c.arrangement-arrangement.result.renaming.to) (renamed_by c.arrangement-arrangement.result.renaming.from) c.in-Some-get.field-0.now kept.0
     c.keep_changed.ensures.grows c.self.invariant c.in-Some.ensures.row (sym c.in-Some-get.ensures.object) c.arrangement-arrangement.ensures.permutation
     (rw c.as_slice.ensures.value (rw c.in-Some-2.is at c.in_ok-moved.ensures.moved)) (rw c.as_slice.ensures.value (rw c.in-Some-2.is at c.in_ok-moved.ensures.few_moved))
-    (subst (λ v. map (slice_get c.keep_changed.new.self) v ≡ map Some kept.0) (sym c.as_slice-2.ensures.value) kept.1) c.keep.ensures.only
+    (subst (λ v. map (slice_get c.keep_changed.new.self) v ≡ map Some kept.0) (sym c.as_slice-2.ensures.value) kept.1) c.keep.ensures.adds
 
 pub invariant_of-self-2 : goal.invariant_of-self-2
 invariant_of-self-2 c =
@@ -30,11 +30,12 @@ invariant_of-self-2 c =
     c.args.kernel c.args.place c.args.object (renamed_by c.arrangement-arrangement.result.renaming.to) (renamed_by c.arrangement-arrangement.result.renaming.from) c.in-Some-get.field-0.now kept.0
     c.keep_changed.ensures.grows c.self.invariant c.in-Some.ensures.row (sym c.in-Some-get.ensures.object) c.arrangement-arrangement.ensures.permutation
     (rw c.as_slice.ensures.value (rw c.in-Some-2.is at c.in_ok-moved.ensures.moved)) (rw c.as_slice.ensures.value (rw c.in-Some-2.is at c.in_ok-moved.ensures.few_moved))
-    (subst (λ v. map (slice_get c.keep_changed.new.self) v ≡ map Some kept.0) (sym c.as_slice-2.ensures.value) kept.1) c.keep.ensures.only
+    (subst (λ v. map (slice_get c.keep_changed.new.self) v ≡ map Some kept.0) (sym c.as_slice-2.ensures.value) kept.1) c.keep.ensures.adds
 
 pub returns-clause-grows : goal.returns-clause-grows
 returns-clause-grows c = rw (← c.self.view_is) (
-    kept_grows c.self.inside.objects c.self.inside.objects c.self.inside.tables c.keep_changed.new.self c.self.inside.rows c.keep.new.self (λ i x e. e) c.keep_changed.ensures.grows c.keep.ensures.grows c.self.invariant)
+    kept_grows c.self.inside.objects c.self.inside.objects c.self.inside.tables c.keep_changed.new.self c.self.inside.rows c.keep.new.self (λ i x e. e) c.keep_changed.ensures.grows
+    (adds_grows c.self.inside.rows c.keep.new.self _ c.keep.ensures.adds) c.self.invariant)
 
 pub returns-clause-alike : goal.returns-clause-alike
 returns-clause-alike c =
