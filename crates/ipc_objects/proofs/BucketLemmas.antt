@@ -108,22 +108,28 @@ pub joined_last : (es : Entries) (e : ℕ × List Message) → messages_of_bucke
 joined_last [] e = sym (append-nil e.1)
 joined_last (f ∷ es) e = ap (λ ms. ms ++ f.1) (joined_last es e) ∙ append_assoc e.1 (messages_of_buckets es) f.1
 
--- an entry whose key is above all others goes to the end
-pub put_last : (xs ys : Entries) (e : ℕ × List Message) → IsStrictlySortedBy nat_cmp (keys_of (xs ++ e ∷ ys)) → insert_entry nat_cmp xs e.0 e.1 ≡ xs ++ e ∷ []
-put_last [] ys e sorted = refl
-put_last (x ∷ xs) ys e sorted = by (nat_cmp e.0 x.0) refl (put_last xs ys e (sorted_tail nat_cmp x.0 (keys_of (xs ++ e ∷ ys)) sorted))
+-- a key above those of all entries goes to the end
+put_behind : (p : ℕ) (b : List Message) (es : Entries) → All (λ e. e.0 < p) es → insert_entry nat_cmp es p b ≡ es ++ (p, b) ∷ []
+put_behind p b [] below = refl
+put_behind p b (e ∷ es) below = by (nat_cmp p e.0) refl (put_behind p b es (All-tail (λ f. f.0 < p) e es below))
   where
-    below_last : (zs : Entries) → AllByRecursion (λ q. nat_cmp x.0 q ≡ Less) (keys_of (zs ++ e ∷ ys)) → x.0 < e.0
-    below_last [] all = less_is x.0 e.0 all.0
-    below_last (z ∷ zs) all = below_last zs all.1
+    here : e.0 < p
+    here = All-head (λ f. f.0 < p) e es below
 
-    below : x.0 < e.0
-    below = below_last xs (sorted_head nat_cmp x.0 (keys_of (xs ++ e ∷ ys)) sorted)
+    by : (r : Ordering) → nat_cmp p e.0 ≡ r → insert_entry nat_cmp es p b ≡ es ++ (p, b) ∷ [] → match_ordering r ((p, b) ∷ e ∷ es) ((e.0, b) ∷ es) (e ∷ insert_entry nat_cmp es p b) ≡ e ∷ es ++ (p, b) ∷ []
+    by Less is later = let lt = less_is p e.0 is in absurd (omega (arith, here))
+    by Equal is later = let same = equal_is p e.0 is in absurd (omega (arith, here))
+    by Greater is later = ap (λ zs. e ∷ zs) later
 
-    by : (r : Ordering) → nat_cmp e.0 x.0 ≡ r → insert_entry nat_cmp xs e.0 e.1 ≡ xs ++ e ∷ [] → match_ordering r ((e.0, e.1) ∷ x ∷ xs) ((x.0, e.1) ∷ xs) (x ∷ insert_entry nat_cmp xs e.0 e.1) ≡ x ∷ xs ++ e ∷ []
-    by Less is later = let lt = less_is e.0 x.0 is in absurd (omega (arith, below))
-    by Equal is later = let same = equal_is e.0 x.0 is in absurd (omega (arith, below))
-    by Greater is later = ap (λ zs. x ∷ zs) later
+-- the keys before another one are below it
+keys_before : (xs ys : Entries) (e : ℕ × List Message) → IsStrictlySortedBy nat_cmp (keys_of (xs ++ e ∷ ys)) → All (λ f. f.0 < e.0) xs
+keys_before [] ys e sorted = All-nil (λ f. f.0 < e.0)
+keys_before (x ∷ xs) ys e sorted =
+    All-cons (λ f. f.0 < e.0) x xs (before xs (sorted_head nat_cmp x.0 (keys_of (xs ++ e ∷ ys)) sorted)) (keys_before xs ys e (sorted_tail nat_cmp x.0 (keys_of (xs ++ e ∷ ys)) sorted))
+  where
+    before : (zs : Entries) → AllByRecursion (λ q. nat_cmp x.0 q ≡ Less) (keys_of (zs ++ e ∷ ys)) → x.0 < e.0
+    before [] all = less_is x.0 e.0 all.0
+    before (z ∷ zs) all = before zs all.1
 
 -- what is written to a bucket that is there is put at its priority
 set_is_put : (p : ℕ) (b w : List Message) (es : Entries) → IsStrictlySortedBy nat_cmp (keys_of es) → lookup (is_at (nat_cmp p)) es ≡ Some b → set_value (is_at (nat_cmp p)) es w ≡ insert_entry nat_cmp es p w
@@ -167,7 +173,7 @@ entry_past s t e left n is counted h =
 pub copied_more : (es xs s t new : Entries) (e : ℕ × List Message) (b : List Message) → IsStrictlySortedBy nat_cmp (keys_of es) → xs ++ s ≡ es → s ≡ e ∷ t → b ≡ e.1 → new ≡ insert_entry nat_cmp xs e.0 b → new ++ t ≡ es
 copied_more es xs s t new e b sorted so_far s_is b_is is =
     let whole : xs ++ e ∷ t ≡ es = ap (λ zs. xs ++ zs) (sym s_is) ∙ so_far in
-    let last = put_last xs t e (subst (λ zs. IsStrictlySortedBy nat_cmp (keys_of zs)) (sym whole) sorted) in
+    let last = put_behind e.0 e.1 xs (keys_before xs t e (subst (λ zs. IsStrictlySortedBy nat_cmp (keys_of zs)) (sym whole) sorted)) in
     ap (λ zs. zs ++ t) (is ∙ ap (insert_entry nat_cmp xs e.0) b_is ∙ last) ∙ append_assoc xs (e ∷ []) t ∙ whole
 
 -- where all messages are of lesser priorities, a message is the first
@@ -215,19 +221,12 @@ key_below p e is less = of e.1 is.0 is.1 less
     of [] some each less = absurd (omega arith)
     of (m ∷ ms) some each less = let same = All-head (λ m. m.priority ≡ e.0) m ms each in let lt = All-head (λ m. m.priority < p) m ms less in omega (arith, same, lt)
 
--- a key above those of all buckets goes to the end
-put_above : (p : ℕ) (b : List Message) (es : Entries) → All IsBucket es → All (λ m. m.priority < p) (messages_of_buckets es) → insert_entry nat_cmp es p b ≡ es ++ (p, b) ∷ []
-put_above p b [] each less = refl
-put_above p b (e ∷ es) each less =
-    by (nat_cmp p e.0) refl (put_above p b es (All-tail IsBucket e es each) (all_left (λ m. m.priority < p) (messages_of_buckets es) e.1 less))
-  where
-    below : e.0 < p
-    below = key_below p e (All-head IsBucket e es each) (all_right (λ m. m.priority < p) (messages_of_buckets es) e.1 less)
-
-    by : (r : Ordering) → nat_cmp p e.0 ≡ r → insert_entry nat_cmp es p b ≡ es ++ (p, b) ∷ [] → match_ordering r ((p, b) ∷ e ∷ es) ((e.0, b) ∷ es) (e ∷ insert_entry nat_cmp es p b) ≡ e ∷ es ++ (p, b) ∷ []
-    by Less is later = let lt = less_is p e.0 is in absurd (omega (arith, below))
-    by Equal is later = let same = equal_is p e.0 is in absurd (omega (arith, below))
-    by Greater is later = ap (λ zs. e ∷ zs) later
+-- and so is the priority of each bucket
+keys_below : (p : ℕ) (es : Entries) → All IsBucket es → All (λ m. m.priority < p) (messages_of_buckets es) → All (λ e. e.0 < p) es
+keys_below p [] each less = All-nil (λ e. e.0 < p)
+keys_below p (e ∷ es) each less =
+    All-cons (λ f. f.0 < p) e es (key_below p e (All-head IsBucket e es each) (all_right (λ m. m.priority < p) (messages_of_buckets es) e.1 less))
+    (keys_below p es (All-tail IsBucket e es each) (all_left (λ m. m.priority < p) (messages_of_buckets es) e.1 less))
 
 -- buckets stay buckets whether one of another priority is put in or not
 pub buckets_with : {T E : Type 0} (r : Result T E) (p : ℕ) (b : List Message) (es new : Entries) → AreBuckets es → IsBucket (p, b)
@@ -237,7 +236,7 @@ buckets_with (Err x) p b es new inv bucket is same sorted = rw same inv
 
 -- a bucket of a priority above all others has the first messages
 pub joined_with : (p : ℕ) (b : List Message) (es new : Entries) → AreBuckets es → All (λ m. m.priority < p) (messages_of_buckets es) → new ≡ insert_entry nat_cmp es p b → messages_of_buckets new ≡ b ++ messages_of_buckets es
-joined_with p b es new inv less is = ap messages_of_buckets (is ∙ put_above p b es inv.each less) ∙ joined_last es (p, b)
+joined_with p b es new inv less is = ap messages_of_buckets (is ∙ put_behind p b es (keys_below p es inv.each less)) ∙ joined_last es (p, b)
 
 -- the last bucket, and those before it
 each_before : (es : Entries) (e : ℕ × List Message) → All IsBucket (es ++ e ∷ []) → All IsBucket es × IsBucket e

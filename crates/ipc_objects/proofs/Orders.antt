@@ -1,7 +1,7 @@
 -- The messages of a queue stay in the order of their priorities.
-use Rattle.std.proofs.Common.{◌≡◌, ℕ, ◌≤◌, ◌<◌, Bool, true, false, nat_le, nat_lt, List, [], ◌∷◌, ◌++◌, filter, refl, arith, All, cond}
-use Rattle.std.proofs.lemmas.List.Elements.{All-nil, All-head, All-tail, All-cons, All-append, All-filter, All-weaker}
-use Rattle.std.proofs.lemmas.Bool.Decides.{nat_tests}
+use Rattle.std.proofs.Common.{◌≡◌, ◌≤◌, ◌<◌, Bool, true, false, nat_le, nat_lt, List, [], ◌∷◌, ◌++◌, filter, arith, All, cond}
+use Rattle.std.proofs.lemmas.List.Elements.{All-head, All-tail, All-cons, All-append, All-filter, All-weaker, filter_passes}
+use Rattle.std.proofs.lemmas.Bool.{leb-true, ltb-true}
 use Rattle.ipc_objects.specs.declared.queue.Message.{Message}
 use Rattle.ipc_objects.specs.Queue.{after_send, NeverRises}
 
@@ -22,28 +22,13 @@ rises-filter : (p : Message → Bool) (ms : List Message) → NeverRises ms → 
 rises-filter p [] h = tt
 rises-filter p (m ∷ ms) h = kept-rises (p m) p m ms h (rises-filter p ms h.1)
 
-kept-passes : (b : Bool) (p : Message → Bool) (m : Message) (ms : List Message) → p m ≡ b → All (λ x. p x ≡ true) (filter p ms) → All (λ x. p x ≡ true) (cond b (m ∷ filter p ms) (filter p ms))
-kept-passes true p m ms is rest = All-cons (λ x. p x ≡ true) m (filter p ms) is rest
-kept-passes false p m ms is rest = rest
-
--- what a filter keeps passes its test
-passes : (p : Message → Bool) (ms : List Message) → All (λ x. p x ≡ true) (filter p ms)
-passes p [] = All-nil (λ x. p x ≡ true)
-passes p (m ∷ ms) = kept-passes (p m) p m ms refl (passes p ms)
-
-le-from : (a b : ℕ) → nat_le a b ≡ true → a ≤ b
-le-from a b h = grind (arith, nat_tests)
-
-lt-from : (a b : ℕ) → nat_lt a b ≡ true → a < b
-lt-from a b h = grind (arith, nat_tests)
-
 -- the order still holds after a send
 pub rises-sent : (m : Message) (ms : List Message) → NeverRises ms → NeverRises (after_send m ms)
 rises-sent m ms h =
     let above : All (λ x. m.priority ≤ x.priority) (filter (λ x. nat_le m.priority x.priority) ms) =
-    All-weaker (λ x. nat_le m.priority x.priority ≡ true) (λ x. m.priority ≤ x.priority) (λ x t. le-from m.priority x.priority t) _ (passes (λ x. nat_le m.priority x.priority) ms) in
+    All-weaker (λ x. nat_le m.priority x.priority ≡ true) (λ x. m.priority ≤ x.priority) (λ x t. leb-true m.priority x.priority t) _ (filter_passes (λ x. nat_le m.priority x.priority) ms) in
     let below : All (λ x. x.priority < m.priority) (filter (λ x. nat_lt x.priority m.priority) ms) =
-    All-weaker (λ x. nat_lt x.priority m.priority ≡ true) (λ x. x.priority < m.priority) (λ x t. lt-from x.priority m.priority t) _ (passes (λ x. nat_lt x.priority m.priority) ms) in
+    All-weaker (λ x. nat_lt x.priority m.priority ≡ true) (λ x. x.priority < m.priority) (λ x t. ltb-true x.priority m.priority t) _ (filter_passes (λ x. nat_lt x.priority m.priority) ms) in
     rises-append (filter (λ x. nat_le m.priority x.priority) ms) (m ∷ filter (λ x. nat_lt x.priority m.priority) ms)
     (rises-filter (λ x. nat_le m.priority x.priority) ms h)
     (All-weaker (λ x. x.priority < m.priority) (λ x. x.priority ≤ m.priority) (λ x t. omega arith) _ below, rises-filter (λ x. nat_lt x.priority m.priority) ms h)

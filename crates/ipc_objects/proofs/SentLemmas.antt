@@ -2,6 +2,7 @@
 use Rattle.std.proofs.Common.{◌≡◌, ℕ, zero, suc, ◌+◌, ◌≤◌, ◌<◌, Bool, true, false, not, nat_le, nat_lt, List, [], ◌∷◌, ◌++◌, length, filter, refl, ap, arith, All, append_assoc, append-nil, sym, zero-add, length-append}
 use Rattle.std.proofs.lemmas.List.Filters.{length-filter_both}
 use Rattle.std.proofs.lemmas.List.Elements.{All-head, All-tail, All-cons, All-append, All-filter, All-weaker, filter-append}
+use Rattle.std.proofs.lemmas.Bool.{le-leb, le-ltb, lt-leb, lt-ltb}
 use Rattle.std.proofs.lemmas.Bool.Decides.{nat_tests}
 use Rattle.std.specs.List.{slice_get}
 use Rattle.ipc_objects.specs.declared.queue.Message.{Message}
@@ -16,19 +17,6 @@ pub length-sent : (m : Message) (ms : List Message) → length (after_send m ms)
 length-sent m ms =
     let both = length-filter_both (λ (x : Message). nat_le m.priority x.priority) (λ x. nat_lt x.priority m.priority) (λ x. nat_lt_not m.priority x.priority) ms in
     rw length-append (omega arith)
-
--- a test of a number against another, by order
-pub nat_le-true : (a b : ℕ) → a ≤ b → nat_le a b ≡ true
-nat_le-true a b h = grind (arith, nat_tests)
-
-nat_le-false : (a b : ℕ) → b < a → nat_le a b ≡ false
-nat_le-false a b h = grind (arith, nat_tests)
-
-nat_lt-true : (a b : ℕ) → a < b → nat_lt a b ≡ true
-nat_lt-true a b h = grind (arith, nat_tests)
-
-pub nat_lt-false : (a b : ℕ) → b ≤ a → nat_lt a b ≡ false
-nat_lt-false a b h = grind (arith, nat_tests)
 
 pub filter-none : {X : Type 0} (p : X → Bool) (xs : List X) → All (λ x. p x ≡ false) xs → filter p xs ≡ []
 filter-none p [] none = refl
@@ -69,8 +57,8 @@ slice_get-append_later (x ∷ xs) ys i = let e : suc (length xs) + i ≡ suc (le
 pub sent-all : (m : Message) (xs : List Message) → All (λ x. m.priority ≤ x.priority) xs → after_send m xs ≡ xs ++ m ∷ []
 sent-all m xs most =
     rw (
-      filter-all (λ x. nat_le m.priority x.priority) xs (All-weaker (λ x. m.priority ≤ x.priority) (λ x. nat_le m.priority x.priority ≡ true) (λ x h. nat_le-true m.priority x.priority h) xs most),
-      filter-none (λ x. nat_lt x.priority m.priority) xs (All-weaker (λ x. m.priority ≤ x.priority) (λ x. nat_lt x.priority m.priority ≡ false) (λ x h. nat_lt-false x.priority m.priority h) xs most),
+      filter-all (λ x. nat_le m.priority x.priority) xs (All-weaker (λ x. m.priority ≤ x.priority) (λ x. nat_le m.priority x.priority ≡ true) (λ x h. le-leb m.priority x.priority h) xs most),
+      filter-none (λ x. nat_lt x.priority m.priority) xs (All-weaker (λ x. m.priority ≤ x.priority) (λ x. nat_lt x.priority m.priority ≡ false) (λ x h. le-ltb x.priority m.priority h) xs most),
     ) refl
 
 -- a message goes before all of lesser priorities at the end
@@ -79,8 +67,8 @@ sent-append-less m xs ys less =
     rw (
       filter-append (λ x. nat_le m.priority x.priority) xs ys,
       filter-append (λ x. nat_lt x.priority m.priority) xs ys,
-      filter-none (λ x. nat_le m.priority x.priority) ys (All-weaker (λ x. x.priority < m.priority) (λ x. nat_le m.priority x.priority ≡ false) (λ x h. nat_le-false m.priority x.priority h) ys less),
-      filter-all (λ x. nat_lt x.priority m.priority) ys (All-weaker (λ x. x.priority < m.priority) (λ x. nat_lt x.priority m.priority ≡ true) (λ x h. nat_lt-true x.priority m.priority h) ys less),
+      filter-none (λ x. nat_le m.priority x.priority) ys (All-weaker (λ x. x.priority < m.priority) (λ x. nat_le m.priority x.priority ≡ false) (λ x h. lt-leb m.priority x.priority h) ys less),
+      filter-all (λ x. nat_lt x.priority m.priority) ys (All-weaker (λ x. x.priority < m.priority) (λ x. nat_lt x.priority m.priority ≡ true) (λ x h. lt-ltb x.priority m.priority h) ys less),
       append-nil (filter (λ x. nat_le m.priority x.priority) xs),
     )
     (sym (append_assoc (filter (λ x. nat_le m.priority x.priority) xs) (m ∷ filter (λ x. nat_lt x.priority m.priority) xs) ys))
@@ -91,7 +79,7 @@ sent-append-greater m xs ys greater =
     rw (
       filter-append (λ x. nat_le m.priority x.priority) xs ys,
       filter-append (λ x. nat_lt x.priority m.priority) xs ys,
-      filter-all (λ x. nat_le m.priority x.priority) xs (All-weaker (λ x. m.priority < x.priority) (λ x. nat_le m.priority x.priority ≡ true) (λ x h. nat_le-true m.priority x.priority (omega arith)) xs greater),
-      filter-none (λ x. nat_lt x.priority m.priority) xs (All-weaker (λ x. m.priority < x.priority) (λ x. nat_lt x.priority m.priority ≡ false) (λ x h. nat_lt-false x.priority m.priority (omega arith)) xs greater),
+      filter-all (λ x. nat_le m.priority x.priority) xs (All-weaker (λ x. m.priority < x.priority) (λ x. nat_le m.priority x.priority ≡ true) (λ x h. le-leb m.priority x.priority (omega arith)) xs greater),
+      filter-none (λ x. nat_lt x.priority m.priority) xs (All-weaker (λ x. m.priority < x.priority) (λ x. nat_lt x.priority m.priority ≡ false) (λ x h. le-ltb x.priority m.priority (omega arith)) xs greater),
     )
     (append_assoc xs (filter (λ x. nat_le m.priority x.priority) ys) (m ∷ filter (λ x. nat_lt x.priority m.priority) ys))
