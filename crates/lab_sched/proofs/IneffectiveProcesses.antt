@@ -8,7 +8,7 @@ use Rattle.ipc_kernel.specs.Kernel.{KernelState}
 use Rattle.ipc_kernel.specs.Answer.{answer}
 use Rattle.lab_sched.specs.Worlds.{Process, Running, Waiting, Ended, nothing, step_effect, retry}
 use Rattle.lab_sched.specs.Finished.{IsAtRest}
-use Rattle.lab_sched.proofs.VerdictsByProcess.{moves_on}
+use Rattle.lab_sched.proofs.VerdictLemmas.{moves_on}
 
 retry_none : (m : Machine) (c : Call) (a : Answer) → retry m c a ≡ nothing → a ≡ Wait
 retry_none m c Wait e = refl

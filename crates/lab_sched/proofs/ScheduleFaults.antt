@@ -1,17 +1,18 @@
 -- Which faults a text has, and what is read.
-use Rattle.std.proofs.Common.{◌≡◌, ◌<◌, ◌≤◌, ◌-◌, ◌+◌, ℕ, zero, suc, List, [], ◌∷◌, length, map, take, drop, get_or, Bool, true, false, cond, Option, Some, None, Result, Ok, Err, refl, ap, arith, subst, IfOk, IfErr}
-use Rattle.std.specs.Prelude.{nat_lt, nat_le, ◌&&◌, position, IfSome}
-use Rattle.std.specs.List.{AllByRecursion}
-use Rattle.std.proofs.lemmas.List.Sums.{sum_by-cons}
-use Rattle.std.proofs.lemmas.Bool.Decides.{nat_tests}
+use Rattle.std.proofs.Common.{inl, inr, ◌≡◌, ◌<◌, ◌≤◌, ◌-◌, ◌+◌, ℕ, suc, List, [], ◌∷◌, length, map, take, drop, get_or, Bool, true, false, cond, Option, Some, None, Result, Ok, Err, refl, ap, sym, arith, subst, IfOk, IfErr}
+use Rattle.std.specs.Prelude.{nat_lt, nat_le, ◌&&◌, position, is_none, IfSome}
+use Rattle.std.specs.List.{AllByRecursion, filter_map, position_or_len}
+use Rattle.std.proofs.lemmas.List.Sums.{sum_by-cons, fails_before_first, passes_at_first}
+use Rattle.std.proofs.lemmas.Bool.Decides.{leb_tells, nat_tests}
 use Rattle.lab_sched.specs.declared.schedule.block.Block.{Block}
 use Rattle.lab_sched.specs.declared.schedule.fault.SchedFault.{SchedFault}
 use Rattle.lab_sched.specs.declared.schedule.fault.SchedFault.TheVariants.{BadBlock, TooLong, NoMemory}
 use Rattle.lab_sched.specs.Schedules.{total_of, steps_of, joined_blocks, IsBlock, IsSchedule, most_steps}
 use Rattle.lc3_word.specs.Numbers.{unsigned_number}
-use Rattle.lab_sched.specs.ScheduleTexts.{words, is_star, in_range, process_in, count_in, block_at, block_from, block_in, block_or, blocks_of_words, too_long, schedule_of_blocks, within, reading_of_words, reading, Fails, ◌>>=◌}
+use Rattle.lab_sched.specs.ScheduleTexts.{words, is_star, in_range, process_in, count_in, block_at, block_from, block_in, is_bad, blocks_of_words, too_long, schedule_of_blocks, within, reading_of_words, reading, Fails, ◌>>=◌}
 use Rattle.lab_sched.specs.Private.Reading.{Gives}
 use Rattle.lab_sched.specs.ScheduleLaws.{IsFirstBad, IsFirstOver, IsFirstTooLong, FirstBadBlock, FirstTooLong, ReadSteps}
+use Rattle.lab_sched.proofs.ScheduleSteps.{blocks-bad}
 use Rattle.lab_sched.proofs.ScheduleJoins.{apart-joined, total-joined, steps-joined, valid-joined}
 use Rattle.ipc_kernel.specs.Limits.{process_max}
 
@@ -43,34 +44,16 @@ block_in-valid w = at (position is_star w)
         block_from-valid (process_in (take star w)) (count_in (drop (star + 1) w)) (pid (take star w))
         (range-valid 1 most_steps (λ k. 1 ≤ k) (unsigned_number 10 (drop (star + 1) w)) (λ n low high. low))
 
--- what the reading of words says of them, where the first of them is word number `at`
-abbrev WordsTell : ℕ → List (List ℕ) → Result (List Block) SchedFault → Type 0
-WordsTell at ws (Ok bs) = (map block_in ws ≡ map Some bs) × AllByRecursion IsBlock bs
-WordsTell at ws (Err (BadBlock found)) =
-    (i : ℕ) × (found ≡ at + i) × (i < length ws) × (block_in (get_or ws i []) ≡ None) × ((k : ℕ) → k < i → ¬ (block_in (get_or ws k []) ≡ None))
-WordsTell at ws (Err (TooLong found)) = ⊥
-WordsTell at ws (Err NoMemory) = ⊥
-
-word-more : (at : ℕ) (w : List ℕ) (ws : List (List ℕ)) (b : Block) (read : Result (List Block) SchedFault) → block_in w ≡ Some b → WordsTell (at + 1) ws read
-    → WordsTell at (w ∷ ws) (read >>= λ bs. Ok (b ∷ bs))
-word-more at w ws b (Ok bs) e h = (rw (e, h.0) refl, (subst (λ o. IfSome o IsBlock) e (block_in-valid w), h.1))
-word-more at w ws b (Err (BadBlock found)) e h = (suc h.0, omega (arith, h.1), omega (arith, h.2), h.3, earlier)
+-- where each word is a block, these are what they write
+blocks-all : (ws : List (List ℕ)) → ((k : ℕ) → k < length ws → is_bad (get_or ws k []) ≡ false)
+    → (map block_in ws ≡ map Some (filter_map block_in ws)) × AllByRecursion IsBlock (filter_map block_in ws)
+blocks-all [] good = (refl, tt)
+blocks-all (w ∷ ws) good = go (block_in w) refl (good 0 (omega arith)) (blocks-all ws (λ k below. good (suc k) (omega arith)))
   where
-    earlier : (k : ℕ) → k < suc h.0 → ¬ (block_in (get_or (w ∷ ws) k []) ≡ None)
-    earlier zero below none = cc
-    earlier (suc k) below none = h.4 k (omega arith) none
-word-more at w ws b (Err (TooLong found)) e h = h
-word-more at w ws b (Err NoMemory) e h = h
-
-words-tell : (at : ℕ) (ws : List (List ℕ)) → WordsTell at ws (blocks_of_words at ws)
-unfolding blocks_of_words
-words-tell at [] = (refl, tt)
-words-tell at (w ∷ ws) = go (block_in w) refl (words-tell (at + 1) ws)
-  where
-    go : (o : Option Block) → block_in w ≡ o → WordsTell (at + 1) ws (blocks_of_words (at + 1) ws)
-        → WordsTell at (w ∷ ws) (block_or at o >>= λ b. blocks_of_words (at + 1) ws >>= λ bs. Ok (b ∷ bs))
-    go None e later = (0, omega arith, omega arith, e, λ k below. absurd (omega arith))
-    go (Some b) e later = word-more at w ws b (blocks_of_words (at + 1) ws) e later
+    go : (o : Option Block) → block_in w ≡ o → is_none o ≡ false → (map block_in ws ≡ map Some (filter_map block_in ws)) × AllByRecursion IsBlock (filter_map block_in ws)
+        → (map block_in (w ∷ ws) ≡ map Some (filter_map block_in (w ∷ ws))) × AllByRecursion IsBlock (filter_map block_in (w ∷ ws))
+    go None e here rest = let never : ⊥ = cc in absurd never
+    go (Some b) e here rest = (rw (e, rest.0) refl, rw e (subst (λ o. IfSome o IsBlock) e (block_in-valid w), rest.1))
 
 -- what it says of blocks whether there are too many steps: i blocks come before the one with which there are
 abbrev LongTells : ℕ → ℕ → List Block → Option ℕ → Type 0
@@ -124,23 +107,37 @@ ReadingTells ws (Err (BadBlock at)) = IsFirstBad ws at
 ReadingTells ws (Err (TooLong at)) = IsFirstTooLong ws at
 ReadingTells ws (Err NoMemory) = ⊥
 
+none-is : (o : Option Block) → is_none o ≡ true → o ≡ None
+none-is None e = refl
+none-is (Some b) e = cc
+
+none-not : (o : Option Block) → ¬ (o ≡ None) → is_none o ≡ false
+none-not None some = absurd (some refl)
+none-not (Some b) some = refl
+
 reading-tells : (ws : List (List ℕ)) → ReadingTells ws (reading_of_words ws)
-unfolding reading_of_words
-reading-tells ws = go (blocks_of_words 1 ws) (words-tell 1 ws)
+unfolding reading_of_words blocks_of_words
+reading-tells ws = elim (leb_tells (suc (position_or_len is_bad ws)) (length ws)) [
+  | inl t ↦
+      let bad : nat_lt (position_or_len is_bad ws) (length ws) ≡ true = t.0 in
+      let at : position_or_len is_bad ws + 1 - 1 ≡ position_or_len is_bad ws = omega arith in
+      rw bad (record {
+        some = omega arith;
+        within = omega (arith, t.1);
+        here = subst (λ i. block_in (get_or ws i []) ≡ None) (sym at) (none-is _ (passes_at_first is_bad ws [] t.1));
+        earlier = λ k below none. let good = fails_before_first is_bad ws k [] (omega arith) in let bad : is_bad (get_or ws k []) ≡ true = ap is_none none in cc;
+      })
+  | inr t ↦
+      let none : nat_lt (position_or_len is_bad ws) (length ws) ≡ false = t.0 in
+      let all = blocks-all ws (λ k below. fails_before_first is_bad ws k [] (omega (arith, t.1))) in
+      rw none (made (filter_map block_in ws) (schedule_of_blocks (filter_map block_in ws)) all.0 (blocks-tell (filter_map block_in ws) all.1))
+]
   where
     made : (bs : List Block) (read : Result (List Block) SchedFault) → map block_in ws ≡ map Some bs → BlocksTell bs read → ReadingTells ws read
     made bs (Ok s) all h = (h.0, (bs, all, h.1))
     made bs (Err (BadBlock at)) all h = absurd h
     made bs (Err (TooLong at)) all h = (bs, all, h)
     made bs (Err NoMemory) all h = h
-
-    go : (read : Result (List Block) SchedFault) → WordsTell 1 ws read → ReadingTells ws (read >>= schedule_of_blocks)
-    go (Ok bs) h = made bs (schedule_of_blocks bs) h.0 (blocks-tell bs h.1)
-    go (Err (BadBlock at)) r =
-        let before : at - 1 ≡ r.0 = omega (arith, r.1) in
-        record { some = omega (arith, r.1); within = omega (arith, r.1, r.2); here = rw before r.3; earlier = rw before r.4 }
-    go (Err (TooLong at)) h = absurd h
-    go (Err NoMemory) h = h
 
 -- the laws of reading
 
@@ -150,26 +147,14 @@ read_steps_lem text s is = subst (ReadingTells (words text)) is (reading-tells (
 pub first_too_long_lem : FirstTooLong
 first_too_long_lem text at is = subst (ReadingTells (words text)) is (reading-tells (words text))
 
-bad_first : (at i : ℕ) (ws : List (List ℕ)) → i < length ws → block_in (get_or ws i []) ≡ None → ((k : ℕ) → k < i → ¬ (block_in (get_or ws k []) ≡ None))
-    → blocks_of_words at ws ≡ Err (BadBlock (at + i))
-unfolding blocks_of_words
-bad_first at i [] l h f = absurd (omega arith)
-bad_first at zero (w ∷ ws) l h f = rw h (ap (λ n. Err (BadBlock n)) (omega arith))
-bad_first at (suc i) (w ∷ ws) l h f = go (block_in w) refl (bad_first (at + 1) i ws (omega arith) h (λ k m. f (suc k) (omega arith)))
-  where
-    go : (o : Option Block) → block_in w ≡ o → blocks_of_words (at + 1) ws ≡ Err (BadBlock (at + 1 + i))
-        → (block_or at o >>= λ b. blocks_of_words (at + 1) ws >>= λ bs. Ok (b ∷ bs)) ≡ Err (BadBlock (at + suc i))
-    go None e later = absurd (f 0 (omega arith) e)
-    go (Some b) e later = rw later (ap (λ n. Err (BadBlock n)) (omega arith))
-
 pub first_bad_block_lem : FirstBadBlock
 unfolding reading_of_words
 first_bad_block_lem text at = (λ is. subst (ReadingTells (words text)) is (reading-tells (words text)), from)
   where
-    from : IsFirstBad (words text) at → (blocks_of_words 1 (words text) >>= schedule_of_blocks) ≡ Err (BadBlock at)
+    from : IsFirstBad (words text) at → (blocks_of_words (words text) >>= schedule_of_blocks) ≡ Err (BadBlock at)
     from h =
-        let bad : blocks_of_words 1 (words text) ≡ Err (BadBlock (1 + (at - 1))) = bad_first 1 (at - 1) (words text) (omega (arith, h.some, h.within)) h.here h.earlier in
-        let same : 1 + (at - 1) ≡ at = omega (arith, h.some) in
+        let bad = blocks-bad (words text) (at - 1) (omega (arith, h.some, h.within)) (ap is_none h.here) (λ k below. none-not _ (h.earlier k below)) in
+        let same : at - 1 + 1 ≡ at = omega (arith, h.some) in
         rw (bad, same) refl
 
 -- what an answer that gives the reading of a text says

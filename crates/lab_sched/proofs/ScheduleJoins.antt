@@ -1,14 +1,16 @@
 -- Joined blocks.
-use Rattle.std.proofs.Common.{◌≡◌, ◌≢◌, ℕ, suc, zero, subst, ◌+◌, ◌-◌, ◌<◌, ◌≤◌, true, false, List, [], ◌∷◌, ◌++◌, length, take, get_or, set, replicate, refl, ap, sym, ◌∙◌, append_assoc, append-nil, arith, inl, inr}
+use Rattle.std.proofs.Common.{◌≡◌, ◌≢◌, ℕ, suc, zero, subst, ◌+◌, ◌-◌, ◌<◌, ◌≤◌, true, false, List, [], ◌∷◌, ◌++◌, length, take, get_or, set, replicate, refl, ap, sym, ◌∙◌, append_assoc, append-nil, arith, inl, inr, length-append}
 use Rattle.std.specs.Prelude.{◌==◌}
 use Rattle.std.specs.List.{AllByRecursion}
-use Rattle.std.proofs.lemmas.List.{replicate-append-replicate, take_all, take_more, set_at, nil_from_length, length-take-le, get_or_default, length-replicate}
+use Rattle.std.proofs.lemmas.List.{replicate-append-replicate, take_all, take_more, set_at, nil_from_length, length-take-le, get_or_default, length-replicate, replicate_more}
 use Rattle.std.proofs.lemmas.List.Concat.{flat_map-append, length-flat_map}
 use Rattle.std.proofs.lemmas.List.Sums.{sum_by-cons, sum_by_push}
 use Rattle.std.proofs.lemmas.Bool.Decides.{nat_tests, eqb_tells}
 use Rattle.lab_sched.specs.declared.schedule.block.Block.{Block}
 use Rattle.lab_sched.specs.ScheduleLaws.{StepsTell}
 use Rattle.lab_sched.specs.Schedules.{block, steps_of, total_of, before, joined_blocks, IsBlock, AreApart, IsSchedule, most_steps}
+use Rattle.std.proofs.Math.Seq.{take-append_seam, get_or-append_seam}
+use Rattle.lab_sched.specs.Private.Blocks.{IsResized}
 
 pub is_same : (m n : ℕ) → m ≡ n → (m == n) ≡ true
 is_same m n h = grind (arith, nat_tests)
@@ -213,3 +215,70 @@ blocks_of-steps (b ∷ rest) v h =
 pub steps_tell_lem : StepsTell
 steps_tell_lem xs ys h k e =
     sym (blocks_of-steps xs h.valid h.apart) ∙ ap blocks_of e ∙ blocks_of-steps ys k.valid k.apart
+
+-- the last block of a schedule, and its last step
+
+-- lists with equal ends
+same_ends : (xs ys : List ℕ) (x y : ℕ) → xs ++ x ∷ [] ≡ ys ++ y ∷ [] → (xs ≡ ys) × (x ≡ y)
+same_ends xs ys x y e =
+    let l : length xs ≡ length ys = omega (arith, ap length e, length-append xs (x ∷ []), length-append ys (y ∷ [])) in (
+      sym (take-append_seam xs (x ∷ [])) ∙ ap (λ n. take n (xs ++ x ∷ [])) l ∙ ap (take (length ys)) e ∙ take-append_seam ys (y ∷ []),
+      sym (get_or-append_seam xs x [] 0) ∙ ap (λ n. get_or (xs ++ x ∷ []) n 0) l ∙ ap (λ zs. get_or zs (length ys) 0) e ∙ get_or-append_seam ys y [] 0,
+    )
+
+-- the front and the last block of a schedule
+
+pub valid-ends : (front : List Block) (d : Block) → AllByRecursion IsBlock (front ++ d ∷ []) → AllByRecursion IsBlock front × IsBlock d
+valid-ends [] d h = (tt, h.0)
+valid-ends (x ∷ front) d h = let k = valid-ends front d h.1 in ((h.0, k.0), k.1)
+
+apart-front : (front : List Block) (d : Block) → AreApart (front ++ d ∷ []) → AreApart front
+apart-front [] d h = tt
+apart-front (x ∷ []) d h = tt
+apart-front (x ∷ y ∷ front) d h = (h.0, apart-front (y ∷ front) d h.1)
+
+pub total-last : (front : List Block) (d : Block) → total_of (front ++ d ∷ []) ≡ total_of front + d.count
+total-last front d = sum_by_push (λ (b : Block). b.count) front d
+
+-- n steps in the place of the last one
+
+resized-steps : (front : List Block) (d : Block) (n p : ℕ) (ps : List ℕ) → 1 ≤ d.count → steps_of (front ++ d ∷ []) ≡ ps ++ p ∷ []
+    → steps_of front ++ replicate (d.count - 1 + n) d.pid ≡ ps ++ replicate n p
+resized-steps front d n p ps some e =
+    let k : ℕ = d.count - 1 in
+    let one : replicate d.count d.pid ≡ replicate k d.pid ++ d.pid ∷ [] = ap (λ m. replicate m d.pid) (omega arith) ∙ sym (replicate_more k d.pid) in
+    let all : steps_of (front ++ d ∷ []) ≡ (steps_of front ++ replicate k d.pid) ++ d.pid ∷ [] =
+    steps-append front (d ∷ []) ∙ ap (λ s. steps_of front ++ s) (steps-one d ∙ one) ∙ sym (append_assoc (steps_of front) (replicate k d.pid) (d.pid ∷ [])) in
+    let ends = same_ends (steps_of front ++ replicate k d.pid) ps d.pid p (sym all ∙ e) in
+    ap (λ s. steps_of front ++ s) (sym (replicate-append-replicate k n d.pid)) ∙ sym (append_assoc (steps_of front) (replicate k d.pid) (replicate n d.pid))
+    ∙ ap (λ s. s ++ replicate n d.pid) ends.0 ∙ ap (λ q. ps ++ replicate n q) ends.1
+
+-- a schedule of the front, and of so many steps of the last block's process
+resized : (front : List Block) (d : Block) (n : ℕ) (ys : List Block) → IsSchedule (front ++ d ∷ []) → IsSchedule ys → steps_of ys ≡ steps_of front ++ replicate (d.count - 1 + n) d.pid
+    → total_of ys ≡ total_of front + (d.count - 1 + n) → IsResized (front ++ d ∷ []) ys n
+resized front d n ys h schedule steps total =
+    let some = (valid-ends front d h.valid).1.some in
+    let was = total-last front d in
+    record { schedule = schedule; total = omega arith; steps = λ ps p e. steps ∙ resized-steps front d n p ps some e }
+
+-- none are left of the last block
+pub resized_none : (front : List Block) (d : Block) (n : ℕ) → IsSchedule (front ++ d ∷ []) → d.count - 1 + n ≡ 0 → IsResized (front ++ d ∷ []) front n
+resized_none front d n h none =
+    let total = total-last front d in
+    resized front d n front h (record { valid = (valid-ends front d h.valid).0; apart = apart-front front d h.apart; within = omega (arith, h.within) })
+    (sym (ap (λ k. steps_of front ++ replicate k d.pid) none ∙ append-nil (steps_of front))) (omega arith)
+
+-- some are left
+pub resized_some : (front : List Block) (d : Block) (n : ℕ) → IsSchedule (front ++ d ∷ []) → total_of (front ++ d ∷ []) + n ≤ most_steps + 1 → 0 < d.count - 1 + n
+    → IsResized (front ++ d ∷ []) (front ++ block d.pid (d.count - 1 + n) ∷ []) n
+resized_some front d n h room some =
+    let ends = valid-ends front d h.valid in
+    let c : Block = block d.pid (d.count - 1 + n) in
+    let was = total-last front d in
+    let is = total-last front c in
+    resized front d n (front ++ c ∷ []) h
+    (record {
+      valid = valid-push front c ends.0 (record { process = ends.1.process; some = omega arith });
+      apart = apart-last front d (d.count - 1 + n) h.apart;
+      within = omega (arith, ends.1.some);
+    }) (steps-append front (c ∷ []) ∙ ap (λ s. steps_of front ++ s) (steps-one c)) is

@@ -1,8 +1,8 @@
 -- The text of a schedule reads back as that schedule.
-use Rattle.std.proofs.Common.{◌≡◌, ℕ, ◌+◌, ◌<◌, ◌≤◌, false, List, [], ◌∷◌, ◌++◌, length, map, drop, refl, ap, ◌∙◌, arith, one-add, Some, None, Ok, Err, Result, IfOk, String, string_bytes, append-nil, length-append}
+use Rattle.std.proofs.Common.{◌≡◌, ℕ, zero, suc, get_or, ◌+◌, ◌<◌, ◌≤◌, false, List, [], ◌∷◌, ◌++◌, length, map, drop, refl, ap, ◌∙◌, arith, one-add, Some, None, Ok, Err, Result, IfOk, String, string_bytes, append-nil, length-append, lt-ltb, Bool, true, filter}
 use Rattle.std.proofs.Math.Seq.{drop-append-add}
-use Rattle.std.specs.Prelude.{decimal, position}
-use Rattle.std.specs.List.{All, AllByRecursion, flat_map, position_or_len}
+use Rattle.std.specs.Prelude.{decimal, is_none, position, not, ◌==◌}
+use Rattle.std.specs.List.{All, AllByRecursion, filter_map, flat_map, position_or_len, slice_split}
 use Rattle.std.specs.Char.{digit_value}
 use Rattle.std.specs.Str.Parse.{AllDigits, IsNumeral}
 use Rattle.std.proofs.lemmas.Fmt.{decimal_is_IsNumeral}
@@ -11,16 +11,39 @@ use Rattle.std.proofs.lemmas.Bool.Decides.{nat_tests}
 use Rattle.std.proofs.lemmas.List.{take_at}
 use Rattle.std.proofs.lemmas.List.Sums.{sum_by-cons}
 use Rattle.std.proofs.lemmas.List.Elements.{All-nil, All-cons, All-append}
-use Rattle.std.proofs.Common.{lt-ltb}
 use Rattle.lab_sched.specs.declared.schedule.block.Block.{Block}
 use Rattle.lab_sched.specs.ScheduleLaws.{ReadsBack}
 use Rattle.lab_sched.specs.Schedules.{total_of, IsBlock, IsSchedule, most_steps}
-use Rattle.lab_sched.specs.ScheduleTexts.{block_text, schedule_text, words, is_star, in_range, process_in, count_in, block_at, block_from, block_in, blocks_of_words, too_long, schedule_of_blocks, reading_of_words, reading, ◌>>=◌}
+use Rattle.lab_sched.specs.ScheduleTexts.{block_text, schedule_text, words, is_star, in_range, process_in, count_in, block_at, block_from, block_in, is_bad, blocks_of_words, too_long, schedule_of_blocks, reading_of_words, reading, ◌>>=◌}
 use Rattle.lab_sched.proofs.ScheduleJoins.{joined-apart}
-use Rattle.lab_sched.proofs.ScheduleWords.{is_space, words-blank, words-last, words-none}
 use Rattle.lc3_word.proofs.Numerals.{unsigned-decimal}
-use Rattle.lab_sched.proofs.ScheduleSteps.{fits}
+use Rattle.lab_sched.proofs.ScheduleSteps.{blocks-good, fits}
 use Rattle.ipc_kernel.specs.Limits.{process_max}
+use Rattle.std.proofs.lemmas.List.Splits.{slice_split_at, slice_split_none}
+use Rattle.lc3_word.specs.Blanks.{is_among, is_word, words_between, white_space}
+
+-- a blank of a schedule's text
+abbrev pub is_space : ℕ → Bool
+is_space c = is_among white_space c
+
+some_test : (n : ℕ) → 0 < n → not (n == 0) ≡ true
+some_test n h = grind (arith, nat_tests)
+
+kept-some : (w : List ℕ) (ws : List (List ℕ)) → 0 < length w → filter is_word (w ∷ ws) ≡ w ∷ filter is_word ws
+kept-some w ws h = rw (some_test (length w) h) refl
+
+pub words-none : words [] ≡ []
+unfolding words_between
+words-none = refl
+
+-- a word, and then a blank
+pub words-blank : (w bs : List ℕ) → 0 < length w → All (λ c. is_space c ≡ false) w → words (w ++ 32 ∷ bs) ≡ w ∷ words bs
+unfolding words_between
+words-blank w bs l h = ap (filter is_word) (slice_split_at is_space w 32 bs h refl) ∙ kept-some w (slice_split is_space bs) l
+
+pub words-last : (w : List ℕ) → 0 < length w → All (λ c. is_space c ≡ false) w → words w ≡ w ∷ []
+unfolding words_between
+words-last w l h = ap (filter is_word) (slice_split_none is_space w h) ∙ kept-some w [] l
 
 -- blocks with a blank before each
 abbrev later_text : List Block → List ℕ
@@ -82,10 +105,14 @@ words-text b (c ∷ rest) v s =
     words-blank (block_text b) (block_text c ++ later_text rest) (text_some b) (text_no_space b v.0 s.0)
     ∙ ap (λ ws. block_text b ∷ ws) (words-text c rest v.1 s.1)
 
-blocks-text : (at : ℕ) (bs : List Block) → AllByRecursion IsBlock bs → AreSmall bs → blocks_of_words at (map block_text bs) ≡ Ok bs
-unfolding blocks_of_words
-blocks-text at [] v s = refl
-blocks-text at (b ∷ rest) v s = rw (block_in-text b v.0 s.0, blocks-text (at + 1) rest v.1 s.1) refl
+blocks-text : (bs : List Block) → AllByRecursion IsBlock bs → AreSmall bs → filter_map block_in (map block_text bs) ≡ bs
+blocks-text [] v s = refl
+blocks-text (b ∷ rest) v s = rw (block_in-text b v.0 s.0, blocks-text rest v.1 s.1) refl
+
+texts-good : (bs : List Block) → AllByRecursion IsBlock bs → AreSmall bs → (k : ℕ) → k < length (map block_text bs) → is_bad (get_or (map block_text bs) k []) ≡ false
+texts-good [] v s k below = absurd (omega arith)
+texts-good (b ∷ rest) v s zero below = ap is_none (block_in-text b v.0 s.0)
+texts-good (b ∷ rest) v s (suc k) below = texts-good rest v.1 s.1 k (omega arith)
 
 too_long-none : (at total : ℕ) (bs : List Block) → total + total_of bs ≤ most_steps → too_long at total bs ≡ None
 unfolding too_long
@@ -108,8 +135,9 @@ words-schedule (b ∷ rest) h = words-text b rest h.valid (small-from_total (b �
 pub reads_back_lem : ReadsBack
 unfolding reading_of_words schedule_of_blocks
 reads_back_lem bs h =
-    ap (λ ws. blocks_of_words 1 ws >>= schedule_of_blocks) (words-schedule bs h)
-    ∙ ap (λ r. r >>= schedule_of_blocks) (blocks-text 1 bs h.valid (small-from_total bs h.within))
+    let small = small-from_total bs h.within in
+    ap (λ ws. blocks_of_words ws >>= schedule_of_blocks) (words-schedule bs h)
+    ∙ ap (λ r. r >>= schedule_of_blocks) (blocks-good (map block_text bs) (texts-good bs h.valid small) ∙ ap Ok (blocks-text bs h.valid small))
     ∙ rw (too_long-none 1 0 bs (omega (arith, h.within))) (ap Ok (joined-apart bs h.apart))
 
 -- a text that was written reads back

@@ -1,52 +1,44 @@
 -- One more word of a text, and one more block of a schedule.
-use Rattle.std.proofs.Common.{◌≡◌, ℕ, ◌+◌, ◌<◌, ◌≤◌, true, false, List, [], ◌∷◌, ◌++◌, length, take, drop, get_or, refl, ap, sym, ◌∙◌, arith, Some, None, Result, Ok, Err, append_assoc, append-nil}
+use Rattle.std.proofs.Common.{◌≡◌, ℕ, ◌+◌, ◌<◌, ◌≤◌, true, false, List, [], ◌∷◌, ◌++◌, length, take, drop, get_or, refl, ap, sym, ◌∙◌, arith, Some, None, Result, Ok, Err}
 use Rattle.std.specs.Prelude.{nat_lt}
+use Rattle.std.specs.List.{filter_map}
+use Rattle.std.proofs.lemmas.List.Elements.{filter_map-append}
+use Rattle.std.proofs.lemmas.List.Sums.{position_or_len_is}
 use Rattle.std.proofs.lemmas.List.{drop_more, take_more, take_all, drop_all}
 use Rattle.std.proofs.lemmas.Bool.Decides.{nat_tests}
 use Rattle.lab_sched.specs.declared.schedule.block.Block.{Block}
 use Rattle.lab_sched.specs.declared.schedule.fault.SchedFault.{SchedFault}
 use Rattle.lab_sched.specs.declared.schedule.fault.SchedFault.TheVariants.{BadBlock, TooLong, NoMemory}
 use Rattle.lab_sched.specs.Schedules.{joined_blocks, most_steps}
-use Rattle.lab_sched.specs.ScheduleTexts.{blocks_of_words, block_in, too_long, schedule_of_blocks, reading_of_words, Fails, ◌>>=◌}
+use Rattle.lab_sched.specs.ScheduleTexts.{blocks_of_words, block_in, is_bad, too_long, schedule_of_blocks, reading_of_words, Fails, ◌>>=◌}
 use Rattle.lab_sched.proofs.ScheduleJoins.{joined-joined}
-
--- blocks found so far, and those that are read
-abbrev pub with_front : List Block → Result (List Block) SchedFault → Result (List Block) SchedFault
-with_front found read = read >>= λ bs. Ok (found ++ bs)
-
-front_more : (found : List Block) (b : Block) (read : Result (List Block) SchedFault)
-    → with_front found (read >>= λ bs. Ok (b ∷ bs)) ≡ with_front (found ++ b ∷ []) read
-front_more found b (Ok bs) = ap Ok (sym (append_assoc found (b ∷ []) bs))
-front_more found b (Err e) = refl
-
-pub blocks-more : (found : List Block) (at : ℕ) (word : List ℕ) (ws : List (List ℕ)) (b : Block) → Some b ≡ block_in word
-    → with_front found (blocks_of_words at (word ∷ ws)) ≡ with_front (found ++ b ∷ []) (blocks_of_words (at + 1) ws)
-unfolding blocks_of_words
-blocks-more found at word ws b e = rw (← e) (front_more found b (blocks_of_words (at + 1) ws))
-
-pub blocks-bad : (found : List Block) (at : ℕ) (word : List ℕ) (ws : List (List ℕ)) → None ≡ block_in word
-    → with_front found (blocks_of_words at (word ∷ ws)) ≡ Err (BadBlock at)
-unfolding blocks_of_words
-blocks-bad found at word ws e = rw (← e) refl
-
-pub blocks-end : (found : List Block) (at : ℕ) → with_front found (blocks_of_words at []) ≡ Ok found
-unfolding blocks_of_words
-blocks-end found at = ap Ok (append-nil found)
-
-front_none : (read : Result (List Block) SchedFault) → read ≡ with_front [] read
-front_none (Ok bs) = refl
-front_none (Err e) = refl
-
-pub blocks-start : (at : ℕ) (ws : List (List ℕ)) → blocks_of_words at ws ≡ with_front [] (blocks_of_words at ws)
-blocks-start at ws = front_none (blocks_of_words at ws)
-
--- blocks in a row
 
 pub fits : (m n : ℕ) → m ≤ n → nat_lt n m ≡ false
 fits m n h = grind (arith, nat_tests)
 
 exceeds : (m n : ℕ) → n < m → nat_lt n m ≡ true
 exceeds m n h = grind (arith, nat_tests)
+
+-- where each word is a block
+pub blocks-good : (ws : List (List ℕ)) → ((k : ℕ) → k < length ws → is_bad (get_or ws k []) ≡ false) → blocks_of_words ws ≡ Ok (filter_map block_in ws)
+unfolding blocks_of_words
+blocks-good ws good =
+    let all = position_or_len_is is_bad ws (length ws) [] (omega arith) good (λ below. absurd (omega arith)) in
+    rw (all, fits (length ws) (length ws) (omega arith)) refl
+
+-- where the first that is none stands
+pub blocks-bad : (ws : List (List ℕ)) (i : ℕ) → i < length ws → is_bad (get_or ws i []) ≡ true → ((k : ℕ) → k < i → is_bad (get_or ws k []) ≡ false)
+    → blocks_of_words ws ≡ Err (BadBlock (i + 1))
+unfolding blocks_of_words
+blocks-bad ws i within bad good =
+    let place = position_or_len_is is_bad ws i [] (omega arith) good (λ below. bad) in
+    rw (place, exceeds (length ws) i within) refl
+
+pub blocks-more : (ws : List (List ℕ)) (i : ℕ) (b : Block) → i < length ws → block_in (get_or ws i []) ≡ Some b
+    → filter_map block_in (take (i + 1) ws) ≡ filter_map block_in (take i ws) ++ b ∷ []
+blocks-more ws i b within e = rw (take_more ws i [] within, filter_map-append block_in (take i ws) (get_or ws i [] ∷ []), e) refl
+
+-- blocks in a row
 
 pub too_long-more : (bs : List Block) (i total : ℕ) (d : Block) → i < length bs → total + (get_or bs i d).count ≤ most_steps
     → too_long (i + 1) total (drop i bs) ≡ too_long (i + 1 + 1) (total + (get_or bs i d).count) (drop (i + 1) bs)
@@ -82,10 +74,10 @@ fails-then (BadBlock at) read next h = rw h refl
 fails-then (TooLong at) read next h = rw h refl
 fails-then NoMemory read next h = tt
 
-pub reading-fails : (e : SchedFault) (ws : List (List ℕ)) → Fails e (blocks_of_words 1 ws) → Fails e (reading_of_words ws)
+pub reading-fails : (e : SchedFault) (ws : List (List ℕ)) → Fails e (blocks_of_words ws) → Fails e (reading_of_words ws)
 unfolding reading_of_words
-reading-fails e ws h = fails-then e (blocks_of_words 1 ws) schedule_of_blocks h
+reading-fails e ws h = fails-then e (blocks_of_words ws) schedule_of_blocks h
 
-pub reading-ok : (ws : List (List ℕ)) (blocks : List Block) → blocks_of_words 1 ws ≡ Ok blocks → reading_of_words ws ≡ schedule_of_blocks blocks
+pub reading-ok : (ws : List (List ℕ)) (blocks : List Block) → blocks_of_words ws ≡ Ok blocks → reading_of_words ws ≡ schedule_of_blocks blocks
 unfolding reading_of_words
 reading-ok ws blocks h = rw h refl

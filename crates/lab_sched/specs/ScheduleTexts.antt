@@ -1,7 +1,7 @@
 -- The text of a schedule, and what a text is read as.
-use Rattle.std.specs.Prelude.{ℕ, ◌+◌, ◌-◌, ◌==◌, ◌&&◌, ◌≡◌, nat_lt, nat_le, Bool, if◌then◌else◌, Option, Some, None, Result, Ok, Err, List, [], ◌∷◌, ◌++◌, take, drop, decimal, position}
+use Rattle.std.specs.Prelude.{ℕ, ◌+◌, ◌-◌, ◌==◌, ◌&&◌, ◌≡◌, nat_lt, nat_le, Bool, if◌then◌else◌, Option, Some, None, Result, Ok, Err, List, [], ◌∷◌, ◌++◌, length, take, drop, decimal, position, is_none}
 use Rattle.ipc_kernel.specs.Limits.{process_max}
-use Rattle.std.specs.List.{flat_map}
+use Rattle.std.specs.List.{filter_map, flat_map, position_or_len}
 use Rattle.lc3_word.specs.Blanks.{words_between, white_space}
 use Rattle.lc3_word.specs.Numbers.{unsigned_number}
 use Rattle.lab_sched.specs.declared.schedule.block.Block.{Block}
@@ -60,15 +60,14 @@ abbrev pub ◌>>=◌ : {A B : Type 0} → Result A SchedFault → (A → Result 
 (Err e) >>= next = Err e
 (Ok a) >>= next = next a
 
--- the block, or the fault of the word that is none
-abbrev pub block_or : ℕ → Option Block → Result Block SchedFault
-block_or at None = Err (BadBlock at)
-block_or at (Some b) = Ok b
+-- whether a word is no block
+abbrev pub is_bad : List ℕ → Bool
+is_bad word = is_none (block_in word)
 
--- the blocks that words write, where the first of them is word number `at`
-unfoldable pub blocks_of_words : ℕ → List (List ℕ) → Result (List Block) SchedFault
-blocks_of_words at [] = Ok []
-blocks_of_words at (word ∷ rest) = block_or at (block_in word) >>= λ b. blocks_of_words (at + 1) rest >>= λ bs. Ok (b ∷ bs)
+-- the blocks that words write, or the fault of the first word that is none
+unfoldable pub blocks_of_words : List (List ℕ) → Result (List Block) SchedFault
+blocks_of_words ws =
+    if nat_lt (position_or_len is_bad ws) (length ws) then Err (BadBlock (position_or_len is_bad ws + 1)) else Ok (filter_map block_in ws)
 
 -- the number of the block with which more than the most steps are reached, where these steps come before block number `at`
 unfoldable pub too_long : ℕ → ℕ → List Block → Option ℕ
@@ -86,7 +85,7 @@ schedule_of_blocks blocks = within (too_long 1 0 blocks) (joined_blocks blocks)
 
 -- what words are read as
 unfoldable pub reading_of_words : List (List ℕ) → Result (List Block) SchedFault
-reading_of_words ws = blocks_of_words 1 ws >>= schedule_of_blocks
+reading_of_words ws = blocks_of_words ws >>= schedule_of_blocks
 
 -- what a text is read as
 abbrev pub reading : List ℕ → Result (List Block) SchedFault

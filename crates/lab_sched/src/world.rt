@@ -106,7 +106,7 @@ impl World {
         matches!(self.processes[pid], Process::Ended(_))
     }
 
-    #[tactic(auto, using(crate::proofs::VerdictsByProcess::running_moves, crate::proofs::VerdictsByProcess::retry_moves, crate::proofs::VerdictsByProcess::retry_rests))]
+    #[tactic(auto, using(crate::proofs::VerdictLemmas::running_moves, crate::proofs::VerdictLemmas::retry_moves, crate::proofs::VerdictLemmas::retry_rests))]
     pub(crate) fn can_step(&self, pid: usize) -> bool
         requires process { pid < length self.now.processes }
         ensures yes { result ≡ true → IsEffective (step_effect_in self.now pid) }

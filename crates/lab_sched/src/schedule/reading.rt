@@ -67,7 +67,7 @@ fn block_in(word: &[u8]) -> Option<Block>
 
 fn blocks_of_words(alloc: Global, words: &[&[u8]]) -> Result<Vec<Block>, SchedFault>
     ensures exact { Gives (λ v. v.items) result
-        (blocks_of_words 1 (map (λ word. word.now) words.now)) }
+        (blocks_of_words (map (λ word. word.now) words.now)) }
     ensures valid { IfOk result (λ v. All IsBlock v.items) }
 {
     let mut blocks = Vec::new(alloc);

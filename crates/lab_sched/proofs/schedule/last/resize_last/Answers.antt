@@ -1,5 +1,5 @@
 use Rattle.std.proofs.Common.{arith}
-use Rattle.lab_sched.proofs.ScheduleEnds.{resized_none, resized_some}
+use Rattle.lab_sched.proofs.ScheduleJoins.{resized_none, resized_some}
 use Rattle.lab_sched.proofs.schedule.last.resize_last.Goals as goal
 
 pub returns-then-count-gt0 : goal.returns-then-count-gt0

@@ -1,5 +1,5 @@
 use Rattle.std.proofs.Common.{arith}
-use Rattle.lab_sched.proofs.GrowingTraces.{leads_told, weight-append}
+use Rattle.lab_sched.proofs.OwnSteps.{leads_told, weight-append}
 use Rattle.lab_sched.proofs.trace.Trace.add_call.Goals as goal
 
 pub returns-clause-alone : goal.returns-clause-alone

@@ -1,4 +1,4 @@
-use Rattle.lab_sched.proofs.GrowingTraces.{leads_locals}
+use Rattle.lab_sched.proofs.OwnSteps.{leads_locals}
 use Rattle.lab_sched.proofs.trace.Trace.add_local.Goals as goal
 
 pub returns-clause-alone : goal.returns-clause-alone

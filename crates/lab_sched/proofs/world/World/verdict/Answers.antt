@@ -1,6 +1,5 @@
 use Rattle.lab_sched.specs.declared.verdict.Verdict.TheVariants as verdict
-use Rattle.lab_sched.proofs.VerdictsByProcess.{is_open, stuck_from}
-use Rattle.lab_sched.proofs.VerdictLemmas.{verdict_from}
+use Rattle.lab_sched.proofs.VerdictLemmas.{is_open, stuck_from, verdict_from}
 use Rattle.lab_sched.proofs.world.World.verdict.Goals as goal
 
 pub returns-then-can_move : goal.returns-then-can_move
