@@ -1,7 +1,7 @@
 -- Local steps of a process, what keeps it from the next one, and what comes of its call.
-use Rattle.std.proofs.Common.{ℕ, ◌≡◌, ◌<◌, Some, List, refl, sym, ap, ◌∙◌, subst, option_map, length, set, map, slice_get, get_or}
-use Rattle.std.proofs.lemmas.Option.{slice_get-map}
-use Rattle.lc3_machine.specs.Process.{Process as Machine, Held}
+use Rattle.std.proofs.Common.{ℕ, ◌≡◌, Some, refl, sym, ap, ◌∙◌, subst, Ok, length}
+use Rattle.lc3_machine.specs.Process.{Process as Machine, Held, Stops}
+use Rattle.lc3_machine.specs.Effects.{next_step}
 use Rattle.lc3_machine.specs.Reply.{process_after_end}
 use Rattle.lc3_machine.specs.Steps.{AreOwnSteps}
 use Rattle.lc3_machine.specs.declared.want.How.{How}
@@ -14,7 +14,6 @@ use Rattle.ipc_kernel.specs.declared.call.Call.TheVariants.{Exit}
 use Rattle.ipc_names.specs.declared.errno.Errno.{Errno}
 use Rattle.ipc_kernel.specs.declared.call.Reply.{Reply}
 use Rattle.ipc_kernel.specs.declared.call.Reply.TheVariants.{Plain}
-use Rattle.ipc_kernel.specs.declared.call.Answer.{Answer}
 use Rattle.ipc_kernel.specs.declared.call.Answer.TheVariants.{Done, Wait}
 use Rattle.ipc_kernel.specs.Answer.{answer}
 use Rattle.ipc_kernel.proofs.LawfulAnswers.{answer_wait}
@@ -22,18 +21,17 @@ use Rattle.ipc_kernel.specs.Replies.{IsReplyTo}
 use Rattle.ipc_traps.specs.Asked.{Request, Local, Refuses, Calls, Ends, next_request}
 use Rattle.ipc_traps.specs.Reply.{HasRoom, IsPrepared, process_after_reply}
 use Rattle.ipc_traps.proofs.Laws.{room_prepared, asked_end, asked_local}
+use Rattle.ipc_kernel.specs.declared.call.Answer.{Answer}
 use Rattle.lab_sched.specs.declared.process.Process.{Process as Kept}
 use Rattle.lab_sched.specs.declared.process.Process.TheVariants as kept
 use Rattle.lab_sched.specs.declared.stepped.Stepped.TheVariants as stepped
-use Rattle.lab_sched.specs.Worlds.{Process, Running, Waiting, Ended, machine_of, WorldState, calls, next_action, action_for, process_after_answer, process_after_reply_to, first_try, kernel_step}
-use Rattle.lab_sched.specs.Held.{process_view, IsHeld, StepResult, step_result, local_told, stepped_of, HasStepped}
+use Rattle.lab_sched.specs.Worlds.{Process, Running, Waiting, Ended, machine_of, calls, next_action, action_for, process_after_answer, first_try, kernel_step}
+use Rattle.lab_sched.specs.Held.{process_view, IsHeld, local_told, HasStepped, StepResult, step_result, stepped_of}
 use Rattle.lab_sched.specs.LocalRun.{IsLocalStep, AreLocal}
+use Rattle.lab_sched.specs.Private.Moved.{Came}
 use Rattle.lab_sched.specs.Settling.{AsksFor}
 use Rattle.lab_sched.specs.Stepping.{CanTakeReply, StandsBefore, StopsBy, after_end, after_reply}
-use Rattle.lab_sched.specs.Private.Settling.{StopsByIn}
 use Rattle.lab_sched.proofs.OwnSteps.{first_local}
-use Rattle.lab_sched.proofs.ListPlaces.{get-set_same}
-use Rattle.lab_sched.proofs.WorldLemmas.{seen_at}
 
 -- no local step
 pub local_none : (s u : Process) (n : ℕ) → AreLocal n s u → n ≡ 0 → u ≡ s
@@ -44,9 +42,8 @@ local_first : (k : KernelState) (p : ℕ) (m : Machine) (request : Request) (u :
     → HasStepped k p (Running m) k u (local_told (Some request))
 local_first k p m request u h asked =
     let first = first_local 0 m u h in
-    ap {B = StepResult} (λ x. record { process = x; kernel = k; told = local_told (Some request) }) (sym first.2)
-    ∙ ap {B = StepResult} (λ q. record { process = Running first.0; kernel = k; told = local_told (Some q) }) (sym asked)
-    ∙ sym (ap {B = StepResult} (λ a. step_result k p (Running m) (first_try k p m a)) first.1)
+    let same : Running first.0 ≡ u = first.2 in
+    rw (first.1, asked, same) refl
 
 -- one step that a machine takes by itself
 own_first : (k : KernelState) (p : ℕ) (s u : Process) → AreLocal 1 s u → AreOwnSteps 1 (machine_of s) (machine_of u) → HasStepped k p s k u stepped.Moved
@@ -102,23 +99,18 @@ asked_room h {m} {c} r asked room form = room_prepared h c r room (ap next_reque
 
 -- a running process, after its reply
 pub running_told : (x : Kept) (h : Held) (reply : Reply) (q : Machine) → x ≡ kept.Running h → CanTakeReply x reply → q ≡ process_after_reply h.process reply → Running q ≡ after_reply (process_view x) reply
-running_told x h reply q is can q-is =
-    let so : CanTakeReply (kept.Running h) reply = subst (λ y. CanTakeReply y reply) is can in
-    ap Running q-is ∙ sym (ap (λ n. process_after_reply_to h.process n reply) so.1.0) ∙ ap (λ y. after_reply (process_view y) reply) (sym is)
+running_told x h reply q is can q-is = let so : CanTakeReply (kept.Running h) reply = rw is at can in rw (is, q-is, so.1.0) refl
 
 -- a process that waits, after its reply
 pub reply_told : (x : Kept) (h : Held) (c : Call) (reply : Reply) (q : Machine) → x ≡ kept.Waiting h c → IsHeld x → q ≡ process_after_reply h.process reply → Running q ≡ after_reply (process_view x) reply
-reply_told x h c reply q is held q-is =
-    let so : IsHeld (kept.Waiting h c) = subst IsHeld is held in
-    ap Running q-is ∙ sym (told_reply h.process c reply so.0) ∙ ap (λ y. after_reply (process_view y) reply) (sym is)
+reply_told x h c reply q is held q-is = let so : IsHeld (kept.Waiting h c) = rw is at held in rw (is, q-is, told_reply h.process c reply so.0) refl
 
 -- a process that must still wait
 pub wait_step : (k j : KernelState) (p : ℕ) (m : Machine) (c : Call) → (Wait, j) ≡ answer k p c
     → HasStepped k p (Waiting m c) j (Waiting m c) stepped.Same
 wait_step k j p m c is =
-    let waits : (answer k p c).0 ≡ Wait = sym (ap (λ o. o.0) is) in
-    let same : j ≡ k = ap (λ o. o.1) is ∙ answer_wait k p c waits in
-    rw waits (ap {B = StepResult} (λ l. record { process = Waiting m c; kernel = l; told = stepped.Same }) same)
+    let same : j ≡ k = ap (λ o. o.1) is ∙ answer_wait k p c (sym (ap (λ o. o.0) is)) in
+    rw (← is, same) refl
 
 -- an end asks for Exit
 act_end : (m : Machine) (how : How) → next_request m ≡ Ends how → next_action m ≡ calls Exit
@@ -133,33 +125,17 @@ told_end m how r is = rw is refl
 pub end_told : (k j : KernelState) (p : ℕ) (s u : Process) (how : How) → StandsBefore s (End how) → u ≡ after_end s how → j ≡ (answer k p Exit).1
     → HasStepped k p s j u (stepped.Called (Plain 0))
 unfolding answer
-end_told k j p (Running m) u how stands u-is j-is =
-    let is = asked_end m how stands in
-    ap {B = StepResult} (λ x. record { process = x; kernel = j; told = stepped.Called (Plain 0) }) (u-is ∙ sym (told_end m how (Plain 0) is))
-    ∙ ap {B = StepResult} (λ l. record { process = process_after_answer m Exit (Done (Plain 0)); kernel = l; told = stepped.Called (Plain 0) }) j-is
-    ∙ sym (ap {B = StepResult} (λ a. step_result k p (Running m) (first_try k p m a)) (act_end m how is))
+end_told k j p (Running m) u how stands u-is j-is = let is = asked_end m how stands in rw (act_end m how is, u-is, j-is, told_end m how (Plain 0) is) refl
 end_told k j p (Waiting m c) u how stands u-is j-is = absurd stands
 end_told k j p (Ended e) u how stands u-is j-is = absurd stands
 
 -- a process at its end asks for Exit
 pub end_asks : (x : Kept) (h : Held) (p : Progress) (how : How) → x ≡ kept.Running h → p ≡ progress.Stopped (End how) → StopsBy (process_view x) p → AsksFor (process_view x) Exit
 end_asks x h p how is stopped stops =
-    let stands : StopsBy (Running h.process) (progress.Stopped (End how)) = subst (λ y. StopsBy (Running h.process) y) stopped (subst (λ y. StopsBy (process_view y) p) is stops) in
-    subst (λ y. AsksFor (process_view y) Exit) (sym is) (act_end h.process how (asked_end h.process how stands))
+    let stands : next_step h.process ≡ Stops (End how) = rw (is, stopped) at stops in
+    rw is (act_end h.process how (asked_end h.process how stands))
 
--- what keeps a process from its next local step, in the world that it was written into
-pub stops_in : (ps : List Kept) (k : KernelState) (v : WorldState) (p : ℕ) (s : Kept) (progress : Progress)
-    → record { processes = map process_view (set ps p s); kernel = k } ≡ v → p < length ps → StopsBy (process_view s) progress → StopsByIn v p progress
-stops_in ps k v p s progress same within stops =
-    subst (λ x. StopsByIn x p progress) same (λ u at. (
-    let there : slice_get (map process_view (set ps p s)) p ≡ Some (process_view s) = slice_get-map process_view (set ps p s) p ∙ ap (λ o. option_map process_view o) (get-set_same ps p s within) in
-    let is : process_view s ≡ u = let both : Some (process_view s) ≡ Some u = sym there ∙ at in cc in
-    subst (λ x. StopsBy x progress) is stops
-    ))
-
--- the same where it is read again
-pub stops_at : (ps : List Kept) (k : KernelState) (v : WorldState) (p : ℕ) (s : Kept) (progress : Progress)
-    → record { processes = map process_view ps; kernel = k } ≡ v → p < length ps → s ≡ get_or ps p s → StopsByIn v p progress → StopsBy (process_view s) progress
-stops_at ps k v p s progress same within read stops =
-    let here : StopsByIn (record { processes = map process_view ps; kernel = k }) p progress = subst (λ x. StopsByIn x p progress) (sym same) stops in
-    here (process_view s) (seen_at ps p s within read)
+-- what came of a step that was taken
+pub came : {A E : Type 0} {Told : A → Type 0} {k j : KernelState} {s u : Kept} {a : A} → Told a → IsHeld u → length j.processes ≡ length k.processes
+    → Came {A = A} {E = E} Told k s (Ok a) j u
+came told held count = record { ok = told; held = held; err = tt; kernel = tt; count = count }

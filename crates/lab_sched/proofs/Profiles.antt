@@ -1,6 +1,5 @@
 -- The processes of a world keep their profile.
-use Rattle.std.proofs.Common.{◌≡◌, ℕ, zero, suc, Bool, Result, Ok, Err, Some, List, [], ◌∷◌, All, map, refl, sym, ap, ◌∙◌, subst, arith}
-use Rattle.std.specs.Prelude.{IfOk, OnErr}
+use Rattle.std.proofs.Common.{◌≡◌, ℕ, zero, suc, Some, List, [], ◌∷◌, All, map, refl, sym, ap, ◌∙◌, subst, arith}
 use Rattle.std.proofs.lemmas.List.Elements.{All-weaker, All-map}
 use Rattle.lc3_table.specs.declared.profile.Profile.{Profile}
 use Rattle.lc3_machine.specs.Process.{Process as Machine}
@@ -14,14 +13,8 @@ use Rattle.ipc_kernel.specs.Answer.{answer}
 use Rattle.ipc_traps.specs.Asked.{Request, Local, Refuses, Calls, Ends, next_request}
 use Rattle.ipc_traps.proofs.Profiles.{Keeps, asked_keeps, replied_profile}
 use Rattle.lab_sched.specs.declared.fresh.Program.{Program}
-use Rattle.lab_sched.specs.declared.stepped.Stepped.{Stepped}
-use Rattle.lab_sched.specs.declared.next.Next.{Next}
-use Rattle.lab_sched.specs.declared.next.Next.TheVariants as next
 use Rattle.lab_sched.specs.Worlds.{Process, Running, Waiting, Ended, NextAction, moves, calls, next_action, action_for, process_after_answer, process_after_reply_to, step_effect, first_try, retry, process_after, profile_of, HasProfile, HaveOneProfile}
-use Rattle.lab_sched.specs.Held.{StepResult, HasStepped}
-use Rattle.lab_sched.specs.Private.Moved.{HasMoved}
 use Rattle.lab_sched.specs.LocalRun.{AreLocal, TakesAnswer, Leads, IsLocalRun}
-use Rattle.lab_sched.specs.Settling.{IsNext}
 use Rattle.lab_sched.specs.Starts.{start_of}
 use Rattle.lab_sched.specs.declared.trace.TracedCall.{TracedCall}
 use Rattle.lab_sched.specs.declared.trace.Trace.{Trace}
@@ -72,18 +65,6 @@ effect_profile k p (Running m) = first-try k p m (next_action m) (act_keeps m)
 effect_profile k p (Waiting m c) = retried m c (answer k p c).0
 effect_profile k p (Ended e) = refl
 
--- so does one that may be refused memory
-pub step_profile : (k k' : KernelState) (p : ℕ) (s s' : Process) {E : Type 0} (result : Result Stepped E)
-    → IfOk result (HasStepped k p s k' s') → OnErr result (s' ≡ s) → profile_of s' ≡ profile_of s
-step_profile k k' p s s' (Ok process_after_answer) is same = ap (λ (x : StepResult). profile_of x.process) is ∙ effect_profile k p s
-step_profile k k' p s s' (Err e) is same = ap profile_of same
-
--- the same, where only is told whether the step had an effect
-pub move_profile : (k k' : KernelState) (p : ℕ) (s s' : Process) {E : Type 0} (result : Result Bool E)
-    → IfOk result (HasMoved k p s k' s') → OnErr result (s' ≡ s) → profile_of s' ≡ profile_of s
-move_profile k k' p s s' (Ok moved) is same = ap (λ (x : StepResult). profile_of x.process) is.1 ∙ effect_profile k p s
-move_profile k k' p s s' (Err e) is same = ap profile_of same
-
 -- local steps keep the profile
 pub locals_profile : (n : ℕ) (s u : Process) → AreLocal n s u → profile_of u ≡ profile_of s
 locals_profile zero s u h = ap profile_of (sym h)
@@ -92,13 +73,6 @@ locals_profile (suc n) (Running m) u h =
     locals_profile n (Running first.0) u first.2 ∙ moves_profile m first.0 first.1
 locals_profile (suc n) (Waiting m c) u h = absurd h.1
 locals_profile (suc n) (Ended e) u h = absurd h.1
-
--- what a process does next keeps the profile
-pub next_keeps : (s : Process) (most : ℕ) (n : Next) (u : Process) → IsNext s most n u → profile_of u ≡ profile_of s
-next_keeps s most (next.Moved n) u h = locals_profile n s u h.2
-next_keeps s most (next.Asks c) u h = ap profile_of h.0
-next_keeps s most next.Ended u h = ap profile_of h.0
-next_keeps s most next.Short u h = ap profile_of h
 
 is_told : (s : Process) (c : Call) (a : Answer) (v : Process) → TakesAnswer s c a v → profile_of v ≡ profile_of s
 is_told (Running m) c a v h = ap profile_of (sym h.1) ∙ told_profile m c a

@@ -1,6 +1,6 @@
 -- Steps that are added to a report, and to what processes have left.
-use Rattle.std.proofs.Common.{ℕ, ◌+◌, ◌-◌, ◌≡◌, ◌<◌, ◌≤◌, ◌++◌, List, [], ◌∷◌, Bool, true, refl, sym, ap, subst, ◌∙◌, arith, length, set, map, get_or, inl, inr, ◌⊎◌, slice_get, zero, suc, ◌≢◌, Option, Some, replicate}
-use Rattle.std.proofs.lemmas.List.{append-nil, append_assoc, replicate-append-replicate, length-set, get_or-set_same, get_or-set_other, map-set}
+use Rattle.std.proofs.Common.{ℕ, ◌+◌, ◌-◌, ◌≡◌, ◌<◌, ◌≤◌, ◌++◌, List, [], ◌∷◌, Bool, true, refl, sym, ap, subst, ◌∙◌, arith, length, set, get_or, inl, inr, ◌⊎◌, slice_get, zero, suc, ◌≢◌, Option, Some, replicate}
+use Rattle.std.proofs.lemmas.List.{append-nil, append_assoc, replicate-append-replicate, length-set, get_or-set_same, get_or-set_other}
 use Rattle.std.proofs.lemmas.Bool.Decides.{eqb_tells}
 use Rattle.std.specs.List.{sum}
 use Rattle.std.proofs.lemmas.List.Sums.{sum_by-set}
@@ -26,9 +26,9 @@ use Rattle.lab_sched.specs.Settled.{Report, report, IsAdded, IsSettled, HasStopp
 use Rattle.lab_sched.specs.Settling.{AsksFor, IsNext}
 use Rattle.lab_sched.specs.Private.Settling.{AsksIn, IsNextIn, IsTaken, answer_told}
 use Rattle.lab_sched.proofs.Runs.{run-none}
-use Rattle.lab_sched.proofs.Executions.{execution_none, execution_append, execution_step, execution_length, execution_local, with_process, count-append, count-replicate_same, count-replicate_other}
+use Rattle.lab_sched.proofs.Executions.{execution_none, execution_append, execution_step, execution_length, execution_local, count-append, count-replicate_same, count-replicate_other}
 use Rattle.lab_sched.proofs.Commutes.{after_other}
-use Rattle.lab_sched.proofs.WorldLemmas.{seen_at, same_world}
+use Rattle.lab_sched.proofs.WorldLemmas.{IsAt, kept_world, put_process, same_world, seen}
 
 pub added_none : (r : Report) → IsAdded r [] r
 added_none r = record { told = []; execution = execution_none r.world; steps = sym (append-nil r.steps); entries = sym (append-nil r.entries) }
@@ -154,25 +154,19 @@ short_more {r} {q} left bits bits' {short} i k added within len clear only mine 
 
 -- what a process does next, over the whole world
 
-next_seen : (w : WorldState) (p most : ℕ) (s u : Process) (n : Next) (v : WorldState) → slice_get w.processes p ≡ Some s → (u ≡ s → v ≡ w) → with_process w p u ≡ v
-    → IsNext s most n u → IsNextIn w p most n v
-next_seen w p most s u (next.Moved n) v at same is h = (h.1, subst (λ x. IsExecution w (replicate n p) x []) is (execution_local n w p s u at h.2))
-next_seen w p most s u (next.Asks c) v at same is h = (same h.0, (s, at, h.1))
-next_seen w p most s u next.Ended v at same is h = same h.0
-next_seen w p most s u next.Short v at same is h = same h
+pub next_in : {ps : List Kept} {k : KernelState} {w : WorldState} {p : ℕ} {s : Kept} → IsAt ps k w p s → (most : ℕ) (n : Next) (u : Kept) → IsNext (process_view s) most n (process_view u)
+    → IsNextIn w p most n (kept_world (set ps p u) k)
+next_in {ps} {k} {w} {p} {s} at most (next.Moved n) u h = (h.1, subst (λ x. IsExecution w (replicate n p) x []) (sym (put_process at u)) (execution_local n w p (process_view s) (process_view u) (seen at) h.2))
+next_in {ps} {k} {w} {p} {s} at most (next.Asks c) u h = (same_world at k u h.0 refl, (process_view s, seen at, h.1))
+next_in {ps} {k} {w} {p} {s} at most next.Ended u h = same_world at k u h.0 refl
+next_in {ps} {k} {w} {p} {s} at most next.Short u h = same_world at k u h refl
 
-pub next_in : (ps ps' : List Kept) (k : KernelState) (w : WorldState) (p most : ℕ) (s s' : Kept) (n : Next)
-    → record { processes = map process_view ps; kernel = k } ≡ w → p < length ps → s ≡ get_or ps p s → ps' ≡ set ps p s' → IsNext (process_view s) most n (process_view s')
-    → IsNextIn w p most n (record { processes = map process_view ps'; kernel = k })
-unfolding with_process
-next_in ps ps' k w p most s s' n same within read ps-is found =
-    let old : WorldState = record { processes = map process_view ps; kernel = k } in
-    let new : WorldState = record { processes = map process_view ps'; kernel = k } in
-    let moved : map process_view ps' ≡ set (map process_view ps) p (process_view s') = ap (λ xs. map process_view xs) ps-is ∙ map-set process_view ps p s' in
-    subst (λ x. IsNextIn x p most n new) same
-    (next_seen old p most (process_view s) (process_view s') n new (seen_at ps p s within read)
-    (λ e. same_world ps ps' k k old p s s' refl within read ps-is e refl)
-    (ap (λ xs. record { processes = xs; kernel = k }) (sym moved)) found)
+-- steps lead there
+pub next_led : (w v : WorldState) (p most : ℕ) (n : Next) → IsNextIn w p most n v → (ns : List ℕ) × (v ≡ run w ns)
+next_led w v p most (next.Moved n) h = (replicate n p, sym h.1.leads)
+next_led w v p most (next.Asks c) h = ([], h.0 ∙ sym (run-none w))
+next_led w v p most next.Ended h = ([], h ∙ sym (run-none w))
+next_led w v p most next.Short h = ([], h ∙ sym (run-none w))
 
 -- steps that were taken with their entries
 

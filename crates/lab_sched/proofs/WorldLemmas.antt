@@ -1,28 +1,28 @@
 -- A process is taken out of its world, takes a step, and is put back.
-use Rattle.std.proofs.Common.{ℕ, ◌≡◌, ◌<◌, ◌≤◌, List, [], ◌∷◌, Option, None, Some, length, slice_get, get_or, set, map, refl, ap, sym, ◌∙◌, subst, arith, All, ◌+◌, ◌++◌, take, replicate}
+use Rattle.std.proofs.Common.{ℕ, ◌≡◌, ◌<◌, ◌≤◌, List, [], ◌∷◌, inl, inr, Option, None, Some, length, slice_get, get_or, set, map, refl, ap, sym, ◌∙◌, subst, arith, All, ◌+◌, ◌++◌, take, replicate}
 use Rattle.std.specs.Option.{option_map}
-use Rattle.std.specs.Prelude.{unwrap_or}
-use Rattle.std.proofs.lemmas.List.{map-set, length-map, length-set, map-append, take_more, length-replicate}
-use Rattle.std.proofs.lemmas.Option.{slice_get_read, slice_get-map, get_or_from_slice_get}
+use Rattle.std.specs.Prelude.{unwrap_or, Result, Ok, Err, IfOk, OnErr}
+use Rattle.std.proofs.lemmas.List.{map-set, set-set, length-map, length-set, map-append, take_more, length-replicate}
+use Rattle.std.proofs.lemmas.Option.{slice_get_cases, slice_get_read, slice_get-map}
 use Rattle.std.proofs.lemmas.List.Elements.{All-set, All-weaker}
 use Rattle.lc3_table.specs.declared.profile.Profile.{Profile}
-use Rattle.ipc_kernel.specs.Kernel.{KernelState}
+use Rattle.ipc_kernel.specs.Kernel.{KernelState, empty_kernel}
 use Rattle.lab_sched.specs.declared.process.Process.{Process as Kept}
 use Rattle.lab_sched.specs.declared.process.Process.TheVariants as kept
 use Rattle.lab_sched.specs.Starts.{Runs, start_of}
 use Rattle.lab_sched.specs.Private.Fresh.{IsFresh}
 use Rattle.lab_sched.specs.declared.stepped.Stepped.{Stepped}
-use Rattle.ipc_kernel.specs.Kernel.{empty_kernel}
 use Rattle.ipc_kernel.specs.Processes.{closed_process}
 use Rattle.lc3_machine.specs.Process.{Held, start}
 use Rattle.lab_sched.specs.declared.fresh.Program.{Program}
 use Rattle.lab_sched.specs.LocalRun.{AreLocal}
 use Rattle.lab_sched.proofs.Executions.{execution_local, with_process}
-use Rattle.lab_sched.proofs.Runs.{run-none}
-use Rattle.lab_sched.specs.Worlds.{profile_of, HasProfile, first_profile, HaveOneProfile, Process, Running, WorldState, run, StepEffect, step_effect, process_made, process_after, kernel_after, processes_with, after, step}
+use Rattle.lab_sched.proofs.Runs.{run-none, run-one, run_on}
+use Rattle.lab_sched.specs.Worlds.{HasProfile, first_profile, HaveOneProfile, Process, Running, WorldState, run, StepEffect, step_effect, process_made, process_after, kernel_after, processes_with, after, step}
 use Rattle.lab_sched.specs.Held.{process_view, IsHeld, IsWorld, asked_by, stepped_of, told_in, StepResult, HasStepped}
-use Rattle.lab_sched.proofs.ListPlaces.{set_same}
-use Rattle.lab_sched.proofs.Profiles.{one_of, starts_profile}
+use Rattle.lab_sched.specs.Private.Moved.{Advances, HasRun}
+use Rattle.lab_sched.proofs.ListPlaces.{get-set_same, get_past, set_same}
+use Rattle.lab_sched.proofs.Profiles.{one_of, effect_profile, starts_profile}
 
 -- the processes with what a step makes of process p in its place, where that is s
 replaced_at : (ps : List Process) (p : ℕ) (s : Process) (o : Option Process) → slice_get ps p ≡ Some s → processes_with ps p o ≡ set ps p (unwrap_or o s)
@@ -34,62 +34,118 @@ pub after_effect : (w : WorldState) (p : ℕ) (s : Process) (t : StepEffect) →
     → after w p t ≡ record { processes = set w.processes p (process_after s t); kernel = kernel_after w.kernel p t }
 after_effect w p s t at = ap (λ ps. record { processes = ps; kernel = kernel_after w.kernel p t }) (replaced_at w.processes p s (process_made t) at)
 
-pub seen_at : (ps : List Kept) (p : ℕ) (s : Kept) → p < length ps → s ≡ get_or ps p s → slice_get (map process_view ps) p ≡ Some (process_view s)
-seen_at ps p s within read = slice_get-map process_view ps p ∙ ap (λ o. option_map process_view o) (slice_get_read ps (length ps) p s refl within read)
+-- steps keep the profile of each process
+step_profile : (profile : Profile) (w : WorldState) (p : ℕ) → All (HasProfile profile) w.processes → All (HasProfile profile) (step w p).processes
+step_profile profile w p have = elim (slice_get_cases w.processes p).1 [
+  | inl t ↦
+      let t-is = ap (λ o. after w p (step_effect w.kernel p o)) t.2 ∙ after_effect w p t.0 (step_effect w.kernel p (Some t.0)) t.2 in
+      subst (λ (v : WorldState). All (HasProfile profile) v.processes) (sym t-is)
+      (All-set (HasProfile profile) w.processes p _ (effect_profile w.kernel p t.0 ∙ subst (HasProfile profile) t.3 (have p t.0 t.1)) have)
+  | inr t ↦ subst (λ (v : WorldState). All (HasProfile profile) v.processes) (sym (ap (λ o. after w p (step_effect w.kernel p o)) t.1)) have
+]
 
--- the world after the step
-pub stepped_world : (ps ps' : List Kept) (k k' : KernelState) (w : WorldState) (p : ℕ) (s s' : Kept) (told : Stepped)
-    → record { processes = map process_view ps; kernel = k } ≡ w → p < length ps → s ≡ get_or ps p s → ps' ≡ set ps p s'
-    → HasStepped k p (process_view s) k' (process_view s') told
-    → record { processes = map process_view ps'; kernel = k' } ≡ step w p
-stepped_world ps ps' k k' w p s s' told same within read ps-is is =
-    let v : WorldState = record { processes = map process_view ps; kernel = k } in
-    let t : StepEffect = step_effect k p (Some (process_view s)) in
-    let at : slice_get (map process_view ps) p ≡ Some (process_view s) = seen_at ps p s within read in
-    let moved : map process_view ps' ≡ set (map process_view ps) p (process_after (process_view s) t) = ap (λ xs. map process_view xs) ps-is ∙ map-set process_view ps p s' ∙ ap (λ (x : StepResult). set (map process_view ps) p x.process) is in
-    let left : record { processes = map process_view ps'; kernel = k' } ≡ record { processes = set (map process_view ps) p (process_after (process_view s) t); kernel = kernel_after k p t } =
-    ap (λ xs. record { processes = xs; kernel = k' }) moved ∙ ap (λ (x : StepResult). record { processes = set (map process_view ps) p (process_after (process_view s) t); kernel = x.kernel }) is in
-    let right : step v p ≡ record { processes = set (map process_view ps) p (process_after (process_view s) t); kernel = kernel_after k p t } =
-    ap (λ o. after v p (step_effect k p o)) at ∙ after_effect v p (process_view s) t at in
-    subst (λ x. record { processes = map process_view ps'; kernel = k' } ≡ step x p) same (left ∙ sym right)
+run_profile : (profile : Profile) (w : WorldState) (ns : List ℕ) → All (HasProfile profile) w.processes → All (HasProfile profile) (run w ns).processes
+unfolding run
+run_profile profile w [] have = have
+run_profile profile w (p ∷ ns) have = run_profile profile (step w p) ns (step_profile profile w p have)
 
--- what the step was
-pub stepped_told : (ps : List Kept) (k k' : KernelState) (w : WorldState) (p : ℕ) (s s' : Kept) (told : Stepped)
-    → record { processes = map process_view ps; kernel = k } ≡ w → p < length ps → s ≡ get_or ps p s
-    → HasStepped k p (process_view s) k' (process_view s') told
-    → told ≡ told_in w p
-stepped_told ps k k' w p s s' told same within read is =
-    ap (λ (x : StepResult). x.told) is
-    ∙ subst (λ x. stepped_of (asked_by (Some (process_view s))) (step_effect k p (Some (process_view s))) ≡ told_in x p) same
-    (ap (λ o. stepped_of (asked_by o) (step_effect k p o)) (sym (seen_at ps p s within read)))
+-- a world, as it is kept
+abbrev pub kept_world : List Kept → KernelState → WorldState
+kept_world ps k = record { processes = map process_view ps; kernel = k }
+
+-- process p of a world is kept as s
+pub record IsAt (ps : List Kept) (k : KernelState) (w : WorldState) (p : ℕ) (s : Kept) : Type 0 where
+  pub view : kept_world ps k ≡ w
+  pub within : p < length ps
+  pub read : s ≡ get_or ps p s
+
+pub at_index : (ps : List Kept) (k : KernelState) (w : WorldState) (p : ℕ) (s : Kept) → kept_world ps k ≡ w → p < length ps → s ≡ get_or ps p s → IsAt ps k w p s
+at_index ps k w p s view within read = record { view = view; within = within; read = read }
+
+pub at_place : (ps : List Kept) (k : KernelState) (w : WorldState) (p : ℕ) (s : Kept) → kept_world ps k ≡ w → p < length w.processes → s ≡ get_or ps p s → IsAt ps k w p s
+at_place ps k w p s view below read = record { view = view; within = omega (arith, ap (λ (x : WorldState). length x.processes) view, length-map ps process_view); read = read }
+
+pub seen : {ps : List Kept} {k : KernelState} {w : WorldState} {p : ℕ} {s : Kept} → IsAt ps k w p s → slice_get w.processes p ≡ Some (process_view s)
+seen {ps} {k} {w} {p} {s} at =
+    ap (λ (x : WorldState). slice_get x.processes p) (sym at.view) ∙ slice_get-map process_view ps p
+    ∙ ap (λ o. option_map process_view o) (slice_get_read ps (length ps) p s refl at.within at.read)
+
+-- the world with another process in its place
+put : {ps : List Kept} {k : KernelState} {w : WorldState} {p : ℕ} {s : Kept} → IsAt ps k w p s → (j : KernelState) (u : Kept)
+    → kept_world (set ps p u) j ≡ record { processes = set w.processes p (process_view u); kernel = j }
+put {ps} {k} {w} {p} {s} at j u =
+    ap (λ xs. record { processes = xs; kernel = j }) (map-set process_view ps p u ∙ ap (λ (x : WorldState). set x.processes p (process_view u)) at.view)
+
+pub put_process : {ps : List Kept} {k : KernelState} {w : WorldState} {p : ℕ} {s : Kept} → IsAt ps k w p s → (u : Kept) → kept_world (set ps p u) k ≡ with_process w p (process_view u)
+unfolding with_process
+put_process {ps} {k} {w} {p} {s} at u = put at k u ∙ ap (λ (x : WorldState). record { processes = set w.processes p (process_view u); kernel = x.kernel }) at.view
 
 -- a process that is put back as it was
-pub same_world : (ps ps' : List Kept) (k k' : KernelState) (w : WorldState) (p : ℕ) (s s' : Kept)
-    → record { processes = map process_view ps; kernel = k } ≡ w → p < length ps → s ≡ get_or ps p s → ps' ≡ set ps p s' → process_view s' ≡ process_view s → k' ≡ k
-    → record { processes = map process_view ps'; kernel = k' } ≡ w
-same_world ps ps' k k' w p s s' same within read ps-is s-is k-is =
-    let kept : map process_view ps' ≡ map process_view ps =
-    ap (λ xs. map process_view xs) ps-is ∙ map-set process_view ps p s' ∙ ap (λ x. set (map process_view ps) p x) s-is ∙ set_same (map process_view ps) p (process_view s) (seen_at ps p s within read) in
-    ap (λ xs. record { processes = xs; kernel = k' }) kept ∙ ap (λ j. record { processes = map process_view ps; kernel = j }) k-is ∙ same
+pub same_world : {ps : List Kept} {k : KernelState} {w : WorldState} {p : ℕ} {s : Kept} → IsAt ps k w p s → (j : KernelState) (u : Kept) → process_view u ≡ process_view s → j ≡ k
+    → kept_world (set ps p u) j ≡ w
+same_world {ps} {k} {w} {p} {s} at j u same j-is =
+    put at j u ∙ ap (λ xs. record { processes = xs; kernel = j }) (set_same w.processes p (process_view u) (seen at ∙ ap (λ x. Some x) (sym same)))
+    ∙ ap (λ i. record w { kernel = i }) (j-is ∙ ap (λ (x : WorldState). x.kernel) at.view)
 
--- a process in the place of another one of its profile
-set_profile : (ps ps' : List Kept) (p : ℕ) (s s' : Kept) → HaveOneProfile (map process_view ps) → p < length ps → s ≡ get_or ps p s → ps' ≡ set ps p s'
-    → profile_of (process_view s') ≡ profile_of (process_view s) → HaveOneProfile (map process_view ps')
-set_profile ps ps' p s s' have within read ps-is kept =
-    let profile : Profile = first_profile (map process_view ps) in
-    let here : get_or (map process_view ps) p (process_view s) ≡ process_view s = get_or_from_slice_get (map process_view ps) p (process_view s) (process_view s) (seen_at ps p s within read) in
-    let was : profile_of (process_view s) ≡ profile = subst (HasProfile profile) here (have p (process_view s) (omega (arith, within, length-map ps process_view))) in
-    let all : All (HasProfile profile) (set (map process_view ps) p (process_view s')) = All-set (HasProfile profile) (map process_view ps) p (process_view s') (kept ∙ was) have in
-    one_of profile (map process_view ps') (subst (λ xs. All (HasProfile profile) xs) (sym (ap (λ xs. map process_view xs) ps-is ∙ map-set process_view ps p s')) all)
+-- the step of process p, where it is s over kernel k
+step_led : (w : WorldState) (k j : KernelState) (p : ℕ) (s u : Process) (told : Stepped) → w.kernel ≡ k → slice_get w.processes p ≡ Some s → HasStepped k p s j u told
+    → (step w p ≡ record { processes = set w.processes p u; kernel = j }) × (told ≡ told_in w p)
+step_led w k j p s u told k-is at is =
+    let here : HasStepped w.kernel p s j u told = subst (λ i. HasStepped i p s j u told) (sym k-is) is in (
+      ap (λ o. after w p (step_effect w.kernel p o)) at ∙ after_effect w p s (step_effect w.kernel p (Some s)) at
+          ∙ ap (λ (x : StepResult). record { processes = set w.processes p x.process; kernel = x.kernel }) (sym here),
+      ap (λ (x : StepResult). x.told) here ∙ ap (λ o. stepped_of (asked_by o) (step_effect w.kernel p o)) (sym at),
+    )
 
--- the world's invariant, with another state of a process and of the kernel
-pub world_set : (ps ps' : List Kept) (k k' : KernelState) (p : ℕ) (s s' : Kept) → IsWorld ps k → p < length ps → s ≡ get_or ps p s → ps' ≡ set ps p s'
-    → profile_of (process_view s') ≡ profile_of (process_view s) → IsHeld s' → length k'.processes ≡ length k.processes → IsWorld ps' k'
-world_set ps ps' k k' p s s' inv within read ps-is kept held count =
-    let all : length ps' ≡ length ps = ap length ps-is ∙ length-set ps p s' in
+-- the world after the step, and what it was
+pub stepped_world : {ps : List Kept} {k : KernelState} {w : WorldState} {p : ℕ} {s : Kept} → IsAt ps k w p s → (j : KernelState) (u : Kept) (told : Stepped)
+    → HasStepped k p (process_view s) j (process_view u) told → (kept_world (set ps p u) j ≡ step w p) × (told ≡ told_in w p)
+stepped_world {ps} {k} {w} {p} {s} at j u told is =
+    let led = step_led w k j p (process_view s) (process_view u) told (ap (λ (x : WorldState). x.kernel) (sym at.view)) (seen at) is in
+    (put at j u ∙ sym led.0, led.1)
+
+-- the world after steps of process p in a row
+pub ran_world : {ps : List Kept} {k : KernelState} {w : WorldState} {p : ℕ} {s : Kept} → IsAt ps k w p s → (j : KernelState) (u : Kept) (n : ℕ)
+    → HasRun k p (process_view s) j (process_view u) n → kept_world (set ps p u) j ≡ run w (replicate n p)
+ran_world {ps} {k} {w} {p} {s} at j u n led = put at j u ∙ sym (led w (ap (λ (x : WorldState). x.kernel) (sym at.view)) (seen at))
+
+-- steps lead to what a call that may be refused memory left
+pub stepped_led : {E : Type 0} {ps : List Kept} {k : KernelState} {w : WorldState} {p : ℕ} {s : Kept} → IsAt ps k w p s → (j : KernelState) (u : Kept) (result : Result Stepped E)
+    → IfOk result (HasStepped k p (process_view s) j (process_view u)) → OnErr result (process_view u ≡ process_view s) → OnErr result (j ≡ k)
+    → (ns : List ℕ) × (kept_world (set ps p u) j ≡ run w ns)
+stepped_led {E} {ps} {k} {w} {p} {s} at j u (Ok told) is same kernel = (p ∷ [], (stepped_world at j u told is).0 ∙ sym (run-one w p))
+stepped_led {E} {ps} {k} {w} {p} {s} at j u (Err e) is same kernel = ([], same_world at j u same kernel ∙ sym (run-none w))
+
+pub ran_led : {E : Type 0} {ps : List Kept} {k : KernelState} {w : WorldState} {p : ℕ} {s : Kept} → IsAt ps k w p s → (j : KernelState) (u : Kept) (result : Result ℕ E)
+    → Advances k p s result j u → (ns : List ℕ) × (kept_world (set ps p u) j ≡ run w ns)
+ran_led {E} {ps} {k} {w} {p} {s} at j u (Ok n) came = (replicate n p, ran_world at j u n came.ok)
+ran_led {E} {ps} {k} {w} {p} {s} at j u (Err e) came = ([], same_world at j u came.err came.kernel ∙ sym (run-none w))
+
+-- local steps in a row
+pub run_locals : (k : KernelState) (p : ℕ) (s u : Process) (n : ℕ) → AreLocal n s u → HasRun k p s k u n
+unfolding with_process
+run_locals k p s u n local w k-is at = (execution_local n w p s u at local).leads ∙ ap (λ j. record { processes = set w.processes p u; kernel = j }) k-is
+
+-- n steps in a row, and one more, which stands for m
+pub run_next : (k j : KernelState) (p : ℕ) (s x u : Process) (told : Stepped) (n m c : ℕ) → HasRun k p s k x n → HasStepped k p x j u told
+    → ((v : WorldState) → told ≡ told_in v p → step v p ≡ run v (replicate m p)) → c ≡ n + m → HasRun k p s j u c
+run_next k j p s x u told n m c led is stands sum w k-is at =
+    let v : WorldState = record { processes = set w.processes p x; kernel = k } in
+    let next = step_led v k j p x u told refl (get-set_same w.processes p x (get_past w.processes p s at)) is in
+    sym (run_on w v (run v (replicate m p)) n m c p (sym (led w k-is at)) refl sum) ∙ sym (stands v next.1) ∙ next.0
+    ∙ ap (λ ps. record { processes = ps; kernel = j }) (set-set w.processes p x u)
+
+-- the world's invariant, with another state of a process and of the kernel, to which steps lead
+pub world_kept : {ps : List Kept} {k : KernelState} {w : WorldState} {p : ℕ} {s : Kept} → IsAt ps k w p s → IsWorld ps k → (j : KernelState) (u : Kept) (ns : List ℕ) → IsHeld u
+    → length j.processes ≡ length k.processes → kept_world (set ps p u) j ≡ run w ns → IsWorld (set ps p u) j
+world_kept {ps} {k} {w} {p} {s} at inv j u ns held count led =
+    let all : length (set ps p u) ≡ length ps = length-set ps p u in
     record {
-      held = rw ps-is (All-set IsHeld ps p s' held inv.held);
-      profile = set_profile ps ps' p s s' inv.profile within read ps-is kept;
+      held = All-set IsHeld ps p u held inv.held;
+      profile =
+          let profile = first_profile (map process_view ps) in
+          one_of profile _ (subst (λ (x : WorldState). All (HasProfile profile) x.processes) (sym led)
+          (run_profile profile w ns (subst (λ (x : WorldState). All (HasProfile profile) x.processes) at.view inv.profile)));
       some = omega (arith, inv.some);
       few = omega (arith, inv.few);
       count = all ∙ inv.count ∙ sym count;
@@ -109,20 +165,6 @@ fresh_world ps k inv = record {
   few = inv.starts.few;
   count = sym (ap (λ (x : KernelState). length x.processes) inv.empty ∙ length-replicate (length ps) closed_process);
 }
-
-pub seen_within : (ps : List Kept) (k : KernelState) (w : WorldState) (p : ℕ) → record { processes = map process_view ps; kernel = k } ≡ w → p < length w.processes → p < length ps
-seen_within ps k w p same below = subst (λ n. p < n) (ap (λ (x : WorldState). length x.processes) (sym same) ∙ length-map ps process_view) below
-
--- the world after local steps of a process that was taken out and put back
-pub ran_locally : (ps ps' : List Kept) (k : KernelState) (w : WorldState) (p n : ℕ) (s s' : Kept)
-    → record { processes = map process_view ps; kernel = k } ≡ w → p < length ps → s ≡ get_or ps p s → ps' ≡ set ps p s' → AreLocal n (process_view s) (process_view s')
-    → record { processes = map process_view ps'; kernel = k } ≡ run w (replicate n p)
-unfolding with_process
-ran_locally ps ps' k w p n s s' same within read ps-is local =
-    let v : WorldState = record { processes = map process_view ps; kernel = k } in
-    subst (λ x. record { processes = map process_view ps'; kernel = k } ≡ run x (replicate n p)) same
-    (ap (λ xs. record { processes = xs; kernel = k }) (ap (λ xs. map process_view xs) ps-is ∙ map-set process_view ps p s')
-    ∙ sym (execution_local n v p (process_view s) (process_view s') (seen_at ps p s within read) local).leads)
 
 -- a process more at its start
 pub started_more : (profile : Profile) (ks new : List Kept) (ps : List Program) (i : ℕ) (p : Program) (h : Held) → map process_view ks ≡ map (start_of profile) (take i ps) → i < length ps
@@ -148,9 +190,3 @@ fresh_is profile ks ps k so runs k-is some few =
           };
       empty = k-is ∙ ap empty_kernel (sym count);
     }
-
-pub none_taken : (w v : WorldState) (n p : ℕ) → v ≡ run w (replicate n p) → n ≡ 0 → v ≡ w
-none_taken w v n p is zero-is = is ∙ ap (λ i. run w (replicate i p)) zero-is ∙ run-none w
-
-pub seen_length : (ps : List Kept) (k : KernelState) (w : WorldState) → record { processes = map process_view ps; kernel = k } ≡ w → length w.processes ≡ length ps
-seen_length ps k w same = ap (λ (x : WorldState). length x.processes) (sym same) ∙ length-map ps process_view

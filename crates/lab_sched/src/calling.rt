@@ -6,7 +6,7 @@ ghost use Rattle.lc3_machine.specs.Effects.{next_step};
 ghost use Rattle.lc3_machine.specs.Steps.{AsksTrap};
 ghost use Rattle.ipc_kernel.specs.declared.call.Reply.TheVariants.{Plain};
 ghost use Rattle.ipc_traps.specs.Reply.{HasRoom, process_after_reply};
-ghost use Rattle.lab_sched.specs.Private.Calling.{HasAsked, HasGoneOn, HasRoomFor};
+ghost use Rattle.lab_sched.specs.Private.Calling.{GoesOn, HasAsked, HasRoomFor};
 
 use ipc_kernel::{Answer, Call, Kernel, Reply};
 use ipc_traps::{
@@ -90,11 +90,7 @@ fn go_on_at(
 ) -> Result<Option<Call>, AllocError>
     requires process { pid < length kernel.old.processes }
     requires trap { next_step running.old.process ≡ Stops (Trap vector) }
-    ensures ok { IfOk result
-        (HasGoneOn kernel.old pid running.old.process kernel.new running.new) }
-    ensures err { OnErr result (running.new.process ≡ running.old.process) }
-    ensures kernel { OnErr result (kernel.new ≡ kernel.old) }
-    ensures count { length kernel.new.processes ≡ length kernel.old.processes }
+    ensures goes { GoesOn kernel.old pid running.old result kernel.new running.new }
 {
     match ask_with_room(alloc, running, vector)? {
         Asked::Kernel(call) => match kernel.call(pid, &call) {
@@ -125,11 +121,7 @@ fn go_on_at_any(
 ) -> Result<Option<Call>, AllocError>
     requires process { pid < length kernel.old.processes }
     requires trap { next_step running.old.process ≡ Stops (Trap vector) }
-    ensures ok { IfOk result
-        (HasGoneOn kernel.old pid running.old.process kernel.new running.new) }
-    ensures err { OnErr result (running.new.process ≡ running.old.process) }
-    ensures kernel { OnErr result (kernel.new ≡ kernel.old) }
-    ensures count { length kernel.new.processes ≡ length kernel.old.processes }
+    ensures goes { GoesOn kernel.old pid running.old result kernel.new running.new }
 {
     go_on_at(alloc, running, vector, kernel, pid)
 }
@@ -146,11 +138,7 @@ pub(crate) fn go_on(
 ) -> Result<Option<Call>, AllocError>
     requires process { pid < length kernel.old.processes }
     requires trap { next_step running.old.process ≡ Stops (Trap vector) }
-    ensures ok { IfOk result
-        (HasGoneOn kernel.old pid running.old.process kernel.new running.new) }
-    ensures err { OnErr result (running.new.process ≡ running.old.process) }
-    ensures kernel { OnErr result (kernel.new ≡ kernel.old) }
-    ensures count { length kernel.new.processes ≡ length kernel.old.processes }
+    ensures goes { GoesOn kernel.old pid running.old result kernel.new running.new }
 {
     match vector {
         MQ_SEND => go_on_at(alloc, running, MQ_SEND, kernel, pid),

@@ -3,6 +3,7 @@ ghost use Rattle.std.specs.Prelude.{◌≡◌, ◌<◌, ◌≤◌, length, IfOk,
 ghost use Rattle.lc3_machine.specs.Steps.{AreOwnSteps};
 ghost use Rattle.lc3_machine.specs.declared.want.Want.TheVariants.{Trap, End};
 ghost use Rattle.lab_sched.specs.Held.{process_view, HasStepped, IsHeld};
+ghost use Rattle.lab_sched.specs.Private.Moved.{Steps};
 ghost use Rattle.lab_sched.specs.LocalRun.{AreLocal};
 ghost use Rattle.lab_sched.specs.Verdicts.{IsWaiting};
 ghost use Rattle.lab_sched.specs.Worlds.{Waiting as WaitingSeen, machine_of};
@@ -17,7 +18,7 @@ use ipc_kernel::{Answer, Call, Kernel, Reply};
 use ipc_traps::Asked;
 use lc3_machine::{How, Progress, Want};
 use std::alloc::{AllocError, Global};
-pub(crate) use untold::move_on;
+pub(crate) use untold::advance;
 
 #[derive(Drop)]
 struct CallAt {
@@ -143,13 +144,7 @@ fn retry(process: &mut Process, kernel: &mut Kernel, pid: usize) -> Result<Stepp
     requires process { pid < length kernel.old.processes }
     requires held { IsHeld process.old }
     requires waits { IsWaiting (process_view process.old) }
-    ensures ok { IfOk result
-        (HasStepped kernel.old pid (process_view process.old) kernel.new
-        (process_view process.new)) }
-    ensures held { IsHeld process.new }
-    ensures err { OnErr result (process_view process.new ≡ process_view process.old) }
-    ensures kernel { OnErr result (kernel.new ≡ kernel.old) }
-    ensures count { length kernel.new.processes ≡ length kernel.old.processes }
+    ensures steps { Steps kernel.old pid process.old result kernel.new process.new }
 {
     match process {
         Process::Waiting(_, call) => match kernel.call(pid, call)? {
@@ -173,13 +168,7 @@ fn step_trap(
 ) -> Result<Stepped, AllocError>
     requires process { pid < length kernel.old.processes }
     requires stands { StandsBefore (process_view process.old) (Trap vector) }
-    ensures ok { IfOk result
-        (HasStepped kernel.old pid (process_view process.old) kernel.new
-        (process_view process.new)) }
-    ensures held { IsHeld process.new }
-    ensures err { OnErr result (process_view process.new ≡ process_view process.old) }
-    ensures kernel { OnErr result (kernel.new ≡ kernel.old) }
-    ensures count { length kernel.new.processes ≡ length kernel.old.processes }
+    ensures steps { Steps kernel.old pid process.old result kernel.new process.new }
 {
     match process {
         Process::Running(running) => match ask_with_room(alloc, running, vector)? {
@@ -215,13 +204,7 @@ fn step_end(
     requires process { pid < length kernel.old.processes }
     requires held { IsHeld process.old }
     requires stands { StandsBefore (process_view process.old) (End how) }
-    ensures ok { IfOk result
-        (HasStepped kernel.old pid (process_view process.old) kernel.new
-        (process_view process.new)) }
-    ensures held { IsHeld process.new }
-    ensures err { OnErr result (process_view process.new ≡ process_view process.old) }
-    ensures kernel { OnErr result (kernel.new ≡ kernel.old) }
-    ensures count { length kernel.new.processes ≡ length kernel.old.processes }
+    ensures steps { Steps kernel.old pid process.old result kernel.new process.new }
 {
     let _ = kernel.call(pid, &Call::Exit)?;
     end_process(process, how);
@@ -238,13 +221,7 @@ fn step_on(
     requires process { pid < length kernel.old.processes }
     requires held { IsHeld process.old }
     requires stops { StopsBy (process_view process.old) progress }
-    ensures ok { IfOk result
-        (HasStepped kernel.old pid (process_view process.old) kernel.new
-        (process_view process.new)) }
-    ensures held { IsHeld process.new }
-    ensures err { OnErr result (process_view process.new ≡ process_view process.old) }
-    ensures kernel { OnErr result (kernel.new ≡ kernel.old) }
-    ensures count { length kernel.new.processes ≡ length kernel.old.processes }
+    ensures steps { Steps kernel.old pid process.old result kernel.new process.new }
 {
     match process {
         Process::Running(_) => match progress {

@@ -1,5 +1,5 @@
 -- What a running process asks by a trap, and what comes of its call.
-use Rattle.std.specs.Prelude.{ℕ, ◌≡◌, Option, Some, None, true}
+use Rattle.std.specs.Prelude.{ℕ, ◌≡◌, Option, Some, None, Result, true}
 use Rattle.lc3_machine.specs.Process.{Process as Machine, Held}
 use Rattle.ipc_kernel.specs.Kernel.{KernelState}
 use Rattle.ipc_kernel.specs.declared.call.Call.{Call}
@@ -11,7 +11,7 @@ use Rattle.lab_sched.specs.declared.process.Process.TheVariants as kept
 use Rattle.lab_sched.specs.Worlds.{Running, Waiting}
 use Rattle.lab_sched.specs.LocalRun.{IsLocalStep}
 use Rattle.lab_sched.specs.Held.{IsHeld}
-use Rattle.lab_sched.specs.Private.Moved.{HasMoved}
+use Rattle.lab_sched.specs.Private.Moved.{Came, HasMoved}
 
 -- a running process m has asked, and is n: a call of the kernel, which changes nothing, or one that was refused, a local step
 abbrev pub HasAsked : Machine → Asked → Machine → Type 0
@@ -27,3 +27,7 @@ HasRoomFor (asked_for.Refused e) h = Unit {0}
 abbrev pub HasGoneOn : KernelState → ℕ → Machine → KernelState → Held → Option Call → Type 0
 HasGoneOn k p m j h None = HasMoved k p (Running m) j (Running h.process) true
 HasGoneOn k p m j h (Some c) = HasMoved k p (Running m) j (Waiting m c) true × (h.process ≡ m) × IsHeld (kept.Waiting h c)
+
+-- the same, where it may be refused memory: nothing has changed then
+abbrev pub GoesOn : {E : Type 0} → KernelState → ℕ → Held → Result (Option Call) E → KernelState → Held → Type 0
+GoesOn k p g result j h = Came (HasGoneOn k p g.process j h) k (kept.Running g) result j (kept.Running h)

@@ -11,8 +11,6 @@ use Rattle.ipc_kernel.specs.declared.call.Answer.TheVariants.{Done, Wait}
 use Rattle.lab_sched.specs.declared.stepped.Stepped.{Stepped}
 use Rattle.lab_sched.specs.declared.stepped.Stepped.TheVariants as stepped
 use Rattle.lab_sched.specs.Settling.{AsksFor}
-use Rattle.lc3_machine.specs.declared.machine.Progress.{Progress}
-use Rattle.lab_sched.specs.Stepping.{StopsBy}
 
 -- process p asks for a call, or waits for it
 abbrev pub AsksIn : WorldState → ℕ → Call → Type 0
@@ -35,7 +33,3 @@ pub record IsTaken (w : WorldState) (es : List Entry) (ps : List ℕ) (v : World
 abbrev pub answer_told : Stepped → Answer
 answer_told (stepped.Called r) = Done r
 answer_told other = Wait
-
--- what kept process p from its next local step
-abbrev pub StopsByIn : WorldState → ℕ → Progress → Type 0
-StopsByIn w p progress = (s : Process) → slice_get w.processes p ≡ Some s → StopsBy s progress

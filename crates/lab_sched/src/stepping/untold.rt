@@ -1,11 +1,11 @@
 //! Steps of which nobody is told what they were.
-ghost use Rattle.std.specs.Prelude.{◌≡◌, ◌<◌, length, IfOk, OnErr};
+ghost use Rattle.std.specs.Prelude.{◌<◌, ◌≤◌, length, IfOk};
 ghost use Rattle.lc3_machine.specs.declared.want.Want.TheVariants.{Trap};
 ghost use Rattle.lab_sched.specs.Held.{process_view, IsHeld};
-ghost use Rattle.lab_sched.specs.Private.Moved.{HasMoved};
+ghost use Rattle.lab_sched.specs.Private.Moved.{Advances, Moves};
 ghost use Rattle.lab_sched.specs.Stepping.{StandsBefore, StopsBy};
 
-use super::{begin_wait, retry, step_end};
+use super::{begin_wait, local_steps, retry, step_end};
 use crate::Process;
 use crate::calling::go_on;
 use ipc_kernel::Kernel;
@@ -23,13 +23,7 @@ fn pass_trap(
 ) -> Result<bool, AllocError>
     requires process { pid < length kernel.old.processes }
     requires stands { StandsBefore (process_view process.old) (Trap vector) }
-    ensures ok { IfOk result
-        (HasMoved kernel.old pid (process_view process.old) kernel.new
-        (process_view process.new)) }
-    ensures held { IsHeld process.new }
-    ensures err { OnErr result (process_view process.new ≡ process_view process.old) }
-    ensures kernel { OnErr result (kernel.new ≡ kernel.old) }
-    ensures count { length kernel.new.processes ≡ length kernel.old.processes }
+    ensures moves { Moves kernel.old pid process.old result kernel.new process.new }
 {
     match process {
         Process::Running(running) => match go_on(alloc, running, vector, kernel, pid)? {
@@ -46,7 +40,7 @@ fn pass_trap(
 /// The next step of a process that takes no local step, as `step_on` takes it; whether it had an
 /// effect.
 #[inline(always)]
-pub(crate) fn move_on(
+fn move_on(
     alloc: Global,
     process: &mut Process,
     progress: Progress,
@@ -56,13 +50,7 @@ pub(crate) fn move_on(
     requires process { pid < length kernel.old.processes }
     requires held { IsHeld process.old }
     requires stops { StopsBy (process_view process.old) progress }
-    ensures ok { IfOk result
-        (HasMoved kernel.old pid (process_view process.old) kernel.new
-        (process_view process.new)) }
-    ensures held { IsHeld process.new }
-    ensures err { OnErr result (process_view process.new ≡ process_view process.old) }
-    ensures kernel { OnErr result (kernel.new ≡ kernel.old) }
-    ensures count { length kernel.new.processes ≡ length kernel.old.processes }
+    ensures moves { Moves kernel.old pid process.old result kernel.new process.new }
 {
     match process {
         Process::Running(_) => match progress {
@@ -75,5 +63,34 @@ pub(crate) fn move_on(
         },
         Process::Waiting(_, _) => Ok(retry(process, kernel, pid)?.has_moved()),
         Process::Ended(_) => Ok(false),
+    }
+}
+
+/// Takes local steps of a process up to its next call, and then the step of that call, or steps
+/// without effect, at most `most` in all; with how many were taken.
+#[inline(always)]
+pub(crate) fn advance(
+    alloc: Global,
+    process: &mut Process,
+    most: u32,
+    kernel: &mut Kernel,
+    pid: usize,
+) -> Result<u32, AllocError>
+    requires process { pid < length kernel.old.processes }
+    requires held { IsHeld process.old }
+    requires some { 1 ≤ most }
+    ensures advances { Advances kernel.old pid process.old result kernel.new process.new }
+    ensures some { IfOk result (λ taken. 1 ≤ taken) }
+    ensures within { IfOk result (λ taken. taken ≤ most) }
+{
+    let (taken, progress) = local_steps(process, most);
+    if taken == most {
+        return Ok(taken);
+    }
+    match move_on(alloc, process, progress, kernel, pid) {
+        Ok(true) => Ok(taken + 1),
+        // a step without effect stands for all that are left
+        Ok(false) => Ok(most),
+        Err(e) => { if taken > 0 { Ok(taken) } else { Err(e) } }
     }
 }

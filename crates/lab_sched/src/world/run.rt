@@ -1,16 +1,12 @@
 //! Runs of worlds by schedules.
 ghost use Rattle.std.specs.Prelude.{◌≡◌, ◌<◌, ◌≤◌, ◌↔◌, true, false, length, replicate, take, slice_index, IfOk, IfErr, OnOk, OnErr};
 ghost use Rattle.lab_sched.specs.Schedules.{steps_of};
-ghost use Rattle.lab_sched.specs.Worlds.{HasNoProcess, run, step};
-ghost use Rattle.lab_sched.specs.Held.{told_in};
-ghost use Rattle.lab_sched.specs.Private.Moved.{has_moved};
-ghost use Rattle.lab_sched.specs.Private.Settling.{StopsByIn};
-ghost use Rattle.lab_sched.specs.declared.world.StepFault.TheVariants.{NoProcess, NoMemory};
+ghost use Rattle.lab_sched.specs.Worlds.{HasNoProcess, run};
+ghost use Rattle.lab_sched.specs.declared.world.StepFault.TheVariants.{NoProcess};
 
 use super::{StepFault, World};
 use crate::Schedule;
-use crate::stepping::{local_steps, move_on};
-use lc3_machine::Progress;
+use crate::stepping::advance;
 use std::fmt;
 
 /// How many steps of a process in a row are taken before who looks on is told of them.
@@ -64,47 +60,12 @@ impl World {
         if pid >= self.processes.len() {
             return Err(StepFault::NoProcess);
         }
-        let (taken, progress) = self.advance_locally(pid, most);
-        if taken == most {
-            return Ok(taken);
-        }
-        match self.move_on(pid, progress) {
-            Ok(true) => Ok(taken + 1),
-            // a step without effect stands for all that are left
-            Ok(false) => Ok(most),
-            Err(fault) => { if taken > 0 { Ok(taken) } else { Err(fault) } }
-        }
-    }
-
-    /// Takes local steps of a process, at most so many; with how many were taken, and what kept a
-    /// running process from the next one.
-    #[inline(always)]
-    fn advance_locally(&mut self, pid: usize, most: u32) -> (u32, Progress)
-        requires process { pid < length self.old.processes }
-        ensures world { self.new ≡ run self.old (replicate result.0 pid) }
-        ensures within { result.0 ≤ most }
-        ensures stops { result.0 < most → StopsByIn self.new pid result.1 }
-    {
-        let process = &mut self.processes[pid];
-        local_steps(process, most)
-    }
-
-    /// Takes the next step of a process, which isn't local; whether it had an effect.
-    #[inline(always)]
-    fn move_on(&mut self, pid: usize, progress: Progress) -> Result<bool, StepFault>
-        requires process { pid < length self.old.processes }
-        requires stops { StopsByIn self.old pid progress }
-        ensures world { OnOk result (self.new ≡ step self.old pid) }
-        ensures moved { IfOk result (λ moved. moved ≡ has_moved (told_in self.old pid)) }
-        ensures err { OnErr result (self.new ≡ self.old) }
-        ensures fault { IfErr result (λ fault. fault ≡ NoMemory) }
-    {
         let alloc = *self.processes.allocator();
         let process = &mut self.processes[pid];
-        let Ok(moved) = move_on(alloc, process, progress, &mut self.kernel, pid) else {
+        let Ok(taken) = advance(alloc, process, most, &mut self.kernel, pid) else {
             return Err(StepFault::NoMemory);
         };
-        Ok(moved)
+        Ok(taken)
     }
 
     fn run_steps(&mut self, pid: usize, count: u32) -> Result<(), RunStop>

@@ -12,9 +12,9 @@ returns-then-taken-eq1-clause-ok c =
 pub returns-clause-ok : goal.returns-clause-ok
 returns-clause-ok c =
     let same = local_none (process_view c.args.process.now) (process_view c.local_steps-taken.new.process) c.local_steps-taken.result.0 c.local_steps-taken.ensures.local (omega arith) in
-    subst (λ (s : Process). IfOk c.step_on.result (HasStepped c.args.kernel.now c.args.pid s c.step_on.new.kernel (process_view c.step_on.new.process))) same c.step_on.ensures.ok
+    subst (λ (s : Process). IfOk c.step_on.result (HasStepped c.args.kernel.now c.args.pid s c.step_on.new.kernel (process_view c.step_on.new.process))) same c.step_on.ensures.steps.ok
 
 pub returns-clause-err : goal.returns-clause-err
 returns-clause-err c =
     let same = local_none (process_view c.args.process.now) (process_view c.local_steps-taken.new.process) c.local_steps-taken.result.0 c.local_steps-taken.ensures.local (omega arith) in
-    subst (λ (s : Process). OnErr c.step_on.result (process_view c.step_on.new.process ≡ s)) same c.step_on.ensures.err
+    subst (λ (s : Process). OnErr c.step_on.result (process_view c.step_on.new.process ≡ s)) same c.step_on.ensures.steps.err

@@ -1,37 +1,25 @@
-use Rattle.std.proofs.Common.{◌≡◌, refl, ap, ◌∙◌, ◌+◌, ◌-◌, sym, arith, length, replicate}
-use Rattle.lab_sched.specs.Worlds.{WorldState}
-use Rattle.lab_sched.specs.declared.world.StepFault.TheVariants.{NoMemory, NoProcess}
-use Rattle.lab_sched.proofs.WorldLemmas.{none_taken, seen_length}
-use Rattle.lab_sched.proofs.Runs.{length-run, run-one, run_on, run_unmoved}
+use Rattle.std.proofs.Common.{arith}
+use Rattle.lab_sched.proofs.WorldLemmas.{at_index, ran_led, ran_world, same_world, world_kept}
 use Rattle.lab_sched.proofs.world.World.advance.Goals as goal
 
-pub returns-in-Ok-true-clause-world : goal.returns-in-Ok-true-clause-world
-returns-in-Ok-true-clause-world c =
-    run_on c.args.self.now c.advance_locally-taken.new.self _ c.advance_locally-taken.result.0 1 (c.advance_locally-taken.result.0 + 1) c.args.pid
-    c.advance_locally-taken.ensures.world (c.in-Ok-true.ensures.world ∙ sym (run-one c.advance_locally-taken.new.self c.args.pid)) refl
+pub invariant_of-self : goal.invariant_of-self
+invariant_of-self c =
+    let at = at_index c.self.inside.processes.items c.self.inside.kernel c.args.self.now c.args.pid c.index_mut-process.result.now c.self.view_is (omega (arith, c.self.inside.processes.ok.0)) c.index_mut-process.ensures.value in
+    let led = ran_led at c.advance.new.kernel c.advance.new.process c.advance.result c.advance.ensures.advances in
+    world_kept at c.self.invariant c.advance.new.kernel c.advance.new.process led.0 c.advance.ensures.advances.held c.advance.ensures.advances.count led.1
 
-pub returns-in-Ok-false-clause-world : goal.returns-in-Ok-false-clause-world
-returns-in-Ok-false-clause-world c =
-    run_on c.args.self.now c.advance_locally-taken.new.self _ c.advance_locally-taken.result.0 (c.args.most - c.advance_locally-taken.result.0) c.args.most c.args.pid
-    c.advance_locally-taken.ensures.world
-    (c.in-Ok-false.ensures.world ∙ run_unmoved c.advance_locally-taken.new.self c.args.pid (c.args.most - c.advance_locally-taken.result.0) (sym c.in-Ok-false.field-0-test ∙ c.in-Ok-false.ensures.moved))
-    (omega (arith, c.advance_locally-taken.ensures.within))
+pub invariant_of-self-2 : goal.invariant_of-self-2
+invariant_of-self-2 c =
+    let at = at_index c.self.inside.processes.items c.self.inside.kernel c.args.self.now c.args.pid c.index_mut-process.result.now c.self.view_is (omega (arith, c.self.inside.processes.ok.0)) c.index_mut-process.ensures.value in
+    let led = ran_led at c.advance.new.kernel c.advance.new.process c.advance.result c.advance.ensures.advances in
+    world_kept at c.self.invariant c.advance.new.kernel c.advance.new.process led.0 c.advance.ensures.advances.held c.advance.ensures.advances.count led.1
 
-pub returns-then-taken-gt0-clause-world : goal.returns-then-taken-gt0-clause-world
-returns-then-taken-gt0-clause-world c = c.in-Err.ensures.err ∙ c.advance_locally-taken.ensures.world
+pub returns-clause-world : goal.returns-clause-world
+returns-clause-world c =
+    let at = at_index c.self.inside.processes.items c.self.inside.kernel c.args.self.now c.args.pid c.index_mut-process.result.now c.self.view_is (omega (arith, c.self.inside.processes.ok.0)) c.index_mut-process.ensures.value in
+    ran_world at c.advance.new.kernel c.advance.new.process c.in-Ok.taken c.in-Ok.ensures.advances.ok
 
-pub returns-else-taken-gt0-clause-err : goal.returns-else-taken-gt0-clause-err
-returns-else-taken-gt0-clause-err c =
-    c.in-Err.ensures.err ∙ none_taken c.args.self.now c.advance_locally-taken.new.self c.advance_locally-taken.result.0 c.args.pid c.advance_locally-taken.ensures.world (omega arith)
-
-pub returns-else-taken-gt0-clause-no_process : goal.returns-else-taken-gt0-clause-no_process
-returns-else-taken-gt0-clause-no_process c =
-    let all = seen_length c.self.inside.processes.items c.self.inside.kernel c.args.self.now c.self.view_is in
-    (λ e. absurd (let no : NoMemory ≡ NoProcess = sym c.in-Err.ensures.fault ∙ e in cc), λ past. absurd (omega (arith, all, c.self.inside.processes.ok.0)))
-
-pub move_on-requires-clause-process : goal.move_on-requires-clause-process
-move_on-requires-clause-process c =
-    let all = seen_length c.self.inside.processes.items c.self.inside.kernel c.args.self.now c.self.view_is in
-    let kept : length c.advance_locally-taken.new.self.processes ≡ length c.args.self.now.processes =
-    ap (λ (w : WorldState). length w.processes) c.advance_locally-taken.ensures.world ∙ length-run c.args.self.now (replicate c.advance_locally-taken.result.0 c.args.pid) in
-    omega (arith, all, kept, c.self.inside.processes.ok.0)
+pub returns-in_default-clause-err : goal.returns-in_default-clause-err
+returns-in_default-clause-err c =
+    let at = at_index c.self.inside.processes.items c.self.inside.kernel c.args.self.now c.args.pid c.index_mut-process.result.now c.self.view_is (omega (arith, c.self.inside.processes.ok.0)) c.index_mut-process.ensures.value in
+    same_world at c.advance.new.kernel c.advance.new.process c.in_default.ensures.advances.err c.in_default.ensures.advances.kernel

@@ -1,23 +1,15 @@
+use Rattle.lab_sched.proofs.ReportAdditions.{next_in, next_led}
 use Rattle.std.proofs.Common.{refl}
-use Rattle.lab_sched.proofs.WorldLemmas.{seen_within, world_set}
-use Rattle.lab_sched.proofs.ReportAdditions.{next_in}
-use Rattle.lab_sched.proofs.Profiles.{next_keeps}
-use Rattle.lab_sched.specs.Held.{process_view}
+use Rattle.lab_sched.proofs.WorldLemmas.{at_place, world_kept}
 use Rattle.lab_sched.proofs.world.World.find_next.Goals as goal
 
 pub invariant_of-self : goal.invariant_of-self
 invariant_of-self c =
-    let ps = c.self.inside.processes.items in
-    let within = seen_within ps c.self.inside.kernel c.args.self.now c.args.pid c.self.view_is c.requires.process in
-    let s = c.index_mut-process.result.now in
-    let kept = next_keeps (process_view s) c.args.most c.find_next.result (process_view c.find_next.new.process) c.find_next.ensures.next in
-    world_set ps _ c.self.inside.kernel c.self.inside.kernel c.args.pid s c.find_next.new.process c.self.invariant within c.index_mut-process.ensures.value refl kept c.find_next.ensures.held refl
+    let at = at_place c.self.inside.processes.items c.self.inside.kernel c.args.self.now c.args.pid c.index_mut-process.result.now c.self.view_is c.requires.process c.index_mut-process.ensures.value in
+    let led = next_led c.args.self.now _ c.args.pid c.args.most c.find_next.result (next_in at c.args.most c.find_next.result c.find_next.new.process c.find_next.ensures.next) in
+    world_kept at c.self.invariant c.self.inside.kernel c.find_next.new.process led.0 c.find_next.ensures.held refl led.1
 
 pub returns : goal.returns
 returns c =
-    let ps = c.self.inside.processes.items in
-    let within = seen_within ps c.self.inside.kernel c.args.self.now c.args.pid c.self.view_is c.requires.process in
-    record {
-      next = next_in ps _ c.self.inside.kernel c.args.self.now c.args.pid c.args.most c.index_mut-process.result.now c.find_next.new.process c.find_next.result
-          c.self.view_is within c.index_mut-process.ensures.value refl c.find_next.ensures.next;
-    }
+    let at = at_place c.self.inside.processes.items c.self.inside.kernel c.args.self.now c.args.pid c.index_mut-process.result.now c.self.view_is c.requires.process c.index_mut-process.ensures.value in
+    record { next = next_in at c.args.most c.find_next.result c.find_next.new.process c.find_next.ensures.next }

@@ -1,10 +1,9 @@
-use Rattle.std.proofs.Common.{◌≡◌, length, take, get_or, ap, ◌∙◌, sym, arith}
+use Rattle.std.proofs.Common.{◌≡◌, length, take, get_or, ap, ◌∙◌, sym, arith, length-append}
 use Rattle.lab_sched.specs.Schedules.{block, steps_of}
 use Rattle.lab_sched.specs.Worlds.{WorldState, run}
 use Rattle.lab_sched.proofs.Runs.{run-none, length-run}
 use Rattle.lab_sched.proofs.ScheduleRuns.{steps_of-none, steps-more, ran-more, ran-until, next-step, steps-among, steps-few}
 use Rattle.std.proofs.lemmas.List.{length-replicate}
-use Rattle.std.proofs.Common.{length-append}
 use Rattle.lab_sched.proofs.world.World.run_watched.Goals as goal
 
 pub loop-block-init : goal.loop-block-init
