@@ -7,25 +7,18 @@ use Rattle.std.specs.Str.Parse.{digits_value, AllDigits}
 use Rattle.std.proofs.lemmas.Bool.{and_parts}
 use Rattle.std.proofs.lemmas.Bool.Decides.{nat_tests}
 use Rattle.std.proofs.lemmas.Int.Digits.{digits_value-lt}
+use Rattle.std.proofs.Math.Nat.{pow-le-pow_right}
 use Rattle.lc3_word.specs.Numbers.{unsigned_number}
 use Rattle.lab_conditions.specs.Written.{hexadecimal_in}
-
-less : (a b : ℕ) → nat_lt a b ≡ true → a < b
-less a b h = grind (arith, nat_tests)
 
 all_digits : (cs : List ℕ) → list_all (λ c. nat_lt (digit_value c) 16) cs ≡ true → AllDigits 16 cs
 all_digits [] h = tt
 all_digits (c ∷ cs) h =
     let two = and_parts (nat_lt (digit_value c) 16) (list_all (λ c. nat_lt (digit_value c) 16) cs) h in
-    (less (digit_value c) 16 two.0, all_digits cs two.1)
+    (grind (arith, nat_tests), all_digits cs two.1)
 
 value_small : (ds : List ℕ) → length ds ≤ 4 → AllDigits 16 ds → digits_value 16 ds < 65536
-value_small [] few all = let h : digits_value 16 [] < 1 = digits_value-lt 16 [] all in omega (arith, h)
-value_small (a ∷ []) few all = let h : digits_value 16 (a ∷ []) < 16 = digits_value-lt 16 (a ∷ []) all in omega (arith, h)
-value_small (a ∷ b ∷ []) few all = let h : digits_value 16 (a ∷ b ∷ []) < 256 = digits_value-lt 16 (a ∷ b ∷ []) all in omega (arith, h)
-value_small (a ∷ b ∷ c ∷ []) few all = let h : digits_value 16 (a ∷ b ∷ c ∷ []) < 4096 = digits_value-lt 16 (a ∷ b ∷ c ∷ []) all in omega (arith, h)
-value_small (a ∷ b ∷ c ∷ d ∷ []) few all = digits_value-lt 16 (a ∷ b ∷ c ∷ d ∷ []) all
-value_small (a ∷ b ∷ c ∷ d ∷ e ∷ ds) few all = absurd (omega (arith, few))
+value_small ds few all = omega (arith, digits_value-lt 16 ds all, pow-le-pow_right {n = 16} (omega arith) {i = length ds} {j = 4} few)
 
 small : (digits : List ℕ) (n : ℕ) → length digits ≤ 4 → unsigned_number 16 digits ≡ Some n → n < 65536
 unfolding unsigned_number
@@ -42,12 +35,11 @@ small (d ∷ ds) n few e = by (list_all (λ c. nat_lt (digit_value c) 16) (d ∷
 -- such a number is below 65536, and is given as it is
 pub address_small : (digits : List ℕ) (n : ℕ) → length digits ≤ 4 → Some n ≡ option_map (λ n. min n 1_000_000_000) (unsigned_number 16 digits)
     → (n < 65536) × (Some n ≡ unsigned_number 16 digits)
-address_small digits n few e = by (unsigned_number 16 digits) refl
+address_small digits n few e = by (unsigned_number 16 digits) refl e
   where
-    by : (o : Option ℕ) → unsigned_number 16 digits ≡ o → (n < 65536) × (Some n ≡ unsigned_number 16 digits)
-    by None is = let none : Some n ≡ None = e ∙ ap (option_map (λ n. min n 1_000_000_000)) is in absurd (cc)
-    by (Some v) is =
-        let some : Some n ≡ Some (min v 1_000_000_000) = e ∙ ap (option_map (λ n. min n 1_000_000_000)) is in
+    by : (o : Option ℕ) → unsigned_number 16 digits ≡ o → Some n ≡ option_map (λ n. min n 1_000_000_000) o → (n < 65536) × (Some n ≡ unsigned_number 16 digits)
+    by None is some = absurd (cc)
+    by (Some v) is some =
         let value : n ≡ min v 1_000_000_000 = cc in
         let few : v < 65536 = small digits v few is in
         let same : n ≡ v = omega (arith, value, few) in

@@ -22,9 +22,7 @@ waits_alike k j p consistent alike (Some c) = ap (λ a. not (is_done a)) (sym (a
 -- a process stands over a kernel as it does over one that is alike
 pub so_alike : (x : State) (k j : KernelState) (p : ℕ) (s : Process) → IsConsistent k → IsAlike k j → is_so x j p s ≡ is_so x k p s
 so_alike state.Blocked k j p s consistent alike = waits_alike k j p consistent alike (call_of s)
-so_alike state.Ended k j p s consistent alike = refl
-so_alike state.Crashed k j p s consistent alike = refl
-so_alike (state.At first last) k j p s consistent alike = refl
+so_alike _ k j p s consistent alike = refl
 
 -- what is so of a process in the one world is so of it in the other, and their kernels are alike
 pub record Carries (w v : WorldState) : Type 0 where
@@ -43,10 +41,8 @@ tail_none : {X : Type 0} (f g : ℕ → X → Bool) (n : ℕ) (x : X) (xs : List
 tail_none f g n x xs h i j e z at so = let y = h (suc i) j (omega (arith, e)) z at so in absurd (let none : None ≡ Some y.0 = y.1 in cc)
 
 cond_le : (a b : Bool) (m n : ℕ) → m ≤ n → (a ≡ true → b ≡ true) → cond a 1 0 + m ≤ cond b 1 0 + n
-cond_le true true m n few h = omega (arith, few)
-cond_le true false m n few h = let no : false ≡ true = h refl in absurd (cc)
-cond_le false true m n few h = omega (arith, few)
-cond_le false false m n few h = omega (arith, few)
+cond_le true b m n few h = rw (h refl) (omega (arith, few))
+cond_le false b m n few h = omega (arith, few)
 
 -- how many of a list are so, where the first has number n
 abbrev pub so_many : {X : Type 0} → (ℕ → X → Bool) → ℕ → List X → ℕ
@@ -62,17 +58,17 @@ first_so : {X : Type 0} (f g : ℕ → X → Bool) (n : ℕ) (x y : X) (xs ys : 
 first_so f g n x y xs ys h so =
     let z = h 0 n (omega arith) x refl so in
     let same : Some y ≡ Some z.0 = z.1 in
-    let is : y ≡ z.0 = cc in
-    subst (λ u. g n u ≡ true) (sym is) z.2
+    let is : z.0 ≡ y = cc in
+    subst (λ u. g n u ≡ true) is z.2
 
 pub count_le : {X : Type 0} (f g : ℕ → X → Bool) (n : ℕ) (xs ys : List X) → Follows f g n xs ys → so_many f n xs ≤ so_many g n ys
 count_le f g n [] ys h = omega arith
 count_le f g n (x ∷ xs) [] h =
-    subst (λ m. m ≤ 0) (sym (one_more f n x xs)) (cond_le (f n x) false (so_many f (n + 1) xs) 0 (count_le f g (n + 1) xs [] (tail_none f g n x xs h)) (none_so f g n x xs h))
+    let rest = cond_le (f n x) false (so_many f (n + 1) xs) 0 (count_le f g (n + 1) xs [] (tail_none f g n x xs h)) (none_so f g n x xs h) in
+    omega (arith, rest, one_more f n x xs)
 count_le f g n (x ∷ xs) (y ∷ ys) h =
-    subst (λ m. m ≤ so_many g n (y ∷ ys)) (sym (one_more f n x xs))
-    (subst (λ m. cond (f n x) 1 0 + so_many f (n + 1) xs ≤ m) (sym (one_more g n y ys))
-    (cond_le (f n x) (g n y) (so_many f (n + 1) xs) (so_many g (n + 1) ys) (count_le f g (n + 1) xs ys (tail f g n x y xs ys h)) (first_so f g n x y xs ys h)))
+    let rest = cond_le (f n x) (g n y) (so_many f (n + 1) xs) (so_many g (n + 1) ys) (count_le f g (n + 1) xs ys (tail f g n x y xs ys h)) (first_so f g n x y xs ys h) in
+    omega (arith, rest, one_more f n x xs, one_more g n y ys)
 
 many : (x : State) (w v : WorldState) → Carries w v → how_many x w ≤ how_many x v
 many x w v carries = count_le (λ p s. is_so x w.kernel p s) (λ p s. is_so x v.kernel p s) 0 w.processes v.processes

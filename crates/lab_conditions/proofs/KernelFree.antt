@@ -1,5 +1,5 @@
 -- Conditions that hold over any kernel.
-use Rattle.std.proofs.Common.{ℕ, ◌≡◌, ◌≤◌, true, false, List, [], ◌∷◌, All, refl, ◌∙◌, arith}
+use Rattle.std.proofs.Common.{ℕ, ◌≡◌, ◌≤◌, false, List, [], ◌∷◌, All, refl, ◌∙◌, arith}
 use Rattle.std.specs.List.{list_any}
 use Rattle.std.proofs.lemmas.Bool.{or_parts}
 use Rattle.std.proofs.lemmas.List.Elements.{All-nil, All-cons}
@@ -18,10 +18,8 @@ abbrev IsSoOverAny : State → Type 0
 IsSoOverAny x = (k j : KernelState) (p : ℕ) (s : Process) → is_so x k p s ≡ is_so x j p s
 
 so_over_any : (x : State) → needs_kernel x ≡ false → IsSoOverAny x
-so_over_any state.Blocked free = let clash : true ≡ false = free in absurd (cc)
-so_over_any state.Ended free = λ k j p s. refl
-so_over_any state.Crashed free = λ k j p s. refl
-so_over_any (state.At first last) free = λ k j p s. refl
+so_over_any state.Blocked free = absurd (cc)
+so_over_any _ free = λ k j p s. refl
 
 -- no fewer processes stand so over another kernel
 no_fewer : (x : State) → IsSoOverAny x → (k j : KernelState) (ps : List Process) → how_many x (world_of k ps) ≤ how_many x (world_of j ps)
@@ -32,8 +30,8 @@ abbrev PartHoldsOverAny : Part → Type 0
 PartHoldsOverAny part = (k j : KernelState) (ps : List Process) → PartHolds part (world_of k ps) → PartHolds part (world_of j ps)
 
 part_over_any : (part : Part) → part_needs_kernel part ≡ false → PartHoldsOverAny part
-part_over_any (Semaphore name r x) free = let clash : true ≡ false = free in absurd (cc)
-part_over_any (Queue name r x) free = let clash : true ≡ false = free in absurd (cc)
+part_over_any (Semaphore name r x) free = absurd (cc)
+part_over_any (Queue name r x) free = absurd (cc)
 part_over_any (Of p x) free = λ k j ps h. (h.0, h.1, so_over_any x free j k p h.0 ∙ h.2)
 part_over_any (MoreThan x n) free = λ k j ps h. let few = no_fewer x (so_over_any x free) k j ps in omega (arith, h, few)
 

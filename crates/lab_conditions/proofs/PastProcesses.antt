@@ -6,7 +6,7 @@ use Rattle.ipc_kernel.specs.declared.process.Slot.{Slot}
 use Rattle.ipc_kernel.specs.declared.process.Descriptor.{Descriptor}
 use Rattle.ipc_kernel.specs.declared.process.OpenTables.{OpenTables}
 use Rattle.ipc_kernel.specs.declared.call.Call.{Call}
-use Rattle.ipc_kernel.specs.declared.call.Call.TheVariants.{MqOpen, MqClose, MqUnlink, MqSend, MqReceive, MqGetattr, MqSetattr, SemOpen, SemClose, SemUnlink, SemWait, SemTrywait, SemPost, SemGetvalue, Exit}
+use Rattle.ipc_kernel.specs.declared.call.Call.TheVariants.{MqSend, MqReceive, SemWait}
 use Rattle.ipc_kernel.specs.declared.call.Answer.{Answer}
 use Rattle.ipc_kernel.specs.declared.call.Answer.TheVariants.{Done, Wait}
 use Rattle.ipc_objects.specs.Queue.{QueueState}
@@ -49,18 +49,7 @@ unfolding answer
 done k p (MqSend d words prio) past = ap (λ o. is_done (mq_send k prio words o).0) (no_queue k p d past)
 done k p (MqReceive d len) past = ap (λ o. is_done (mq_receive k len o).0) (no_queue k p d past)
 done k p (SemWait s) past = ap (λ o. is_done (sem_wait k o).0) (no_semaphore k p s past)
-done k p (MqOpen name flags attr) past = can_not (MqOpen name flags attr) _ (answer_may_wait k p (MqOpen name flags attr)) refl
-done k p (MqClose d) past = can_not (MqClose d) _ (answer_may_wait k p (MqClose d)) refl
-done k p (MqUnlink name) past = can_not (MqUnlink name) _ (answer_may_wait k p (MqUnlink name)) refl
-done k p (MqGetattr d) past = can_not (MqGetattr d) _ (answer_may_wait k p (MqGetattr d)) refl
-done k p (MqSetattr d flags) past = can_not (MqSetattr d flags) _ (answer_may_wait k p (MqSetattr d flags)) refl
-done k p (SemOpen name flags value) past = can_not (SemOpen name flags value) _ (answer_may_wait k p (SemOpen name flags value)) refl
-done k p (SemClose s) past = can_not (SemClose s) _ (answer_may_wait k p (SemClose s)) refl
-done k p (SemUnlink name) past = can_not (SemUnlink name) _ (answer_may_wait k p (SemUnlink name)) refl
-done k p (SemTrywait s) past = can_not (SemTrywait s) _ (answer_may_wait k p (SemTrywait s)) refl
-done k p (SemPost s) past = can_not (SemPost s) _ (answer_may_wait k p (SemPost s)) refl
-done k p (SemGetvalue s) past = can_not (SemGetvalue s) _ (answer_may_wait k p (SemGetvalue s)) refl
-done k p Exit past = can_not Exit _ (answer_may_wait k p Exit) refl
+done k p c past = can_not c _ (answer_may_wait k p c) refl
 
 -- a call of such a process doesn't wait
 pub none_waits : (k : KernelState) (p : ℕ) (c : Call) → length k.processes ≤ p → must_wait k p c ≡ false
