@@ -1,5 +1,5 @@
 //! Whether conditions hold of worlds.
-ghost use Rattle.std.specs.Prelude.{◌≡◌, ◌↔◌, ◌<◌, ℕ, false, All, Some, IfOk, IfSome, IsTrue, length, map, slice_get};
+ghost use Rattle.std.specs.Prelude.{◌≡◌, ◌↔◌, ◌<◌, false, All, Some, IfOk, IsTrue, map, slice_get};
 ghost use Rattle.std.specs.List.{list_any};
 ghost use Rattle.lab_sched.specs.Held.{process_view};
 ghost use Rattle.lab_sched.specs.Worlds.{Process as Seen};
@@ -130,12 +130,7 @@ impl Condition {
     pub fn names_only(&self, count: usize) -> bool
         ensures only { IsTrue result ↔ All (NamesOnly count) self.now.parts.items }
     {
-        for part in &self.parts {
-            if !part.names_only(count) {
-                return false;
-            }
-        }
-        true
+        self.parts.iter().all(|part| part.names_only(count))
     }
 
     /// Whether it depends on the kernel whether the condition holds: whether one of its parts
