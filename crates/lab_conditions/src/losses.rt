@@ -1,6 +1,5 @@
 //! Messages in queues, and processes that receive them.
 ghost use Rattle.std.specs.Prelude.{◌≡◌, ◌<◌, ◌^◌, IfOk};
-ghost use Rattle.ipc_kernel.specs.Limits.{object_places};
 ghost use Rattle.ipc_kernel.specs.Places.{place_at};
 ghost use Rattle.lab_sched.specs.Held.{process_view};
 ghost use Rattle.lab_conditions.specs.Losses.{messages_at, messages, is_receiving};

@@ -1,6 +1,5 @@
 //! Steps by which a call is refused.
 ghost use Rattle.std.specs.Prelude.{◌≡◌};
-ghost use Rattle.lab_conditions.specs.Conditions.{option_any};
 ghost use Rattle.lab_conditions.specs.Refusals.{error_told, is_error, is_process, is_refused};
 
 use ipc_kernel::Reply;

@@ -1,8 +1,6 @@
 //! How processes stand.
-ghost use Rattle.std.specs.Prelude.{◌≡◌, IfOk, IfSome, is_some, not};
-ghost use Rattle.ipc_kernel.specs.Answer.{answer, is_done};
+ghost use Rattle.std.specs.Prelude.{◌≡◌, IfOk, IfSome};
 ghost use Rattle.lab_sched.specs.Worlds.{next_action};
-ghost use Rattle.lab_sched.specs.Verdicts.{is_ended};
 ghost use Rattle.lab_sched.specs.Held.{process_view};
 ghost use Rattle.lab_conditions.specs.Conditions.{must_wait, call_next, call_of, StandsAt, is_blocked, has_crashed, stands_from, is_so};
 

@@ -1,5 +1,5 @@
 //! Numbers, processes and addresses in conditions.
-ghost use Rattle.std.specs.Prelude.{◌≡◌, ◌≤◌, ◌<◌, position, length, IfSome};
+ghost use Rattle.std.specs.Prelude.{◌≡◌, ◌<◌, position, length, IfSome};
 ghost use Rattle.lab_conditions.specs.Written.{number_in, process_in, hexadecimal_in, address_in, is_dash, from_to, range_in};
 
 use crate::State;

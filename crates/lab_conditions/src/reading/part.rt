@@ -1,7 +1,7 @@
 //! Reading one part of a condition.
-ghost use Rattle.std.specs.Prelude.{◌≡◌, ◌≤◌, IfOk, IfSome, map};
+ghost use Rattle.std.specs.Prelude.{◌≡◌, IfOk, map};
 ghost use Rattle.std.specs.Option.{option_map, option_and_then};
-ghost use Rattle.lab_conditions.specs.Written.{relation_in, state_in, place_in, compared_in, name_of, state_of, state_of_some, processes_in, part_in};
+ghost use Rattle.lab_conditions.specs.Written.{relation_in, state_in, compared_in, name_of, state_of, state_of_some, processes_in, part_in};
 ghost use Rattle.ipc_names.specs.Name.{name_read};
 ghost use Rattle.lab_conditions.specs.declared.condition.Part.TheVariants.{Semaphore, Queue};
 
@@ -69,15 +69,6 @@ fn read_compared(alloc: Global, words: &[&str]) -> Result<Option<Compared>, Allo
 /// A state of processes, with the words behind it.
 type Front<'a, 'b> = (State, &'a [&'b str]);
 
-/// `A` or `A-B`, behind `at`
-fn read_place<'a, 'b>(words: &'a [&'b str]) -> Option<Front<'a, 'b>>
-    ensures value { option_map (λ front. (front.0, map (λ word. word.now) front.1.now)) result
-        ≡ place_in (map (λ word. word.now) words.now) }
-{
-    let (word, rest) = words.split_first()?;
-    Some((range_in(word)?, rest))
-}
-
 /// `blocked`, `ended`, `crashed`, `at A` or `at A-B`
 fn read_state<'a, 'b>(words: &'a [&'b str]) -> Option<Front<'a, 'b>>
     ensures value { option_map (λ front. (front.0, map (λ word. word.now) front.1.now)) result
@@ -94,7 +85,8 @@ fn read_state<'a, 'b>(words: &'a [&'b str]) -> Option<Front<'a, 'b>>
         return Some((State::Crashed, rest));
     }
     if is_word("at", word) {
-        return read_place(rest);
+        let (word, rest) = rest.split_first()?;
+        return Some((range_in(word)?, rest));
     }
     None
 }

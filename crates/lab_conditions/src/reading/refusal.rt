@@ -1,6 +1,5 @@
 //! Reading which calls are refused.
 ghost use Rattle.std.specs.Prelude.{◌≡◌, map, Some};
-ghost use Rattle.std.specs.Option.{option_map};
 ghost use Rattle.lab_conditions.specs.Written.{refused_in, refusal_in};
 
 use super::numbers::process_in;
