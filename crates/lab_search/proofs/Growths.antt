@@ -1,5 +1,5 @@
 -- Stores that grow.
-use Rattle.std.proofs.Common.{All, inl, inr, Bool, true, false, ℕ, ◌≡◌, List, [], ◌∷◌, ◌++◌, Option, Some, None, refl, sym, ap, subst, ◌∙◌, slice_get, length}
+use Rattle.std.proofs.Common.{All, inl, inr, ◌⊎◌, Bool, true, false, ℕ, ◌≡◌, List, [], ◌∷◌, ◌++◌, Option, Some, None, refl, sym, ap, subst, ◌∙◌, slice_get, length}
 use Rattle.std.specs.Option.{option_map}
 use Rattle.ipc_kernel.specs.Kernel.{KernelState}
 use Rattle.lab_sched.specs.declared.process.Process.{Process as Kept}
@@ -9,7 +9,7 @@ use Rattle.lab_states.specs.Rows.{Row}
 use Rattle.lab_states.specs.declared.edges.Edge.{Edge}
 use Rattle.lab_search.specs.declared.store.Store.{Store}
 use Rattle.lab_search.specs.declared.store.Next.{Next}
-use Rattle.lab_search.specs.declared.store.Next.TheVariants.{Nothing, Limit, To}
+use Rattle.lab_search.specs.declared.store.Next.TheVariants.{To}
 use Rattle.lab_search.specs.declared.footprints.Footprint.{Footprint}
 use Rattle.lab_search.specs.declared.footprints.FootprintEffect.{FootprintEffect}
 use Rattle.lab_search.specs.declared.footprints.Effect.{Effect}
@@ -22,9 +22,10 @@ use Rattle.ipc_kernel.specs.declared.place.Place.{Place}
 use Rattle.ipc_kernel.specs.declared.process.OpenTables.{OpenTables}
 use Rattle.lab_states.specs.CollapsedStates.{Sharing, IsSameOrMore}
 use Rattle.lab_search.specs.Reduced.{HasAmpleStep, IsExpandedIn}
-use Rattle.lab_search.specs.Stored.{IsState, IsKernel, IsRow, IsAt, LeadsTo, IsStore, IsNext, IsMove, AreMoves, AreParts, IsEffect, IsFootprintEffect, AreFootprintEffects, AreKnown, HasEdge, HasEdgeIfEnabled, IsExpanded}
+use Rattle.lab_search.specs.Stored.{IsState, IsKernel, IsRow, IsAt, LeadsTo, IsStore, IsNext, IsMove, AreMoves, AreParts, IsEffect, IsFootprintEffect, AreFootprintEffects, HasEdge, HasEdgeIfEnabled, IsExpanded}
 use Rattle.lab_worlds.specs.Stepped.{IsReady}
 use Rattle.lab_search.specs.Private.Stored.{Grows, IsLater}
+use Rattle.lab_worlds.specs.Private.Kept.{Keeps}
 use Rattle.std.proofs.lemmas.List.Elements.{All-push, All-weaker}
 use Rattle.lab_worlds.proofs.Pushes.{both_weaker, keeps_push, get_pushed}
 
@@ -54,7 +55,7 @@ grows_same t = record {
 
 kept_at : (o : Option Kept) (s : Process) → option_map process_view o ≡ Some s → (k : Kept) × (o ≡ Some k) × (process_view k ≡ s)
 kept_at None s e = absurd (cc)
-kept_at (Some k) s e = let same : process_view k ≡ s = cc in (k, refl, same)
+kept_at (Some k) s e = (k, refl, (cc))
 
 -- the state that is kept at a place
 pub state_kept : (t : Store) (i : ℕ) (s : Process) → IsState t i s → (k : Kept) × (slice_get t.states.processes i ≡ Some k) × (process_view k ≡ s)
@@ -79,9 +80,8 @@ pub kernel_grows : (t u : Store) (i : ℕ) (k : KernelState) → Grows t u → I
 kernel_grows t u i k g h = (h.0, g.kernels.kernels i h.0 h.1, h.2, h.3)
 
 next_grows : (t u : Store) (k : KernelState) (p : ℕ) (s : Process) (n : Next) → Grows t u → IsNext t k p s n → IsNext u k p s n
-next_grows t u k p s Nothing g h = h
-next_grows t u k p s Limit g h = h
 next_grows t u k p s (To kernel state taken) g h = (h.0, kernel_grows t u kernel _ g h.1, state_grows t u state h.0 g h.2, h.3, h.4)
+next_grows t u k p s _ g h = h
 
 pub move_grows : (t u : Store) (m : Mover) (n : Next) → Grows t u → IsMove t m n → IsMove u m n
 move_grows t u m n g h = (h.0, h.1, g.kernels.kernels m.kernel h.0 h.2, state_grows t u m.state h.1 g h.3, λ settled. next_grows t u h.0 m.pid h.1 n g (h.4 settled))
@@ -113,24 +113,14 @@ are_expanded_in_grows true t u i g (inr h) = inr (alone_grows t u i g h)
 pub leads_grow : (t u : Store) (i p j : ℕ) → Grows t u → LeadsTo t i p j → LeadsTo u i p j
 leads_grow t u i p j g (w, v, from, to, reached, goes) = (w, v, at_grows t u i w g from, at_grows t u j v g to, reached, goes)
 
-edges_lead : (t u : Store) → IsStore t → Grows t u → All (λ (e : Edge). LeadsTo u e.from e.pid e.to) t.edges
-edges_lead t u s g =
-    All-weaker (λ (e : Edge). LeadsTo t e.from e.pid e.to) (λ (e : Edge). LeadsTo u e.from e.pid e.to) (λ e h. leads_grow t u e.from e.pid e.to g h) t.edges s.edges
-
--- each row of a store stands for the world that it stood for
-rows_grow : (t u : Store) → IsStore t → Grows t u → All (λ r. (w : WorldState) × IsRow u r w) t.rows
-rows_grow t u s g =
-    All-weaker (λ r. (w : WorldState) × IsRow t r w) (λ r. (w : WorldState) × IsRow u r w) (λ r h. (h.0, row_grows t u r h.0 g h.1)) t.rows s.rows
-
 -- tables and an object stay what they are
 parts_grow : (t u : Store) (tables object : ℕ) (x : OpenTables) (o : Place) → Grows t u → AreParts t tables object x o → AreParts u tables object x o
 parts_grow t u tables object x o g h = (g.kernels.tables tables x h.0, g.kernels.objects object o h.1)
 
 pub effect_grows : (t u : Store) (k : KernelState) (p : ℕ) (s : Process) (i : ℕ) (e : Effect) → Grows t u → IsEffect t k p s i e → IsEffect u k p s i e
-effect_grows t u k p s i effect.Nothing g h = h
-effect_grows t u k p s i effect.Limit g h = h
 effect_grows t u k p s i (effect.To tables object state taken) g h =
     (h.0, h.1, h.2, parts_grow t u tables object h.0 h.1 g h.3, state_grows t u state h.2 g h.4, h.5, h.6, h.7)
+effect_grows t u k p s i _ g h = h
 
 pub footprint_effect_grows : (t u : Store) (x : Footprint) (e : Effect) → Grows t u → IsFootprintEffect t x e → IsFootprintEffect u x e
 footprint_effect_grows t u x e g h =
@@ -140,59 +130,60 @@ footprints_grow : (t u : Store) (ts : List FootprintEffect) → Grows t u → Ar
 footprints_grow t u ts g h =
     All-weaker (λ (m : FootprintEffect). IsFootprintEffect t m.footprint m.effect) (λ (m : FootprintEffect). IsFootprintEffect u m.footprint m.effect) (λ m old. footprint_effect_grows t u m.footprint m.effect g old) ts h
 
--- what is known stays so
-known_grows : (t u : Store) → Grows t u → u.moves ≡ t.moves → AreKnown t → AreKnown u
-known_grows t u g same h = record {
-  moves = subst (λ (ms : Moves). AreMoves u ms.made.items) (sym same) (moves_grow t u t.moves.made.items g h.moves);
-  footprints = subst (λ (ms : Moves). AreFootprintEffects u ms.footprints.made.items) (sym same) (footprints_grow t u t.moves.footprints.made.items g h.footprints);
-}
+-- a list that is the same, or has one element more, of which this holds
+abbrev IsGrown : {A : Type 0} → (A → Type 0) → List A → List A → Type 0
+IsGrown {A} P xs ys = (ys ≡ xs) ⊎ ((x : A) × (ys ≡ xs ++ x ∷ []) × P x)
 
--- a store that has more kernels, or more states
-pub store_grows : (t u : Store) → IsStore t → Grows t u → All IsReady u.states.processes → u.rows ≡ t.rows → u.edges ≡ t.edges → u.moves ≡ t.moves → IsStore u
-store_grows t u s g ready same edges moves = record {
-  states = ready;
-  rows = subst (λ xs. All (λ r. (w : WorldState) × IsRow u r w) xs) (sym same) (rows_grow t u s g);
-  edges = subst (λ xs. All (λ (e : Edge). LeadsTo u e.from e.pid e.to) xs) (sym edges) (edges_lead t u s g);
-  known = known_grows t u g moves s.known;
-}
+grown_keeps : {A : Type 0} (P : A → Type 0) (xs ys : List A) → IsGrown P xs ys → Keeps xs ys
+grown_keeps P xs ys (inl same) i x e = ap (λ zs. slice_get zs i) same ∙ e
+grown_keeps P xs ys (inr more) i x e = ap (λ zs. slice_get zs i) more.1 ∙ keeps_push xs more.0 i x e
 
--- the same kernels
+grown_all : {A : Type 0} (P Q : A → Type 0) (xs ys : List A) → IsGrown P xs ys → ((x : A) → P x → Q x) → All P xs → All Q ys
+grown_all P Q xs ys (inl same) weaker all = subst (All Q) (sym same) (All-weaker P Q weaker xs all)
+grown_all P Q xs ys (inr more) weaker all = subst (All Q) (sym more.1) (All-push Q xs more.0 (All-weaker P Q weaker xs all) (weaker more.0 more.2))
+
+abbrev HasWorld : Store → Row → Type 0
+HasWorld t r = (w : WorldState) × IsRow t r w
+
+abbrev Leads : Store → Edge → Type 0
+Leads t e = LeadsTo t e.from e.pid e.to
+
+abbrev AreKnownIn : Store → Moves → Type 0
+AreKnownIn t ms = AreMoves t ms.made.items × AreFootprintEffects t ms.footprints.made.items
+
+-- a store with more kernels, other moves, and perhaps a state, a row and an edge more
+later_by : (t u : Store) → IsStore t → GrowsKept t.kernels u.kernels → IsGrown IsReady t.states.processes u.states.processes → IsGrown (HasWorld t) t.rows u.rows → IsGrown (Leads t) t.edges u.edges
+    → AreKnownIn t u.moves → IsLater t u
+later_by t u s kernels states rows edges known =
+    let g : Grows t u = record {
+      kernels = kernels;
+      states = grown_keeps IsReady t.states.processes u.states.processes states;
+      rows = grown_keeps (HasWorld t) t.rows u.rows rows;
+      edges = grown_keeps (Leads t) t.edges u.edges edges;
+    } in
+    record {
+      grows = g;
+      store = record {
+        states = grown_all IsReady IsReady t.states.processes u.states.processes states (λ k h. h) s.states;
+        rows = grown_all (HasWorld t) (HasWorld u) t.rows u.rows rows (λ r h. (h.0, row_grows t u r h.0 g h.1)) s.rows;
+        edges = grown_all (Leads t) (Leads u) t.edges u.edges edges (λ e h. leads_grow t u e.from e.pid e.to g h) s.edges;
+        known = record { moves = moves_grow t u u.moves.made.items g known.0; footprints = footprints_grow t u u.moves.footprints.made.items g known.1 };
+      };
+    }
+
+-- the same kernels, the same states, and the same moves
 same_kernels : (t u : Store) → u.kernels ≡ t.kernels → GrowsKept t.kernels u.kernels
 same_kernels t u same = subst (λ ks. GrowsKept t.kernels ks) (sym same) (record { objects = λ i x e. e; tables = λ i x e. e; kernels = λ i x e. e })
 
--- one state more
-pub states_pushed : (t u : Store) (k : Kept) → IsStore t → IsReady k → u.states.processes ≡ t.states.processes ++ k ∷ [] → u.kernels ≡ t.kernels → u.rows ≡ t.rows
-    → u.edges ≡ t.edges → u.moves ≡ t.moves → IsLater t u
-states_pushed t u k s ready states kernels rows edges moves =
-    let g : Grows t u = record {
-      kernels = same_kernels t u kernels;
-      states = λ i x e. subst (λ xs. slice_get xs i ≡ Some x) (sym states) (keeps_push t.states.processes k i x e);
-      rows = λ i x e. subst (λ xs. slice_get xs i ≡ Some x) (sym rows) e;
-      edges = λ i x e. subst (λ xs. slice_get xs i ≡ Some x) (sym edges) e;
-    } in
-    record { grows = g; store = store_grows t u s g (subst (λ xs. All IsReady xs) (sym states) (All-push IsReady t.states.processes k s.states ready)) rows edges moves }
+same_states : (t u : Store) → u.states ≡ t.states → IsGrown IsReady t.states.processes u.states.processes
+same_states t u same = inl (ap (λ (x : Sharing). x.processes) same)
 
--- the same states, among other outputs
-states_same : (t u : Store) → IsStore t → u.states.processes ≡ t.states.processes → u.kernels ≡ t.kernels → u.rows ≡ t.rows → u.edges ≡ t.edges → u.moves ≡ t.moves → IsLater t u
-states_same t u s states kernels rows edges moves =
-    let g : Grows t u = record {
-      kernels = same_kernels t u kernels;
-      states = λ i x e. subst (λ xs. slice_get xs i ≡ Some x) (sym states) e;
-      rows = λ i x e. subst (λ xs. slice_get xs i ≡ Some x) (sym rows) e;
-      edges = λ i x e. subst (λ xs. slice_get xs i ≡ Some x) (sym edges) e;
-    } in
-    record { grows = g; store = store_grows t u s g (subst (λ xs. All IsReady xs) (sym states) s.states) rows edges moves }
+still_known : (t u : Store) → IsStore t → u.moves ≡ t.moves → AreKnownIn t u.moves
+still_known t u s same = subst (AreKnownIn t) (sym same) (s.known.moves, s.known.footprints)
 
 -- more kernels
 pub kernels_grown : (t u : Store) → IsStore t → GrowsKept t.kernels u.kernels → u.states ≡ t.states → u.rows ≡ t.rows → u.edges ≡ t.edges → u.moves ≡ t.moves → IsLater t u
-kernels_grown t u s kernels states rows edges moves =
-    let g : Grows t u = record {
-      kernels = kernels;
-      states = λ i x e. subst (λ (xs : Sharing). slice_get xs.processes i ≡ Some x) (sym states) e;
-      rows = λ i x e. subst (λ xs. slice_get xs i ≡ Some x) (sym rows) e;
-      edges = λ i x e. subst (λ xs. slice_get xs i ≡ Some x) (sym edges) e;
-    } in
-    record { grows = g; store = store_grows t u s g (subst (λ (xs : Sharing). All IsReady xs.processes) (sym states) s.states) rows edges moves }
+kernels_grown t u s kernels states rows edges moves = later_by t u s kernels (same_states t u states) (inl rows) (inl edges) (still_known t u s moves)
 
 -- the same rows
 pub rows_same : (t u : Store) → IsStore t → u.rows ≡ t.rows → u.kernels ≡ t.kernels → u.states ≡ t.states → u.edges ≡ t.edges → u.moves ≡ t.moves → IsLater t u
@@ -200,30 +191,13 @@ rows_same t u s rows kernels states edges moves = kernels_grown t u s (same_kern
 
 -- a state that is kept
 pub states_kept : (t u : Store) (k : Kept) → IsStore t → IsReady k → IsSameOrMore t.states.processes u.states.processes k → u.kernels ≡ t.kernels → u.rows ≡ t.rows → u.edges ≡ t.edges → u.moves ≡ t.moves → IsLater t u
-states_kept t u k s ready (inl same) kernels rows edges moves = states_same t u s same kernels rows edges moves
-states_kept t u k s ready (inr more) kernels rows edges moves = states_pushed t u k s ready more kernels rows edges moves
+states_kept t u k s ready states kernels rows edges moves =
+    later_by t u s (same_kernels t u kernels) (elim states [ inl same ↦ inl same | inr more ↦ inr (k, more, ready) ]) (inl rows) (inl edges) (still_known t u s moves)
 
 -- one row more
 pub rows_pushed : (t u : Store) (r : Row) → IsStore t → ((w : WorldState) × IsRow t r w) → u.rows ≡ t.rows ++ r ∷ [] → u.kernels ≡ t.kernels → u.states ≡ t.states
     → u.edges ≡ t.edges → u.moves ≡ t.moves → IsLater t u
-rows_pushed t u r s stands rows kernels states edges moves =
-    let g : Grows t u = record {
-      kernels = same_kernels t u kernels;
-      states = λ i x e. subst (λ (xs : Sharing). slice_get xs.processes i ≡ Some x) (sym states) e;
-      rows = λ i x e. subst (λ xs. slice_get xs i ≡ Some x) (sym rows) (keeps_push t.rows r i x e);
-      edges = λ i x e. subst (λ xs. slice_get xs i ≡ Some x) (sym edges) e;
-    } in
-    let here : (w : WorldState) × IsRow u r w = (stands.0, row_grows t u r stands.0 g stands.1) in
-    let old = rows_grow t u s g in
-    record {
-      grows = g;
-      store = record {
-        states = subst (λ (xs : Sharing). All IsReady xs.processes) (sym states) s.states;
-        rows = subst (λ xs. All (λ q. (w : WorldState) × IsRow u q w) xs) (sym rows) (All-push (λ q. (w : WorldState) × IsRow u q w) t.rows r old here);
-        edges = subst (λ xs. All (λ (e : Edge). LeadsTo u e.from e.pid e.to) xs) (sym edges) (edges_lead t u s g);
-        known = known_grows t u g moves s.known;
-      };
-    }
+rows_pushed t u r s stands rows kernels states edges moves = later_by t u s (same_kernels t u kernels) (same_states t u states) (inr (r, rows, stands)) (inl edges) (still_known t u s moves)
 
 pub row_pushed : (t u : Store) (r : Row) (w : WorldState) (n : ℕ) → Grows t u → u.rows ≡ t.rows ++ r ∷ [] → n ≡ length t.rows → IsRow t r w → IsAt u n w
 row_pushed t u r w n g rows is h =
@@ -232,40 +206,9 @@ row_pushed t u r w n g rows is h =
 -- one edge more
 pub edges_pushed : (t u : Store) (e : Edge) → IsStore t → LeadsTo t e.from e.pid e.to → u.edges ≡ t.edges ++ e ∷ [] → u.kernels ≡ t.kernels → u.states ≡ t.states → u.rows ≡ t.rows
     → u.moves ≡ t.moves → IsLater t u
-edges_pushed t u e s leads edges kernels states rows moves =
-    let g : Grows t u = record {
-      kernels = same_kernels t u kernels;
-      states = λ i x h. subst (λ (xs : Sharing). slice_get xs.processes i ≡ Some x) (sym states) h;
-      rows = λ i x h. subst (λ xs. slice_get xs i ≡ Some x) (sym rows) h;
-      edges = λ i x h. subst (λ xs. slice_get xs i ≡ Some x) (sym edges) (keeps_push t.edges e i x h);
-    } in
-    let all = All-push (λ (x : Edge). LeadsTo u x.from x.pid x.to) t.edges e (edges_lead t u s g) (leads_grow t u e.from e.pid e.to g leads) in
-    record {
-      grows = g;
-      store = record {
-        states = subst (λ (xs : Sharing). All IsReady xs.processes) (sym states) s.states;
-        rows = subst (λ xs. All (λ r. (w : WorldState) × IsRow u r w) xs) (sym rows) (rows_grow t u s g);
-        edges = subst (λ xs. All (λ (x : Edge). LeadsTo u x.from x.pid x.to) xs) (sym edges) all;
-        known = known_grows t u g moves s.known;
-      };
-    }
+edges_pushed t u e s leads edges kernels states rows moves = later_by t u s (same_kernels t u kernels) (same_states t u states) (inl rows) (inr (e, edges, leads)) (still_known t u s moves)
 
 -- more moves, or more steps
 pub moves_kept : (t u : Store) → IsStore t → u.kernels ≡ t.kernels → u.states ≡ t.states → u.rows ≡ t.rows → u.edges ≡ t.edges → AreMoves t u.moves.made.items → AreFootprintEffects t u.moves.footprints.made.items
     → IsLater t u
-moves_kept t u s kernels states rows edges moves footprints =
-    let g : Grows t u = record {
-      kernels = same_kernels t u kernels;
-      states = λ i x e. subst (λ (xs : Sharing). slice_get xs.processes i ≡ Some x) (sym states) e;
-      rows = λ i x e. subst (λ xs. slice_get xs i ≡ Some x) (sym rows) e;
-      edges = λ i x e. subst (λ xs. slice_get xs i ≡ Some x) (sym edges) e;
-    } in
-    record {
-      grows = g;
-      store = record {
-        states = subst (λ (xs : Sharing). All IsReady xs.processes) (sym states) s.states;
-        rows = subst (λ xs. All (λ r. (w : WorldState) × IsRow u r w) xs) (sym rows) (rows_grow t u s g);
-        edges = subst (λ xs. All (λ (e : Edge). LeadsTo u e.from e.pid e.to) xs) (sym edges) (edges_lead t u s g);
-        known = record { moves = moves_grow t u u.moves.made.items g moves; footprints = footprints_grow t u u.moves.footprints.made.items g footprints };
-      };
-    }
+moves_kept t u s kernels states rows edges moves footprints = later_by t u s (same_kernels t u kernels) (same_states t u states) (inl rows) (inl edges) (moves, footprints)
