@@ -19,7 +19,7 @@ use Rattle.lab_worlds.proofs.HeldAdvances.{asks_run, rests_on}
 use Rattle.lab_search.proofs.FirstWorlds.{AreAtDepth}
 use Rattle.lab_search.proofs.StandingWorlds.{running, running_goes, running_waits, begins_stands, begins_first}
 use Rattle.lab_worlds.proofs.OnwardSteps.{AreOnward, calls_along, calls_more}
-use Rattle.lab_search.proofs.ReducedPaths.{arrives}
+use Rattle.lab_search.proofs.ReducedPaths.{arrives, path_of}
 
 -- the steps among others by which processes go on, from the world in which none has begun to wait
 pub record AreOnwardOf (w : WorldState) (ps : List ℕ) : Type 0 where
@@ -86,7 +86,8 @@ reaches_end_by_reduction t start depths law stay alike consistent asks first nam
     let leads : run start h.steps ≡ unwaiting w = subst (λ v. run v h.steps ≡ unwaiting w) first h.leads in
     let none : NoneGoesOn (unwaiting w) = λ p. none_goes w p (asks_run ps start asks) (rests_on w p rest) in
     let least : depth_of depths initial.0.at ≡ 0 = ap (depth_of depths) (begins_first t start searched.begins consistent) ∙ deep.first in
-    let end = arrives law stay alike t start searched depths deep (record { world = start; place = initial.0; steps = h.steps }) 0 initial.1 named onward (subst NoneGoesOn (sym leads) none) (omega (arith, least)) in
+    let path = path_of law stay alike t start searched (record { world = start; place = initial.0; steps = h.steps }) initial.1 named onward in
+    let end = arrives law stay alike t start searched depths deep (record { world = start; place = initial.0; steps = h.steps }) path 0 (subst NoneGoesOn (sym leads) none) (omega (arith, least)) in
     let there : AreAlike (unwaiting w) end.0 = subst (λ v. AreAlike v end.0) leads end.3 in
     let calls = h.calls in
     let from = ap (λ v. calls_along v h.steps) first in

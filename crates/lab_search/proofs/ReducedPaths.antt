@@ -4,7 +4,6 @@ use Rattle.std.proofs.lemmas.Bool.{cases_lt, false_from_ne_true}
 use Rattle.std.proofs.lemmas.List.{append_assoc}
 use Rattle.ipc_kernel.specs.Kernel.{KernelState}
 use Rattle.ipc_kernel.specs.declared.call.Call.{Call}
-use Rattle.ipc_kernel.specs.declared.call.Call.TheVariants.{MqOpen, MqClose, MqUnlink, MqSend, MqReceive, MqGetattr, MqSetattr, SemOpen, SemClose, SemUnlink, SemWait, SemTrywait, SemPost, SemGetvalue, Exit}
 use Rattle.ipc_kernel.specs.declared.call.Answer.{Answer}
 use Rattle.ipc_kernel.specs.declared.call.Answer.TheVariants.{Done, Wait}
 use Rattle.ipc_kernel.specs.declared.place.Place.{Place as Object}
@@ -25,7 +24,7 @@ use Rattle.lab_worlds.proofs.FewestCalls.{calls_in}
 use Rattle.lab_worlds.proofs.IndependentSteps.{independent_goes, named_after}
 use Rattle.lab_worlds.proofs.OnwardSteps.{AreOnward, AllKeepNames, calls_along, calls_more, AreFronted, ArePassed, fronted_or_passed}
 use Rattle.lab_search.proofs.StandingWorlds.{Place, Stands, standing_same}
-use Rattle.lab_search.proofs.ReducedSearches.{left, TakesAlone, TakesAny, options}
+use Rattle.lab_search.proofs.ReducedSearches.{left, StandsNext, TakesAlone, TakesAny, options}
 
 -- a process that is about to take a name away is at a call
 unlinks_at_call : (x : Process) → unlinks x ≡ true → IsAtCall x
@@ -39,21 +38,7 @@ unlinks_at_call (Ended e) h = absurd (cc)
 
 -- a call isn't both
 own_or_unlink : (ps : List Object) (c : Call) → is_own ps c ≡ true → is_unlink c ≡ true → ⊥
-own_or_unlink ps (MqOpen name flags attr) a b = absurd (cc)
-own_or_unlink ps (MqClose d) a b = absurd (cc)
-own_or_unlink ps (MqUnlink name) a b = absurd (cc)
-own_or_unlink ps (MqSend d words prio) a b = absurd (cc)
-own_or_unlink ps (MqReceive d len) a b = absurd (cc)
-own_or_unlink ps (MqGetattr d) a b = absurd (cc)
-own_or_unlink ps (MqSetattr d flags) a b = absurd (cc)
-own_or_unlink ps (SemOpen name flags value) a b = absurd (cc)
-own_or_unlink ps (SemClose s) a b = absurd (cc)
-own_or_unlink ps (SemUnlink name) a b = absurd (cc)
-own_or_unlink ps (SemWait s) a b = absurd (cc)
-own_or_unlink ps (SemTrywait s) a b = absurd (cc)
-own_or_unlink ps (SemPost s) a b = absurd (cc)
-own_or_unlink ps (SemGetvalue s) a b = absurd (cc)
-own_or_unlink ps Exit a b = absurd (cc)
+own_or_unlink ps c a b = grind arith
 
 -- so no independent step takes a name away
 pub independent_keeps : (k : KernelState) (p : ℕ) (x : Process) → IsIndependent k (step_effect k p (Some x)) → unlinks x ≡ true → ⊥
@@ -89,7 +74,7 @@ run_push [] q w = refl
 run_push (x ∷ xs) q w = run_push xs q (step w x)
 
 -- what holds of a value where it holds of all that are less by a first number, or as much and less by a second
-pub by_less : {A : Type 0} (f g : A → ℕ) (P : A → Type 0) → ((a : A) → ((b : A) → (f b < f a) ⊎ ((f b ≡ f a) × (g b < g a)) → P b) → P a) → (a : A) → P a
+by_less : {A : Type 0} (f g : A → ℕ) (P : A → Type 0) → ((a : A) → ((b : A) → (f b < f a) ⊎ ((f b ≡ f a) × (g b < g a)) → P b) → P a) → (a : A) → P a
 by_less {A} f g P each a = outer (suc (f a)) a (omega arith)
   where
     inner : (n : ℕ) → ((b : A) → f b < n → P b) → (k : ℕ) (a : A) → f a ≡ n → g a < k → P a
@@ -113,73 +98,93 @@ pub record Path : Type 0 where
   pub steps : List ℕ
 
 -- each object has a name still, after an independent step
-pub named_alone : StayNamed → (t : Store) (w : WorldState) (s : Place) → are_named w.kernel.places ≡ true → (a : TakesAlone t w s) → are_named (step w a.process).kernel.places ≡ true
+named_alone : StayNamed → (t : Store) (w : WorldState) (s : Place) → are_named w.kernel.places ≡ true → (a : TakesAlone t w s) → are_named (step w a.process).kernel.places ≡ true
 named_alone stay t w s named a =
     named_after stay w a.process named (λ y at. false_from_ne_true (unlinks y) (λ yes. independent_keeps w.kernel a.process y (subst (λ o. IsIndependent w.kernel (step_effect w.kernel a.process o)) at a.independent) yes))
 
+-- where the path begins and what its steps do is known
+pub record IsPath (t : Store) (c : Path) : Type 0 where
+  pub stands : Stands t c.world c.place
+  pub named : are_named c.world.kernel.places ≡ true
+  pub onward : AreOnward c.world c.steps
+  pub keep : AllKeepNames c.world c.steps
+
+-- the path that is left after a step
+abbrev pub next_path : (t : Store) (c : Path) (p : ℕ) → StandsNext t c.world p c.place → List ℕ → Path
+next_path t c p next steps = record { world = step c.world p; place = next.after.0; steps = steps }
+
+-- it holds of paths without steps, and of others where it holds after one of their steps, or after an independent step that can be
+-- taken after all of them, too
+pub record HoldsByStep (t : Store) (P : Path → Type 0) : Type 0 where
+  pub ends : (c : Path) → IsPath t c → AreAlike c.world c.place.advance → c.steps ≡ [] → P c
+  pub fronts : (c : Path) (p : ℕ) → IsPath t c → (next : StandsNext t c.world p c.place) → (f : AreFronted c.world p c.steps) → P (next_path t c p next f.rest) → P c
+  pub passes : (c : Path) → IsPath t c → (a : TakesAlone t c.world c.place) → ArePassed c.world a.process c.steps → P (next_path t c a.process a.next c.steps) → P c
+
 module _ (law : OwnCallsCommute) (stay : StayNamed) (alike : OwnAlike) (t : Store) (start : WorldState) (searched : IsSearchedByReduction start t) where
-  -- the steps don't lead to a process that is about to take a name away
-  abbrev pub NeverUnlinks : Path → Type 0
-  NeverUnlinks c =
-      (q : ℕ) (x : Process) → Stands t c.world c.place → are_named c.world.kernel.places ≡ true → AreOnward c.world c.steps → AllKeepNames c.world c.steps
-      → slice_get (run c.world c.steps).processes q ≡ Some x → unlinks x ≡ true → ⊥
-
-  never : (c : Path) → NeverUnlinks c
+  pub by_steps : (P : Path → Type 0) → HoldsByStep t P → (c : Path) → IsPath t c → P c
   unfolding run
-  never = by_less (λ c. length c.steps) (λ c. left t c.place) NeverUnlinks body
+  by_steps P holds = by_less (λ c. length c.steps) (λ c. left t c.place) (λ c. IsPath t c → P c) body
     where
-      body : (c : Path) → ((b : Path) → (length b.steps < length c.steps) ⊎ ((length b.steps ≡ length c.steps) × (left t b.place < left t c.place)) → NeverUnlinks b) → NeverUnlinks c
-      body c ih q x stands named onward keep here h = by c.steps refl
+      body : (c : Path) → ((b : Path) → (length b.steps < length c.steps) ⊎ ((length b.steps ≡ length c.steps) × (left t b.place < left t c.place)) → IsPath t b → P b) → IsPath t c → P c
+      body c ih h = elim (options alike t start searched c.world c.place h.stands) [
+        | inl a ↦ alone a (fronted_or_passed law stay c.steps c.world a.process h.named a.independent h.onward h.keep)
+        | inr a ↦ any a c.steps refl
+      ]
         where
-          w : WorldState
-          w = c.world
+          fronted : (p : ℕ) → StandsNext t c.world p c.place → are_named (step c.world p).kernel.places ≡ true → AreFronted c.world p c.steps → P c
+          fronted p next named f =
+              let size = f.shorter in
+              holds.fronts c p h next f (ih (next_path t c p next f.rest) (inl (omega (arith, size))) (record { stands = next.after.1; named = named; onward = f.onward; keep = f.keep }))
 
-          s : Place
-          s = c.place
+          alone : (a : TakesAlone t c.world c.place) → AreFronted c.world a.process c.steps ⊎ ArePassed c.world a.process c.steps → P c
+          alone a (inl f) = fronted a.process a.next (named_alone stay t c.world c.place h.named a) f
+          alone a (inr f) =
+              let named = named_alone stay t c.world c.place h.named a in
+              holds.passes c h a f (ih (next_path t c a.process a.next c.steps) (inr (refl, a.less)) (record { stands = a.next.after.1; named = named; onward = f.onward; keep = f.keep }))
 
-          by : (qs : List ℕ) → qs ≡ c.steps → ⊥
-          by [] e =
-              let now : slice_get w.processes q ≡ Some x = subst (λ ps. slice_get (run w ps).processes q ≡ Some x) (sym e) here in
-              let there = standing_same t w q x s now (unlinks_at_call x h) stands in
-              let none = searched.keep_names s.at s.advance q stands.here x there in
-              absurd (cc)
-          by (r ∷ qs) e = elim (options alike t start searched w s stands) [
-            | inl a ↦ alone a (fronted_or_passed law stay c.steps w a.process named a.independent onward keep)
-            | inr a ↦
-                let first = subst (λ ps. AreOnward w ps) (sym e) onward in
-                let keeps = subst (λ ps. AllKeepNames w ps) (sym e) keep in
-                let next = (a.each r first.0).after in
-                let shorter : length qs < length c.steps = let size = ap length e in omega (arith, size) in
-                ih (record { world = step w r; place = next.0; steps = qs }) (inl shorter) q x next.1 (named_after stay w r named keeps.0) first.1 keeps.1
-                (subst (λ ps. slice_get (run w ps).processes q ≡ Some x) (sym e) here) h
-          ]
-            where
-              alone : (a : TakesAlone t w s) → AreFronted w a.process c.steps ⊎ ArePassed w a.process c.steps → ⊥
-              alone a (inl f) =
-                  let next = a.next.after in
-                  let size = f.shorter in
-                  ih (record { world = step w a.process; place = next.0; steps = f.rest }) (inl (omega (arith, size))) q x next.1 (named_alone stay t w s named a) f.onward f.keep
-                  (ap (λ (v : WorldState). slice_get v.processes q) f.leads ∙ here) h
-              alone a (inr f) =
-                  let next = a.next.after in
-                  ih (record { world = step w a.process; place = next.0; steps = c.steps }) (inr (refl, a.less)) q x next.1 (named_alone stay t w s named a) f.onward f.keep
-                  (ap (λ (v : WorldState). slice_get v.processes q) f.leads ∙ after_other (run w c.steps) q a.process (step_effect_in (run w c.steps) a.process) (other a f) ∙ here) h
-                where
-                  other : (a : TakesAlone t w s) → ArePassed w a.process c.steps → a.process ≡ q → ⊥
-                  other a f same =
-                      let v = run w c.steps in
-                      let own = subst (λ n. IsIndependent v.kernel (step_effect_in v n)) same f.stays in
-                      independent_keeps v.kernel q x (subst (λ o. IsIndependent v.kernel (step_effect v.kernel q o)) here own) h
+          any : TakesAny t c.world c.place → (qs : List ℕ) → qs ≡ c.steps → P c
+          any a [] e = holds.ends c h a.alike (sym e)
+          any a (r ∷ qs) e =
+              let onward = subst (AreOnward c.world) (sym e) h.onward in
+              let keep = subst (AllKeepNames c.world) (sym e) h.keep in
+              let first : AreFronted c.world r (r ∷ qs) = record { rest = qs; onward = onward.1; keep = keep.1; leads = refl; shorter = refl; calls = calls_more c.world r qs } in
+              fronted r (a.each r onward.0) (named_after stay c.world r h.named keep.0) (subst (AreFronted c.world r) e first)
+
+  -- the steps don't lead to a process that is about to take a name away
+  abbrev NeverUnlinks : Path → Type 0
+  NeverUnlinks c = (q : ℕ) (x : Process) → slice_get (run c.world c.steps).processes q ≡ Some x → unlinks x ≡ true → ⊥
+
+  never : (c : Path) → IsPath t c → NeverUnlinks c
+  unfolding run
+  never = by_steps NeverUnlinks (record {
+    ends = λ c g like none q x here h.
+        let now : slice_get c.world.processes q ≡ Some x = subst (λ ps. slice_get (run c.world ps).processes q ≡ Some x) none here in
+        let there = standing_same t c.world q x c.place now (unlinks_at_call x h) g.stands in
+        let keeps = searched.keep_names c.place.at c.place.advance q g.stands.here x there in
+        absurd (cc);
+    fronts = λ c p g next f rest q x here h. rest q x (ap (λ (v : WorldState). slice_get v.processes q) f.leads ∙ here) h;
+    passes = λ c g a f rest q x here h.
+        let v = run c.world c.steps in
+        let effect = step_effect_in v a.process in
+        let other = λ (same : a.process ≡ q).
+        independent_keeps v.kernel q x (subst (λ o. IsIndependent v.kernel (step_effect v.kernel q o)) here (subst (λ n. IsIndependent v.kernel (step_effect_in v n)) same f.stays)) h in
+        rest q x (ap (λ (v : WorldState). slice_get v.processes q) f.leads ∙ after_other v q a.process effect other ∙ here) h;
+  })
 
   -- so none of the steps takes one away
-  pub all_keep : (done rest : List ℕ) (w : WorldState) (s : Place) → Stands t w s → are_named w.kernel.places ≡ true → AreOnward w (done ++ rest) → AllKeepNames w done → AllKeepNames (run w done) rest
+  all_keep : (done rest : List ℕ) (w : WorldState) (s : Place) → Stands t w s → are_named w.kernel.places ≡ true → AreOnward w (done ++ rest) → AllKeepNames w done → AllKeepNames (run w done) rest
   unfolding run
   all_keep done [] w s stands named onward keep = tt
   all_keep done (q ∷ rest) w s stands named onward keep =
-      let here : KeepsNames (run w done) q = λ x at. false_from_ne_true (unlinks x) (never (record { world = w; place = s; steps = done }) q x stands named (onward_front done (q ∷ rest) w onward) keep at) in
+      let path : IsPath t (record { world = w; place = s; steps = done }) = record { stands = stands; named = named; onward = onward_front done (q ∷ rest) w onward; keep = keep } in
+      let here : KeepsNames (run w done) q = λ x at. false_from_ne_true (unlinks x) (never (record { world = w; place = s; steps = done }) path q x at) in
       let longer = names_push done q w keep here in
       let onward-is = subst (λ ps. AreOnward w ps) (sym (append_assoc done (q ∷ []) rest)) onward in
       (here, subst (λ v. AllKeepNames v rest) (run_push done q w) (all_keep (done ++ q ∷ []) rest w s stands named onward-is longer))
+
+  pub path_of : (c : Path) → Stands t c.world c.place → are_named c.world.kernel.places ≡ true → AreOnward c.world c.steps → IsPath t c
+  unfolding run
+  path_of c stands named onward = record { stands = stands; named = named; onward = onward; keep = all_keep [] c.steps c.world c.place stands named onward tt }
 
   -- a row no deeper than so many calls has a world that this one is alike
   abbrev pub HasLikeRow : List ℕ → WorldState → ℕ → Type 0
@@ -188,51 +193,20 @@ module _ (law : OwnCallsCommute) (stay : StayNamed) (alike : OwnAlike) (t : Stor
   -- steps to a world from which no process goes on lead to such a row
   abbrev pub Arrives : List ℕ → Path → Type 0
   Arrives depths c =
-      (n : ℕ) → Stands t c.world c.place → are_named c.world.kernel.places ≡ true → AreOnward c.world c.steps → NoneGoesOn (run c.world c.steps) → depth_of depths c.place.at ≤ n
-      → HasLikeRow depths (run c.world c.steps) (n + calls_along c.world c.steps)
+      (n : ℕ) → NoneGoesOn (run c.world c.steps) → depth_of depths c.place.at ≤ n → HasLikeRow depths (run c.world c.steps) (n + calls_along c.world c.steps)
 
-  pub arrives : (depths : List ℕ) → AreDepths depths t.edges → (c : Path) → Arrives depths c
+  pub arrives : (depths : List ℕ) → AreDepths depths t.edges → (c : Path) → IsPath t c → Arrives depths c
   unfolding run entries
-  arrives depths deep = by_less (λ c. length c.steps) (λ c. left t c.place) (Arrives depths) body
-    where
-      body : (c : Path) → ((b : Path) → (length b.steps < length c.steps) ⊎ ((length b.steps ≡ length c.steps) × (left t b.place < left t c.place)) → Arrives depths b) → Arrives depths c
-      body c ih n stands named onward none low = elim (options alike t start searched w s stands) [
-        | inl a ↦ alone a (fronted_or_passed law stay c.steps w a.process named a.independent onward keep)
-        | inr a ↦ any a c.steps refl
-      ]
-        where
-          w : WorldState
-          w = c.world
-
-          s : Place
-          s = c.place
-
-          keep : AllKeepNames w c.steps
-          keep = all_keep [] c.steps w s stands named onward tt
-
-          alone : (a : TakesAlone t w s) → AreFronted w a.process c.steps ⊎ ArePassed w a.process c.steps → HasLikeRow depths (run w c.steps) (n + calls_along w c.steps)
-          alone a (inl f) =
-              let next = a.next.after in
-              let size = f.shorter in
-              let lower = a.next.deep depths deep in
-              let calls = f.calls in
-              let end = ih (record { world = step w a.process; place = next.0; steps = f.rest }) (inl (omega (arith, size))) (n + calls_in a.process (step_effect_in w a.process)) next.1 (named_alone stay t w s named a) f.onward
-              (subst NoneGoesOn (sym f.leads) none) (omega (arith, lower, low)) in
-              let most = end.4 in
-              (end.0, end.1, end.2, subst (λ x. AreAlike x end.0) f.leads end.3, omega (arith, most, calls))
-          alone a (inr f) = absurd (none a.process (independent_goes (run w c.steps).kernel (step_effect_in (run w c.steps) a.process) f.stays))
-
-          any : (a : TakesAny t w s) → (qs : List ℕ) → qs ≡ c.steps → HasLikeRow depths (run w c.steps) (n + calls_along w c.steps)
-          any a [] e = subst (λ ps. HasLikeRow depths (run w ps) (n + calls_along w ps)) e (s.advance, s.at, stands.here, a.alike, omega (arith, low))
-          any a (r ∷ qs) e =
-              let first = subst (λ ps. AreOnward w ps) (sym e) onward in
-              let keeps = subst (λ ps. AllKeepNames w ps) (sym e) keep in
-              let step_next = a.each r first.0 in
-              let next = step_next.after in
-              let shorter : length qs < length c.steps = let size = ap length e in omega (arith, size) in
-              let lower = step_next.deep depths deep in
-              let end = ih (record { world = step w r; place = next.0; steps = qs }) (inl shorter) (n + calls_in r (step_effect_in w r)) next.1 (named_after stay w r named keeps.0) first.1
-              (subst (λ ps. NoneGoesOn (run w ps)) (sym e) none) (omega (arith, lower, low)) in
-              let calls = calls_more w r qs in
-              let most = end.4 in
-              subst (λ ps. HasLikeRow depths (run w ps) (n + calls_along w ps)) e (end.0, end.1, end.2, end.3, omega (arith, most, calls))
+  arrives depths deep = by_steps (Arrives depths) (record {
+    ends = λ c g like end n none low.
+        subst (λ ps. HasLikeRow depths (run c.world ps) (n + calls_along c.world ps)) (sym end) (c.place.advance, c.place.at, g.stands.here, like, omega (arith, low));
+    fronts = λ c p g next f rest n none low.
+        let lower = next.deep depths deep in
+        let calls = f.calls in
+        let end = rest (n + calls_in p (step_effect_in c.world p)) (subst NoneGoesOn (sym f.leads) none) (omega (arith, lower, low)) in
+        let most = end.4 in
+        (end.0, end.1, end.2, subst (λ x. AreAlike x end.0) f.leads end.3, omega (arith, most, calls));
+    passes = λ c g a f rest n none low.
+        let v = run c.world c.steps in
+        absurd (none a.process (independent_goes v.kernel (step_effect_in v a.process) f.stays));
+  })
