@@ -1,5 +1,5 @@
 -- How many effective steps there can be, where each edge leads to a row with a greater number.
-use Rattle.std.proofs.Common.{ℕ, suc, ◌+◌, ◌-◌, ◌*◌, ◌<◌, ◌≤◌, ◌≡◌, List, [], ◌∷◌, Option, Some, None, sym, ap, subst, ◌∙◌, arith, length, slice_get, set, refl, inl, inr, ◌⊎◌}
+use Rattle.std.proofs.Common.{ℕ, suc, ◌+◌, ◌-◌, ◌*◌, ◌<◌, ◌≤◌, ◌≡◌, List, [], ◌∷◌, Option, Some, None, sym, ap, subst, ◌∙◌, arith, length, slice_get, refl, inl, inr, ◌⊎◌}
 use Rattle.lab_sched.specs.Worlds.{WorldState, step_effect_in, step}
 use Rattle.lab_sched.specs.Execution.{AreEffective}
 use Rattle.ipc_kernel.specs.Alike.{IsConsistent}
@@ -9,7 +9,7 @@ use Rattle.lab_search.specs.Stored.{IsSearched}
 use Rattle.lab_worlds.specs.Lassos.{AreBounded}
 use Rattle.lab_states.specs.Rising.{IsRising, Rises, AreRising}
 use Rattle.lab_worlds.proofs.Pushes.{all_at}
-use Rattle.lab_search.proofs.StandingWorlds.{Place, Stands, GoesNearer, GoesAlong, total, total_set, running, running_goes, running_waits, step_stands, start_stands}
+use Rattle.lab_search.proofs.StandingWorlds.{Place, Stands, GoesNearer, GoesAlong, measure, nearer_falls, along_falls, running, running_goes, running_waits, step_stands, start_stands}
 use Rattle.lab_worlds.proofs.UnwaitingWorlds.{tells, same_step, still_unwaiting, goes_unwaiting, asks_on}
 
 -- so many steps may follow a row with such a number
@@ -19,37 +19,22 @@ rank n (Some a) = n - a
 
 -- at most so many steps may follow where a world stands
 abbrev pub left_at : List ℕ → Place → ℕ
-left_at order s = total s.taken + 4294967296 * rank (length order) (slice_get order s.at)
+left_at order s = measure (λ i. rank (length order) (slice_get order i)) s
 
 -- at most n steps by which a process goes on may follow the world
 abbrev HasLeft : Store → List ℕ → WorldState → ℕ → Type 0
 HasLeft t order w n = (s : Place) × Stands t w s × (left_at order s ≡ n)
 
-module _ (t : Store) (order : List ℕ) (rises : Rises order t.edges) where
-  pub nearer_less : (s u : Place) (p : ℕ) → GoesNearer s u p → left_at order u < left_at order s
-  nearer_less s u p h =
-      let sums = total_set s.taken p (suc h.0) h.0 h.1 in
-      subst (λ i. total u.taken + 4294967296 * rank (length order) (slice_get order i) < left_at order s) (sym h.3)
-      (subst (λ ks. total ks + 4294967296 * rank (length order) (slice_get order s.at) < left_at order s) (sym h.2) (omega (arith, sums)))
-
-  pub along_less : (s u : Place) (p : ℕ) → GoesAlong t s u p → left_at order u < left_at order s
-  along_less s u p h =
-      let rise = all_at (IsRising order) t.edges h.0 h.1 rises h.3 in
-      let from : slice_get order s.at ≡ Some rise.before = ap (λ i. slice_get order i) (sym h.4) ∙ rise.from in
-      let to : slice_get order u.at ≡ Some rise.after = ap (λ i. slice_get order i) (sym h.5) ∙ rise.to in
-      let sums = total_set s.taken p 0 h.2 h.7 in
-      subst (λ o. total u.taken + 4294967296 * rank (length order) (slice_get order u.at) < total s.taken + 4294967296 * rank (length order) o) (sym from)
-      (subst (λ o. total u.taken + 4294967296 * rank (length order) o < total s.taken + 4294967296 * (length order - rise.before)) (sym to)
-      (subst (λ ks. total ks + 4294967296 * (length order - rise.after) < total s.taken + 4294967296 * (length order - rise.before)) (sym h.8)
-      (falls (total s.taken) (total (set s.taken p h.2)) h.2 (length order) rise.before rise.after sums h.9 rise.less rise.within)))
-    where
-      falls : (x y i l a b : ℕ) → y + 0 ≡ x + i → i < 4294967296 → a < b → b ≤ l → y + 4294967296 * (l - b) < x + 4294967296 * (l - a)
-      falls x y i l a b sums few rise within = omega arith
-
-  -- so many steps fewer may follow after either
-  pub next_less : (s u : Place) (p : ℕ) → GoesNearer s u p ⊎ GoesAlong t s u p → left_at order u < left_at order s
-  next_less s u p (inl near) = nearer_less s u p near
-  next_less s u p (inr along) = along_less s u p along
+-- so many steps fewer may follow after either
+pub next_less : (t : Store) (order : List ℕ) → Rises order t.edges → (s u : Place) (p : ℕ) → GoesNearer s u p ⊎ GoesAlong t s u p → left_at order u < left_at order s
+next_less t order rises s u p (inl near) = nearer_falls (λ i. rank (length order) (slice_get order i)) s u p near
+next_less t order rises s u p (inr h) =
+    let rise = all_at (IsRising order) t.edges h.0 h.1 rises h.3 in
+    let from = ap (rank (length order)) (ap (λ i. slice_get order i) (sym h.4) ∙ rise.from) in
+    let to = ap (rank (length order)) (ap (λ i. slice_get order i) (sym h.5) ∙ rise.to) in
+    let less = rise.less in
+    let within = rise.within in
+    along_falls (λ i. rank (length order) (slice_get order i)) t s u p (omega (arith, from, to, less, within)) h
 
 module _ (t : Store) (order : List ℕ) (start : WorldState) (searched : IsSearched start t) (rises : Rises order t.edges) where
   step_left : (w : WorldState) (p n : ℕ) → GoesOn (step_effect_in w p) → HasLeft t order w n → (j : ℕ) × (j < n) × HasLeft t order (step w p) j

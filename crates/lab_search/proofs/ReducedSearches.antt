@@ -1,5 +1,5 @@
 -- Where rows are tried by one independent step alone: what can be taken from where a world stands, and that no name is taken away.
-use Rattle.std.proofs.Common.{ℕ, zero, suc, ◌+◌, ◌-◌, ◌*◌, ◌<◌, ◌≤◌, ◌≡◌, arith, List, [], ◌∷◌, Option, Some, None, refl, sym, ap, subst, ◌∙◌, length, slice_get, set, inl, inr, ◌⊎◌}
+use Rattle.std.proofs.Common.{ℕ, zero, suc, ◌+◌, ◌-◌, ◌<◌, ◌≤◌, ◌≡◌, arith, List, [], ◌∷◌, Option, Some, None, refl, sym, ap, subst, ◌∙◌, length, slice_get, inl, inr, ◌⊎◌}
 use Rattle.lc3_machine.specs.Process.{Process as Machine}
 use Rattle.ipc_kernel.specs.Kernel.{KernelState}
 use Rattle.ipc_kernel.specs.declared.call.Call.{Call}
@@ -26,11 +26,11 @@ use Rattle.lab_search.proofs.FirstWorlds.{at_unique}
 use Rattle.lab_worlds.proofs.AfterLocalSteps.{same_by_gets}
 use Rattle.lab_worlds.proofs.AlikeWorlds.{same_effect}
 use Rattle.lab_worlds.proofs.IndependentSteps.{independent_goes}
-use Rattle.lab_search.proofs.StandingWorlds.{Place, Stands, StandsAfter, GoesNearer, GoesAlong, TakesAt, total, total_set, local_stands, along_stands}
+use Rattle.lab_search.proofs.StandingWorlds.{Place, Stands, StandsAfter, GoesNearer, GoesAlong, TakesAt, measure, nearer_falls, along_falls, both_there, local_stands, along_stands}
 
 -- local steps and rows that are left from a place on
 abbrev pub left : Store → Place → ℕ
-left t s = total s.taken + 4294967296 * (length t.rows - s.at)
+left t s = measure (λ i. length t.rows - i) s
 
 -- a process that goes on is there
 pub goes_there : (w : WorldState) (p : ℕ) → GoesOn (step_effect_in w p) → (x : Process) × (slice_get w.processes p ≡ Some x)
@@ -80,56 +80,28 @@ first_some (zero ∷ ks) = elim (first_some ks) [
 ]
   where
     rest : (p k : ℕ) → slice_get (zero ∷ ks) p ≡ Some k → ((p k : ℕ) → slice_get ks p ≡ Some k → k ≡ 0) → k ≡ 0
-    rest zero k e h = let same : zero ≡ k = cc in sym same
+    rest zero k e h = cc
     rest (suc p) k e h = h p k e
 
 -- a process with a local step left
 local_left : (j : ℕ) (b c : Option Process) → TakesAt (Some (suc j)) b c → (m : Machine) × (q : Machine) × (b ≡ Some (Running m)) × (next_action m ≡ moves q)
-local_left j None None h = absurd h
-local_left j None (Some u) h = absurd h
-local_left j (Some s) None h = absurd h
 local_left j (Some (Running m)) (Some u) h = let first = first_local j m u h.0 in (m, first.0, refl, first.1)
-local_left j (Some (Waiting m c)) (Some u) h = absurd h.0.1
-local_left j (Some (Ended e)) (Some u) h = absurd h.0.1
+local_left j (Some s) (Some u) h = absurd h.0.1
+local_left j _ _ h = absurd h
 
 -- one with none
 none_left : (a : Option ℕ) (b c : Option Process) → ((k : ℕ) → a ≡ Some k → k ≡ 0) → TakesAt a b c → c ≡ b
 none_left None None None z h = refl
-none_left None None (Some u) z h = absurd h
-none_left None (Some s) None z h = absurd h
-none_left None (Some s) (Some u) z h = absurd h
-none_left (Some k) None None z h = absurd h
-none_left (Some k) None (Some u) z h = absurd h
-none_left (Some k) (Some s) None z h = absurd h
 none_left (Some k) (Some s) (Some u) z h = let same : AreLocal 0 s u = subst (λ n. AreLocal n s u) (z k refl) h.0 in ap (λ x. Some x) (sym same)
+none_left _ _ _ z h = absurd h
 
 -- and it is at its call
 at_call_left : (a : Option ℕ) (b c : Option Process) (x : Process) → c ≡ b → b ≡ Some x → TakesAt a b c → IsAtCall x
-at_call_left None None None x e f h = absurd (cc)
-at_call_left None None (Some u) x e f h = absurd h
-at_call_left None (Some s) None x e f h = absurd h
-at_call_left None (Some s) (Some u) x e f h = absurd h
-at_call_left (Some k) None None x e f h = absurd h
-at_call_left (Some k) None (Some u) x e f h = absurd h
-at_call_left (Some k) (Some s) None x e f h = absurd h
-at_call_left (Some k) (Some s) (Some u) x e f h = let same : u ≡ x = cc in subst IsAtCall same h.1
-
--- less is left after a local step
-nearer_left : (t : Store) (s u : Place) (p : ℕ) → GoesNearer s u p → left t u < left t s
-nearer_left t s u p h =
-    let sums = total_set s.taken p (suc h.0) h.0 h.1 in
-    subst (λ i. total u.taken + 4294967296 * (length t.rows - i) < left t s) (sym h.3)
-    (subst (λ ks. total ks + 4294967296 * (length t.rows - s.at) < left t s) (sym h.2) (omega (arith, sums)))
-
--- and after a step of the kernel to a later row
-along_left : (t : Store) (s u : Place) (p : ℕ) → s.at < length t.rows → s.at < u.at → GoesAlong t s u p → left t u < left t s
-along_left t s u p within later h =
-    let sums = total_set s.taken p 0 h.2 h.7 in
-    subst (λ ks. total ks + 4294967296 * (length t.rows - u.at) < left t s) (sym h.8)
-    (falls (total s.taken) (total (set s.taken p h.2)) h.2 (length t.rows) s.at u.at sums h.9 later within)
-  where
-    falls : (x y i l a b : ℕ) → y + 0 ≡ x + i → i < 4294967296 → a < b → a < l → y + 4294967296 * (l - b) < x + 4294967296 * (l - a)
-    falls x y i l a b sums few rise within = omega arith
+at_call_left a b c x e f h =
+    let there = both_there a b c x f h in
+    let some : Some there.1 ≡ Some x = sym there.3 ∙ e ∙ f in
+    let same : there.1 ≡ x = cc in
+    subst IsAtCall same there.5
 
 -- after a local step
 nearer_next : (t : Store) (w : WorldState) (p : ℕ) (s : Place) → (h : (u : Place) × Stands t (step w p) u × GoesNearer s u p) → StandsNext t w p s
@@ -174,7 +146,7 @@ module _ (alike : OwnAlike) (t : Store) (start : WorldState) (searched : IsSearc
             process = p;
             independent = subst (IsIndependent w.kernel) (sym (effect_local w p found.0 found.1 found.2 found.3)) tt;
             next = nearer_next t w p s next;
-            less = nearer_left t s next.0 p next.2;
+            less = nearer_falls (λ i. length t.rows - i) s next.0 p next.2;
           }
 
       at_calls : ((p k : ℕ) → slice_get s.taken p ≡ Some k → k ≡ 0) → TakesAlone t w s ⊎ TakesAny t w s
@@ -230,5 +202,5 @@ module _ (alike : OwnAlike) (t : Store) (start : WorldState) (searched : IsSearc
                     process = p;
                     independent = here;
                     next = along_next t w p s (one_call w p h.0 h.1 (at_call p h.0 h.1) goes) h.2.0 h.2.1 h.2.2;
-                    less = along_left t s h.2.0 p within later_row h.2.2;
+                    less = along_falls (λ i. length t.rows - i) t s h.2.0 p (omega (arith, within, later_row)) h.2.2;
                   })

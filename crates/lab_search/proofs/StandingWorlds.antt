@@ -1,5 +1,5 @@
 -- Where worlds stand among the rows of a search: the row of their advance, and the local steps up to it.
-use Rattle.std.proofs.Common.{ℕ, zero, suc, ◌+◌, ◌<◌, ◌≤◌, ◌≡◌, List, [], ◌∷◌, Option, Some, None, refl, sym, ap, subst, ◌∙◌, arith, length, slice_get, set, count_by, inl, inr, ◌⊎◌}
+use Rattle.std.proofs.Common.{ℕ, zero, suc, ◌+◌, ◌*◌, ◌<◌, ◌≤◌, ◌≡◌, List, [], ◌∷◌, Option, Some, None, refl, sym, ap, subst, ◌∙◌, arith, length, slice_get, set, count_by, inl, inr, ◌⊎◌, rules}
 use Rattle.std.proofs.lemmas.Bool.Decides.{eqb_tells}
 use Rattle.lc3_machine.specs.Process.{Process as Machine}
 use Rattle.lab_sched.specs.Worlds.{Process, Running, Waiting, Ended, WorldState, NextAction, moves, calls, next_action, process_after_answer, StepEffect, nothing, local_step, kernel_step, step_effect, step_effect_in, first_try, retry, after, step, IsEffective}
@@ -84,13 +84,8 @@ running_waits w p h g = by (slice_get w.processes p) refl
 -- a process takes so many local steps to the state in which it is at a call
 abbrev pub TakesAt : Option ℕ → Option Process → Option Process → Type 0
 TakesAt None None None = Unit {0}
-TakesAt None None (Some u) = ⊥
-TakesAt None (Some s) None = ⊥
-TakesAt None (Some s) (Some u) = ⊥
-TakesAt (Some k) None None = ⊥
-TakesAt (Some k) None (Some u) = ⊥
-TakesAt (Some k) (Some s) None = ⊥
 TakesAt (Some k) (Some s) (Some u) = AreLocal k s u × IsAtCall u
+TakesAt _ _ _ = ⊥
 
 abbrev pub Takes : List ℕ → List Process → List Process → Type 0
 Takes ks ss us = (p : ℕ) → TakesAt (slice_get ks p) (slice_get ss p) (slice_get us p)
@@ -98,8 +93,6 @@ Takes ks ss us = (p : ℕ) → TakesAt (slice_get ks p) (slice_get ss p) (slice_
 -- the local steps of processes that are ahead of others
 pub taken_of : (ss us : List Process) → Alongside IsAhead ss us → (ks : List ℕ) × Takes ks ss us × (length ks ≡ length ss)
 taken_of [] [] h = ([], λ p. tt, refl)
-taken_of [] (u ∷ us) h = absurd (h 0)
-taken_of (s ∷ ss) [] h = absurd (h 0)
 taken_of (s ∷ ss) (u ∷ us) h =
     let first : IsAhead s u = h 0 in
     let rest = taken_of ss us (λ p. h (suc p)) in
@@ -108,13 +101,13 @@ taken_of (s ∷ ss) (u ∷ us) h =
     takes_cons : (k : ℕ) (s u : Process) (ks : List ℕ) (ss us : List Process) → AreLocal k s u × IsAtCall u → Takes ks ss us → Takes (k ∷ ks) (s ∷ ss) (u ∷ us)
     takes_cons k s u ks ss us h r zero = h
     takes_cons k s u ks ss us h r (suc p) = r p
+taken_of _ _ h = absurd (h 0)
 
 -- a process at a call takes no local step
 none_taken : (k : ℕ) (s u : Process) → IsAtCall s → AreLocal k s u → k ≡ 0
 none_taken zero s u at h = refl
 none_taken (suc k) (Running m) u at h = let asks = at.1 in let goes = h.1.1 in absurd (cc)
-none_taken (suc k) (Waiting m c) u at h = absurd h.1
-none_taken (suc k) (Ended e) u at h = absurd h.1
+none_taken (suc k) _ u at h = absurd h.1
 
 -- a local step leaves one less
 one_taken : (k : ℕ) (m q : Machine) (u : Process) → next_action m ≡ moves q → AreLocal k (Running m) u → IsAtCall u → (j : ℕ) × (k ≡ suc j) × AreLocal j (Running q) u
@@ -128,23 +121,14 @@ one_taken (suc j) m q u e h at =
 -- a process that took no step since its call
 taken_on : (a : Option ℕ) (b c d : Option Process) → TakesAt a b c → Both IsReached c d → TakesAt a b d
 taken_on None None None None h r = tt
-taken_on None None None (Some y) h r = absurd r
-taken_on None None (Some x) d h r = absurd h
-taken_on None (Some s) None d h r = absurd h
-taken_on None (Some s) (Some x) d h r = absurd h
-taken_on (Some k) None None d h r = absurd h
-taken_on (Some k) None (Some x) d h r = absurd h
-taken_on (Some k) (Some s) None d h r = absurd h
-taken_on (Some k) (Some s) (Some x) None h r = absurd r
-taken_on (Some k) (Some s) (Some x) (Some y) h r =
-    let same : y ≡ x = none_local r.ahead.taken x y h.1 r.ahead.local in
-    (subst (λ z. AreLocal k s z) (sym same) h.0, subst IsAtCall (sym same) h.1)
+taken_on (Some k) (Some s) (Some x) (Some y) h r = subst (λ z. AreLocal k s z × IsAtCall z) (sym (none_local r.ahead.taken x y h.1 r.ahead.local)) h
+taken_on _ _ _ _ h r = search rules
 
 -- the local steps after a step of a process that is there
 reached_by : (a b : Option Process) (x : Process) → a ≡ Some x → Both IsReached a b → (j : ℕ) × (j < 4294967296) × TakesAt (Some j) a b
-reached_by None b x e r = absurd (cc)
-reached_by (Some s) None x e r = absurd r
 reached_by (Some s) (Some u) x e r = (r.ahead.taken, r.few, (r.ahead.local, r.ahead.at_call))
+reached_by (Some s) None x e r = absurd r
+reached_by None b x e r = absurd (cc)
 
 -- a process that is there stays there
 still_there : (w : WorldState) (p : ℕ) (s : Process) → slice_get w.processes p ≡ Some s → (x : Process) × (slice_get (step w p).processes p ≡ Some x)
@@ -156,13 +140,10 @@ still_there w p s e = by (step_effect_in w p)
     by (kernel_step m c a) = (process_after_answer m c a, get-set_same w.processes p (process_after_answer m c a) (get_past w.processes p s e))
 
 -- the state of a process of a world whose advance is known
-both_there : (a : Option ℕ) (b c : Option Process) (s : Process) → b ≡ Some s → TakesAt a b c → (k : ℕ) × (u : Process) × (a ≡ Some k) × (c ≡ Some u) × AreLocal k s u × IsAtCall u
-both_there None None c s e h = absurd (cc)
-both_there None (Some b) None s e h = absurd h
-both_there None (Some b) (Some u) s e h = absurd h
-both_there (Some k) None c s e h = absurd (cc)
-both_there (Some k) (Some b) None s e h = absurd h
+pub both_there : (a : Option ℕ) (b c : Option Process) (s : Process) → b ≡ Some s → TakesAt a b c → (k : ℕ) × (u : Process) × (a ≡ Some k) × (c ≡ Some u) × AreLocal k s u × IsAtCall u
 both_there (Some k) (Some b) (Some u) s e h = let same : b ≡ s = cc in (k, u, refl, refl, subst (λ x. AreLocal k x u) same h.0, h.1)
+both_there a None c s e h = absurd (cc)
+both_there _ _ _ s e h = absurd h
 
 -- a row, its world, and how many local steps of each process lead there
 pub record Place : Type 0 where
@@ -186,6 +167,24 @@ abbrev pub GoesAlong : Store → Place → Place → ℕ → Type 0
 GoesAlong t s u p =
     (i : ℕ) × (e : Edge) × (j : ℕ) × (slice_get t.edges i ≡ Some e) × (e.from ≡ s.at) × (e.to ≡ u.at) × (e.pid ≡ p)
     × (slice_get s.taken p ≡ Some 0) × (u.taken ≡ set s.taken p j) × (j < 4294967296)
+
+-- the local steps that are left, and by far more for where the row stands
+abbrev pub measure : (ℕ → ℕ) → Place → ℕ
+measure f s = total s.taken + 4294967296 * f s.at
+
+-- either step leaves less, the one of the kernel where the row stands so
+pub nearer_falls : (f : ℕ → ℕ) (s u : Place) (p : ℕ) → GoesNearer s u p → measure f u < measure f s
+nearer_falls f s u p h =
+    let sums = total_set s.taken p (suc h.0) h.0 h.1 in
+    subst (λ i. total u.taken + 4294967296 * f i < measure f s) (sym h.3) (subst (λ ks. total ks + 4294967296 * f s.at < measure f s) (sym h.2) (omega (arith, sums)))
+
+pub along_falls : (f : ℕ → ℕ) (t : Store) (s u : Place) (p : ℕ) → f u.at < f s.at → GoesAlong t s u p → measure f u < measure f s
+along_falls f t s u p less h =
+    let sums = total_set s.taken p 0 h.2 h.7 in
+    subst (λ ks. total ks + 4294967296 * f u.at < measure f s) (sym h.8) (falls (total s.taken) (total (set s.taken p h.2)) h.2 (f s.at) (f u.at) sums h.9 less)
+  where
+    falls : (x y i a b : ℕ) → y + 0 ≡ x + i → i < 4294967296 → b < a → y + 4294967296 * b < x + 4294967296 * a
+    falls x y i a b sums few less = omega arith
 
 abbrev pub StandsAfter : Store → WorldState → ℕ → Place → Type 0
 StandsAfter t w p s = (u : Place) × Stands t (step w p) u × (GoesNearer s u p ⊎ GoesAlong t s u p)
@@ -211,6 +210,15 @@ pub standing_effect : (t : Store) (w : WorldState) (p : ℕ) (x : Process) (s : 
 standing_effect t w p x s a at stands =
     effect_alike w.kernel s.advance.kernel p (slice_get s.advance.processes p) stands.consistent stands.kernel
     ∙ ap (λ o. step_effect w.kernel p o) (standing_same t w p x s a at stands ∙ sym a)
+
+-- the local steps after a step of process p, which has other ones left then
+takes_set : (ks : List ℕ) (ss us : List Process) (p k j : ℕ) → slice_get ks p ≡ Some k → TakesAt (Some j) (slice_get ss p) (slice_get us p)
+    → ((i : ℕ) → (p ≡ i → ⊥) → TakesAt (slice_get ks i) (slice_get ss i) (slice_get us i)) → Takes (set ks p j) ss us
+takes_set ks ss us p k j at here others i = elim (eqb_tells p i) [
+  | inl same ↦ subst (λ n. TakesAt (slice_get (set ks p j) n) (slice_get ss n) (slice_get us n)) same.1
+      (subst (λ o. TakesAt o (slice_get ss p) (slice_get us p)) (sym (get-set_same ks p j (get_past ks p k at))) here)
+  | inr other ↦ subst (λ o. TakesAt o (slice_get ss i) (slice_get us i)) (sym (get-set_other ks p i j other.1)) (others i other.1)
+]
 
 module _ (t : Store) where
   -- after a local step
@@ -238,16 +246,9 @@ module _ (t : Store) where
         here = stands.here;
         kernel = stands.kernel;
         consistent = stands.consistent;
-        processes = λ i. elim (eqb_tells p i) [
-          | inl same ↦
-              subst (λ x. TakesAt (slice_get (set s.taken p one.0) x) (slice_get (set w.processes p (Running q)) x) (slice_get s.advance.processes x)) same.1
-              (subst (λ o. TakesAt o (slice_get (set w.processes p (Running q)) p) (slice_get s.advance.processes p)) (sym (get-set_same s.taken p one.0 (get_past s.taken p found.0 found.2)))
-              (subst (λ o. TakesAt (Some one.0) o (slice_get s.advance.processes p)) (sym now)
-              (subst (λ o. TakesAt (Some one.0) (Some (Running q)) o) (sym found.3) (one.2, found.5))))
-          | inr other ↦
-              subst (λ o. TakesAt o (slice_get (set w.processes p (Running q)) i) (slice_get s.advance.processes i)) (sym (get-set_other s.taken p i one.0 other.1))
-              (subst (λ o. TakesAt (slice_get s.taken i) o (slice_get s.advance.processes i)) (sym (get-set_other w.processes p i (Running q) other.1)) (stands.processes i))
-        ];
+        processes = takes_set s.taken (set w.processes p (Running q)) s.advance.processes p found.0 one.0 found.2
+            (subst (λ o. TakesAt (Some one.0) o (slice_get s.advance.processes p)) (sym now) (subst (λ o. TakesAt (Some one.0) (Some (Running q)) o) (sym found.3) (one.2, found.5)))
+            (λ i other. subst (λ o. TakesAt (slice_get s.taken i) o (slice_get s.advance.processes i)) (sym (get-set_other w.processes p i (Running q) other)) (stands.processes i));
       }
 
   -- after a step of the kernel that has an edge
@@ -286,16 +287,10 @@ module _ (t : Store) where
           reached_by (slice_get (step w p).processes p) (slice_get to.processes p) y.0 y.1 h
 
       takes : Takes (set s.taken p next.0) (step w p).processes to.processes
-      takes i = elim (eqb_tells p i) [
-        | inl one ↦
-            subst (λ y. TakesAt (slice_get (set s.taken p next.0) y) (slice_get (step w p).processes y) (slice_get to.processes y)) one.1
-            (subst (λ o. TakesAt o (slice_get (step w p).processes p) (slice_get to.processes p)) (sym (get-set_same s.taken p next.0 (get_past s.taken p found.0 found.2))) next.2)
-        | inr other ↦
-            let old = subst (λ o. TakesAt (slice_get s.taken i) o (slice_get v.processes i)) (sym (after_other w i p (step_effect_in w p) other.1)) (stands.processes i) in
-            let then_at = subst (λ o. Both IsReached o (slice_get to.processes i)) (after_other v i p (step_effect_in w p) other.1) (reached.processes i) in
-            subst (λ o. TakesAt o (slice_get (step w p).processes i) (slice_get to.processes i)) (sym (get-set_other s.taken p i next.0 other.1))
-            (taken_on (slice_get s.taken i) (slice_get (step w p).processes i) (slice_get v.processes i) (slice_get to.processes i) old then_at)
-      ]
+      takes = takes_set s.taken (step w p).processes to.processes p found.0 next.0 found.2 next.2 (λ i other.
+          let old = subst (λ o. TakesAt (slice_get s.taken i) o (slice_get v.processes i)) (sym (after_other w i p (step_effect_in w p) other)) (stands.processes i) in
+          let then_at = subst (λ o. Both IsReached o (slice_get to.processes i)) (after_other v i p (step_effect_in w p) other) (reached.processes i) in
+          taken_on (slice_get s.taken i) (slice_get (step w p).processes i) (slice_get v.processes i) (slice_get to.processes i) old then_at)
 
       u : Place
       u = record { at = edge.1.to; advance = to; taken = set s.taken p next.0 }
