@@ -5,7 +5,7 @@ use Rattle.lc3_machine.specs.declared.want.Want.TheVariants.{Trap, End}
 use Rattle.lc3_machine.specs.Process.{Process as Machine, Held, Outcome, GoesOn as ByItself, Stops, reg}
 use Rattle.lc3_machine.specs.Effects.{next_step}
 use Rattle.lc3_machine.proofs.Outputs.{behind as machine_behind, outcome_behind, step_behind, end_behind}
-use Rattle.ipc_kernel.specs.Kernel.{KernelState}
+use Rattle.ipc_kernel.specs.Kernel.{KernelState, IsSettled}
 use Rattle.ipc_kernel.specs.Answer.{answer}
 use Rattle.ipc_kernel.specs.declared.call.Call.{Call}
 use Rattle.ipc_kernel.specs.declared.call.Call.TheVariants as call
@@ -34,8 +34,10 @@ use Rattle.lab_worlds.specs.declared.trying.Attempt.TheVariants.{Came}
 use Rattle.lab_states.specs.declared.collapsed_states.CollapsedState.{CollapsedState}
 use Rattle.lab_search.specs.declared.store.Store.{Store}
 use Rattle.lab_states.specs.CollapsedStates.{behind, kept_behind, whole_of}
-use Rattle.lab_search.specs.Private.Stored.{output_at}
-use Rattle.lab_search.specs.Stored.{IsState, IsStore}
+use Rattle.lab_search.specs.declared.known.Mover.{Mover}
+use Rattle.lab_search.specs.declared.making.KeptAttempt.{KeptAttempt}
+use Rattle.lab_search.specs.Private.Stored.{IsKeptStep, IsKeptAttempt, output_at}
+use Rattle.lab_search.specs.Stored.{IsState, IsExactly, IsStore}
 use Rattle.lab_worlds.specs.Stepped.{IsReady, IsReached, IsStepped}
 use Rattle.lab_worlds.proofs.Pushes.{all_at}
 use Rattle.lab_states.proofs.SilentProcesses.{same_trap, seen_output}
@@ -87,8 +89,7 @@ asked_behind p o = ap (outcome_request (machine_behind o p)) (step_behind p o) �
 
 outcome_service : (x : Outcome) (o : List ℕ) → service_asked (outcome_behind o x) ≡ service_asked x
 outcome_service (ByItself q) o = refl
-outcome_service (Stops (Trap v)) o = refl
-outcome_service (Stops (End how)) o = refl
+outcome_service _ o = refl
 
 service_behind : (p : Machine) (o : List ℕ) → service_asked (next_step (machine_behind o p)) ≡ service_asked (next_step p)
 service_behind p o = ap service_asked (step_behind p o) ∙ outcome_service (next_step p) o
@@ -97,25 +98,11 @@ service_behind p o = ap service_asked (step_behind p o) ∙ outcome_service (nex
 four_same : (s : Option Service) (p : Machine) (o : List ℕ) → four_words_address s (machine_behind o p) ≡ four_words_address s p
 four_same None p o = refl
 four_same (Some service.MqOpen) p o = refl
-four_same (Some service.MqClose) p o = refl
-four_same (Some service.MqUnlink) p o = refl
-four_same (Some service.MqSend) p o = refl
-four_same (Some service.MqReceive) p o = refl
-four_same (Some service.MqGetattr) p o = refl
-four_same (Some service.MqSetattr) p o = refl
-four_same (Some service.SemOpen) p o = refl
-four_same (Some service.SemClose) p o = refl
-four_same (Some service.SemUnlink) p o = refl
-four_same (Some service.SemWait) p o = refl
-four_same (Some service.SemTrywait) p o = refl
-four_same (Some service.SemPost) p o = refl
-four_same (Some service.SemGetvalue) p o = refl
+four_same _ p o = refl
 
 trap_replied : (s : Option Service) (p : Machine) (r : Reply) (o : List ℕ) → process_after_trap_reply s (machine_behind o p) r ≡ machine_behind o (process_after_trap_reply s p r)
-trap_replied s p (reply.Plain r) o = refl
-trap_replied s p (reply.Message words prio) o = refl
 trap_replied s p (reply.Attr words) o = ap (λ a. after_call (machine_behind o p) 0 (with_words_if p.memory a words)) (four_same s p o)
-trap_replied s p (reply.Value value) o = refl
+trap_replied s p _ o = refl
 
 replied_behind : (p : Machine) (r : Reply) (o : List ℕ) → process_after_reply (machine_behind o p) r ≡ machine_behind o (process_after_reply p r)
 unfolding process_after_reply
@@ -127,10 +114,8 @@ action_behind o (moves q) = moves (machine_behind o q)
 action_behind o (calls c) = calls c
 
 action_for_behind : (r : Request) (p : Machine) (o : List ℕ) → action_for (machine_behind o p) (request_behind o r) ≡ action_behind o (action_for p r)
-action_for_behind (Local q) p o = refl
 action_for_behind (Refuses e) p o = ap moves (replied_behind p (reply.Plain (65536 - number_of e)) o)
-action_for_behind (Calls c) p o = refl
-action_for_behind (Ends how) p o = refl
+action_for_behind _ p o = refl
 
 acts_behind : (p : Machine) (o : List ℕ) → next_action (machine_behind o p) ≡ action_behind o (next_action p)
 unfolding next_action
@@ -138,10 +123,8 @@ acts_behind p o = ap (action_for (machine_behind o p)) (asked_behind p o) ∙ ac
 
 -- the process after the answer to its call
 reply_to_behind : (q : Request) (m : Machine) (r : Reply) (o : List ℕ) → process_after_reply_to (machine_behind o m) (request_behind o q) r ≡ behind o (process_after_reply_to m q r)
-reply_to_behind (Local n) m r o = ap Running (replied_behind m r o)
-reply_to_behind (Refuses e) m r o = ap Running (replied_behind m r o)
-reply_to_behind (Calls c) m r o = ap Running (replied_behind m r o)
 reply_to_behind (Ends how) m r o = ap (λ p. Ended (record { process = p; how = how })) (end_behind how m o)
+reply_to_behind _ m r o = ap Running (replied_behind m r o)
 
 answered_behind : (a : Answer) (m : Machine) (c : Call) (o : List ℕ) → process_after_answer (machine_behind o m) c a ≡ behind o (process_after_answer m c a)
 unfolding process_after_answer
@@ -167,33 +150,26 @@ same_step k p (Running m) o = ap (first_try k p (machine_behind o m)) (acts_behi
 same_step k p (Waiting m c) o = retries_behind (answer k p c).0 m c o
 same_step k p (Ended e) o = refl
 
-goes : (t : StepEffect) (o : List ℕ) → GoesOn t → GoesOn (effect_behind o t)
-goes nothing o h = h
-goes (local_step n) o h = h
-goes (kernel_step m c (Done r)) o h = h
-goes (kernel_step m c Wait) o h = h
+goes_same : (t : StepEffect) (o : List ℕ) → GoesOn (effect_behind o t) ≡ GoesOn t
+goes_same (kernel_step m c Wait) o = refl
+goes_same _ o = refl
 
-went : (t : StepEffect) (o : List ℕ) → GoesOn (effect_behind o t) → GoesOn t
-went nothing o h = h
-went (local_step n) o h = h
-went (kernel_step m c (Done r)) o h = h
-went (kernel_step m c Wait) o h = h
+same_goes : (k : KernelState) (p : ℕ) (s : Process) (o : List ℕ) → GoesOn (step_effect k p (Some (behind o s))) ≡ GoesOn (step_effect k p (Some s))
+same_goes k p s o = ap GoesOn (same_step k p s o) ∙ goes_same (step_effect k p (Some s)) o
 
 pub goes_behind : (k : KernelState) (p : ℕ) (s : Process) (o : List ℕ) → GoesOn (step_effect k p (Some s)) → GoesOn (step_effect k p (Some (behind o s)))
-goes_behind k p s o h = subst GoesOn (sym (same_step k p s o)) (goes (step_effect k p (Some s)) o h)
+goes_behind k p s o h = subst (λ X. X) (sym (same_goes k p s o)) h
 
 pub went_behind : (k : KernelState) (p : ℕ) (s : Process) (o : List ℕ) → GoesOn (step_effect k p (Some (behind o s))) → GoesOn (step_effect k p (Some s))
-went_behind k p s o h = went (step_effect k p (Some s)) o (subst GoesOn (same_step k p s o) h)
+went_behind k p s o h = subst (λ X. X) (same_goes k p s o) h
 
 same_kernel : (k : KernelState) (p : ℕ) (t : StepEffect) (o : List ℕ) → kernel_after k p (effect_behind o t) ≡ kernel_after k p t
 same_kernel k p nothing o = refl
-same_kernel k p (local_step n) o = refl
-same_kernel k p (kernel_step m c a) o = refl
+same_kernel k p _ o = refl
 
 same_process : (s : Process) (t : StepEffect) (o : List ℕ) → process_after (behind o s) (effect_behind o t) ≡ behind o (process_after s t)
-same_process s nothing o = refl
-same_process s (local_step n) o = refl
 same_process s (kernel_step m c a) o = answered_behind a m c o
+same_process s _ o = refl
 
 kernel_behind : (k : KernelState) (p : ℕ) (s : Process) (o : List ℕ) → (step_of k p (behind o s)).kernel ≡ (step_of k p s).kernel
 kernel_behind k p s o = ap (kernel_after k p) (same_step k p s o) ∙ same_kernel k p (step_effect k p (Some s)) o
@@ -204,8 +180,7 @@ process_behind k p s o = ap (process_after (behind o s)) (same_step k p s o) ∙
 -- its local steps
 local_behind : (s u : Process) (o : List ℕ) → IsLocalStep s u → IsLocalStep (behind o s) (behind o u)
 local_behind (Running m) u o h = (machine_behind o h.0, acts_behind m o ∙ ap (action_behind o) h.1, ap (behind o) h.2)
-local_behind (Waiting m c) u o h = h
-local_behind (Ended e) u o h = h
+local_behind _ u o h = h
 
 locals_behind : (n : ℕ) (s u : Process) (o : List ℕ) → AreLocal n s u → AreLocal n (behind o s) (behind o u)
 locals_behind zero s u o h = ap (behind o) h
@@ -213,8 +188,7 @@ locals_behind (suc n) s u o h = (behind o h.0, local_behind s h.0 o h.1, locals_
 
 at_call_behind : (s : Process) (o : List ℕ) → IsAtCall s → IsAtCall (behind o s)
 at_call_behind (Running m) o h = (h.0, acts_behind m o ∙ ap (action_behind o) h.1)
-at_call_behind (Waiting m c) o h = h
-at_call_behind (Ended e) o h = h
+at_call_behind _ o h = h
 
 reached_behind : (s u : Process) (o : List ℕ) → IsReached s u → IsReached (behind o s) (behind o u)
 reached_behind s u o h = record {
@@ -222,62 +196,44 @@ reached_behind s u o h = record {
   few = h.few;
 }
 
--- the replies that it can have, and the room for them
-can_behind : (q : Request) (r : Reply) (o : List ℕ) → CanReply q r → CanReply (request_behind o q) r
-can_behind (Local n) r o h = h
-can_behind (Refuses e) r o h = h
-can_behind (Calls c) r o h = h
-can_behind (Ends how) r o h = h
-
-could_behind : (q : Request) (r : Reply) (o : List ℕ) → CanReply (request_behind o q) r → CanReply q r
-could_behind (Local n) r o h = h
-could_behind (Refuses e) r o h = h
-could_behind (Calls c) r o h = h
-could_behind (Ends how) r o h = h
-
 -- the same pages are ready
 abbrev held_behind : List ℕ → Held → Held
 held_behind o h = record { process = machine_behind o h.process; ready = h.ready }
 
-room_behind : (s : Option Service) (h : Held) (r : Reply) (o : List ℕ) → HasRoomFor s h r → HasRoomFor s (held_behind o h) r
-room_behind s h (reply.Plain r) o room = room
-room_behind s h (reply.Message words prio) o room = room
-room_behind s h (reply.Attr words) o room = subst (λ a. IsWritableIf h.ready a 4) (sym (four_same s h.process o)) room
-room_behind s h (reply.Value value) o room = room
+-- the replies that it can have, and the room for them
+can_same : (q : Request) (r : Reply) (o : List ℕ) → CanReply (request_behind o q) r ≡ CanReply q r
+can_same (Local n) r o = refl
+can_same _ r o = refl
 
-had_behind : (s : Option Service) (h : Held) (r : Reply) (o : List ℕ) → HasRoomFor s (held_behind o h) r → HasRoomFor s h r
-had_behind s h (reply.Plain r) o room = room
-had_behind s h (reply.Message words prio) o room = room
-had_behind s h (reply.Attr words) o room = subst (λ a. IsWritableIf h.ready a 4) (four_same s h.process o) room
-had_behind s h (reply.Value value) o room = room
+room_same : (s : Option Service) (h : Held) (r : Reply) (o : List ℕ) → HasRoomFor s (held_behind o h) r ≡ HasRoomFor s h r
+room_same s h (reply.Attr words) o = ap (λ a. IsWritableIf h.ready a 4) (four_same s h.process o)
+room_same s h _ o = refl
+
+can_behind : (h : Held) (o : List ℕ) (r : Reply) → CanReply (next_request (machine_behind o h.process)) r ≡ CanReply (next_request h.process) r
+can_behind h o r = ap (λ q. CanReply q r) (asked_behind h.process o) ∙ can_same (next_request h.process) r o
+
+room_behind : (h : Held) (o : List ℕ) (r : Reply) → HasRoomFor (service_asked (next_step (machine_behind o h.process))) (held_behind o h) r ≡ HasRoomFor (service_asked (next_step h.process)) h r
+room_behind h o r = ap (λ s. HasRoomFor s (held_behind o h) r) (service_behind h.process o) ∙ room_same (service_asked (next_step h.process)) h r o
 
 prepared_behind : (h : Held) (o : List ℕ) → IsPrepared h → IsPrepared (held_behind o h)
 unfolding IsPrepared
-prepared_behind h o prepared r can =
-    let could = could_behind (next_request h.process) r o (subst (λ q. CanReply q r) (asked_behind h.process o) can) in
-    subst (λ s. HasRoomFor s (held_behind o h) r) (sym (service_behind h.process o)) (room_behind (service_asked (next_step h.process)) h r o (prepared r could))
+prepared_behind h o prepared r can = subst (λ X. X) (sym (room_behind h o r)) (prepared r (subst (λ X. X) (can_behind h o r) can))
 
 was_prepared : (h : Held) (o : List ℕ) → IsPrepared (held_behind o h) → IsPrepared h
 unfolding IsPrepared
-was_prepared h o prepared r can =
-    let could = subst (λ q. CanReply q r) (sym (asked_behind h.process o)) (can_behind (next_request h.process) r o can) in
-    had_behind (service_asked (next_step h.process)) h r o (subst (λ s. HasRoomFor s (held_behind o h) r) (service_behind h.process o) (prepared r could))
+was_prepared h o prepared r can = subst (λ X. X) (room_behind h o r) (prepared r (subst (λ X. X) (sym (can_behind h o r)) can))
 
 asks_for : (q : Request) (c : Call) (o : List ℕ) → request_behind o q ≡ Calls c → q ≡ Calls c
 asks_for (Local n) c o e = absurd (cc)
-asks_for (Refuses e') c o e = e
-asks_for (Calls d) c o e = e
-asks_for (Ends how) c o e = e
+asks_for _ c o e = e
 
 ready_held : (k : Kept) (o : List ℕ) → IsHeld k → IsHeld (kept_behind o k)
-ready_held (kept.Running h) o held = held
 ready_held (kept.Waiting h c) o held = (asked_behind h.process o ∙ ap (request_behind o) held.0, prepared_behind h o held.1)
-ready_held (kept.Ended e) o held = held
+ready_held _ o held = held
 
 pub was_held : (k : Kept) (o : List ℕ) → IsHeld (kept_behind o k) → IsHeld k
-was_held (kept.Running h) o held = held
 was_held (kept.Waiting h c) o held = (asks_for (next_request h.process) c o (sym (asked_behind h.process o) ∙ held.0), was_prepared h o held.1)
-was_held (kept.Ended e) o held = held
+was_held _ o held = held
 
 -- as it is seen
 pub seen_behind : (k : Kept) (o : List ℕ) → process_view (kept_behind o k) ≡ behind o (process_view k)
@@ -297,8 +253,13 @@ stepped_behind k p s made o h = (
 )
 
 -- the state behind an output that is kept
-pub state_behind : (t : Store) (i : ℕ) (s : CollapsedState) → slice_get t.states.processes i ≡ Some (whole_of t.states.outputs s) → IsState t i (behind (output_at t s.before) (process_view s.process))
+state_behind : (t : Store) (i : ℕ) (s : CollapsedState) → slice_get t.states.processes i ≡ Some (whole_of t.states.outputs s) → IsState t i (behind (output_at t s.before) (process_view s.process))
 state_behind t i s at = ap (option_map process_view) at ∙ ap (λ x. Some x) (seen_behind s.process (output_at t s.before))
+
+-- what comes of a step of its process
+pub attempt_behind : (t u : Store) (m : Mover) (s : CollapsedState) (k : KernelState) (a : KeptAttempt) → IsExactly t m.kernel k → IsSettled k → slice_get t.states.processes m.state ≡ Some (whole_of t.states.outputs s)
+    → IsKeptStep u k m.pid (behind (output_at t s.before) (process_view s.process)) a → IsKeptAttempt t u m a
+attempt_behind t u m s k a exactly settled whole step = (k, behind (output_at t s.before) (process_view s.process), exactly, state_behind t m.state s whole, settled, step)
 
 pub held_apart : (t : Store) (i : ℕ) (s : CollapsedState) → IsStore t → slice_get t.states.processes i ≡ Some (whole_of t.states.outputs s) → IsHeld s.process
 held_apart t i s is at = was_held s.process (output_at t s.before) (all_at IsReady t.states.processes i (whole_of t.states.outputs s) is.states at).0
