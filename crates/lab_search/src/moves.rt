@@ -1,5 +1,5 @@
 //! What each process does next.
-ghost use Rattle.std.specs.Prelude.{◌≡◌, IsTrue, IfOk, IfSome, OnOk};
+ghost use Rattle.std.specs.Prelude.{◌≡◌, ◌<◌, IsTrue, IfOk, IfSome, OnOk};
 ghost use Rattle.lab_sched.specs.Worlds.{WorldState};
 ghost use Rattle.lab_search.specs.declared.store.Next.TheVariants.{Limit};
 ghost use Rattle.lab_search.specs.Stored.{IsStore, AreKnown, LeadsTo, HasEdge, IsNextAt, IsAt, HasEdgeIfEnabled, IsExpanded};
@@ -118,45 +118,40 @@ impl Store {
         Ok(kept)
     }
 
-    /// Keeps the world to which a process goes on from that of a row, and the edge to it, if there are
-    /// fewer than `most`; with whether both are kept now.
-    fn keep_next(&mut self, change: Change, most: u32) -> Result<bool, ExploreFault>
-        requires store { IsStore self.old }
-        requires step { IsStep self.old change }
-        ensures later { OnOk result (IsLater self.old self.new) }
-        ensures edge { IfOk result (λ kept. IsTrue kept → (w : WorldState)
-            → IsAt self.old change.at w → HasEdge self.new change.at w change.pid) }
-    {
-        let Some(to) = self.keep_after(change, most)? else {
-            return Ok(false);
-        };
-        let kept = self.add_edge(change.at, change.pid, to)?;
-        Ok(kept)
-    }
-
-    /// Tries process `pid` from the world of a row, and keeps the world where it comes; with
-    /// whether that could be done.
-    fn try_process(&mut self, at: usize, pid: u32, limits: Limits) -> Result<bool, ExploreFault>
+    /// Tries process `pid` from the world of a row, and keeps the world where it comes, and the edge to
+    /// it, `onward` only where that is a later row; with whether that could be done.
+    pub(crate) fn try_process(
+        &mut self,
+        at: usize,
+        pid: u32,
+        limits: Limits,
+        onward: bool,
+    ) -> Result<bool, ExploreFault>
         requires store { IsStore self.old }
         ensures later { OnOk result (IsLater self.old self.new) }
         ensures expanded_in { IfOk result (λ whole. IsTrue whole → (w : WorldState)
             → IsAt self.old at w → HasEdgeIfEnabled self.new at w pid) }
+        ensures onward { IfOk result (λ whole. IsTrue whole → IsTrue onward → (w : WorldState)
+            → IsAt self.old at w → (x : HasEdge self.new at w pid) × (at < x.1.to)) }
     {
         let next = self.next(at, pid, limits.steps)?;
-        match next {
-            Next::Nothing => Ok(true),
-            Next::Limit => Ok(false),
-            Next::To { kernel, state, .. } => {
-                let change = Change {
-                    at,
-                    pid,
-                    kernel,
-                    state,
-                };
-                let kept = self.keep_next(change, limits.worlds)?;
-                Ok(kept)
-            }
+        let Next::To { kernel, state, .. } = next else {
+            return Ok(!onward && next.is_nothing());
+        };
+        let change = Change {
+            at,
+            pid,
+            kernel,
+            state,
+        };
+        let Some(to) = self.keep_after(change, limits.worlds)? else {
+            return Ok(false);
+        };
+        if onward && to <= at {
+            return Ok(false);
         }
+        let kept = self.add_edge(at, pid, to)?;
+        Ok(kept)
     }
 
     /// Tries each process from the world of a row; with whether that could be done.
@@ -170,7 +165,7 @@ impl Store {
         };
         let mut whole = true;
         for pid in 0..count {
-            let expanded_in = self.try_process(at, pid, limits)?;
+            let expanded_in = self.try_process(at, pid, limits, false)?;
             whole = both(whole, expanded_in);
         }
         Ok(whole)

@@ -1,15 +1,14 @@
 //! Partial-order reduction: from a world in which the step of a process depends on no other's, that
 //! step alone is tried.
-ghost use Rattle.std.specs.Prelude.{ℕ, ◌≡◌, ◌<◌, true, Some, IsTrue, IfOk, IfSome, OnOk, slice_get};
+ghost use Rattle.std.specs.Prelude.{ℕ, ◌≡◌, true, Some, IsTrue, IfOk, IfSome, OnOk, slice_get};
 ghost use Rattle.lab_sched.specs.Worlds.{Process as Seen, WorldState, step_effect_in};
 ghost use Rattle.lab_worlds.specs.Independent.{IsIndependent};
 ghost use Rattle.lab_states.specs.Rows.{Row};
 ghost use Rattle.lab_search.specs.Reduced.{HasAmpleStep, IsExpandedIn};
-ghost use Rattle.lab_search.specs.Stored.{IsExactly, IsState, IsAt, IsStore, HasEdge};
+ghost use Rattle.lab_search.specs.Stored.{IsExactly, IsState, IsAt, IsStore};
 ghost use Rattle.lab_search.specs.Private.Stored.{IsLater};
 
-use crate::rows::Change;
-use crate::store::{Next, Store};
+use crate::store::Store;
 use ipc_kernel::Call;
 use lab_states::place_of;
 use lab_worlds::{ExploreFault, Limits};
@@ -58,34 +57,6 @@ impl Store {
         None
     }
 
-    /// Tries process `pid` from the world of a row, and keeps the edge where it leads to a later row; with
-    /// whether it is kept now.
-    fn try_ample(&mut self, at: usize, pid: u32, limits: Limits) -> Result<bool, ExploreFault>
-        requires store { IsStore self.old }
-        ensures later { OnOk result (IsLater self.old self.new) }
-        ensures edge { IfOk result (λ kept. IsTrue kept → (w : WorldState)
-            → IsAt self.old at w → (x : HasEdge self.new at w pid) × (at < x.1.to)) }
-    {
-        let next = self.next(at, pid, limits.steps)?;
-        let Next::To { kernel, state, .. } = next else {
-            return Ok(false);
-        };
-        let change = Change {
-            at,
-            pid,
-            kernel,
-            state,
-        };
-        let Some(to) = self.keep_after(change, limits.worlds)? else {
-            return Ok(false);
-        };
-        if to <= at {
-            return Ok(false);
-        }
-        let kept = self.add_edge(at, pid, to)?;
-        Ok(kept)
-    }
-
     /// Tries a process alone from the world of a row of which the step depends on no other's, if there is
     /// one, and keeps the edge where it leads to a later row; with whether it is kept now.
     fn try_independent(&mut self, at: usize, limits: Limits) -> Result<bool, ExploreFault>
@@ -96,7 +67,7 @@ impl Store {
         let Some(pid) = self.independent_process(at) else {
             return Ok(false);
         };
-        let kept = self.try_ample(at, pid, limits)?;
+        let kept = self.try_process(at, pid, limits, true)?;
         Ok(kept)
     }
 
