@@ -1,5 +1,5 @@
 -- The first world of a search, and what the whole search holds.
-use Rattle.std.proofs.Common.{ℕ, suc, arith, ◌≡◌, ◌<◌, ◌≤◌, ◌+◌, ◌++◌, List, [], ◌∷◌, Option, Some, None, refl, sym, ap, subst, ◌∙◌, slice_get, length, map, take, get_or}
+use Rattle.std.proofs.Common.{ℕ, suc, arith, ◌≡◌, ◌<◌, ◌≤◌, ◌+◌, ◌++◌, List, [], ◌∷◌, Option, Some, None, refl, sym, ap, subst, ◌∙◌, slice_get, length, map, take, get_or, rules}
 use Rattle.std.proofs.lemmas.List.{map-append, take_more}
 use Rattle.std.specs.Option.{option_map}
 use Rattle.ipc_kernel.specs.Kernel.{KernelState}
@@ -39,33 +39,24 @@ initial_more t u is js ps n i k g h within read successor js-is =
 -- the states that the processes begin with
 chosen : (t : Store) (is : List ℕ) (ss : List Process) → AreInitialStates t is ss → (us : List Process) × Alongside (IsState t) is us × Alongside IsAhead ss us
 chosen t [] [] h = ([], λ p. tt, λ p. tt)
-chosen t [] (s ∷ ss) h = absurd (h 0)
-chosen t (i ∷ is) [] h = absurd (h 0)
 chosen t (i ∷ is) (s ∷ ss) h =
     let first : IsLocalSuccessor t i s = h 0 in
     let rest = chosen t is ss (λ p. h (suc p)) in
     (first.0 ∷ rest.0, alongside_cons (IsState t) i first.0 is rest.0 first.1 rest.1, alongside_cons IsAhead s first.0 ss rest.0 first.2 rest.2)
+chosen t _ _ h = absurd (h 0)
 
--- the world at its first calls, by its row
-pub begins : (t : Store) (r : Row) (k : KernelState) (ss : List Process) → IsKernel t r.kernel k → AreInitialStates t r.states ss
-    → (v : WorldState) × IsRow t r v × IsAdvance (record { processes = ss; kernel = k }) v
-begins t r k ss kernel initial =
-    let us = chosen t r.states ss initial in
-    (record { processes = us.0; kernel = kernel.0 }, record { kernel = kernel.1; settled = kernel.3; states = us.1 }, record { kernel = kernel.2; processes = us.2 })
-
--- the same by the parts of the row
+-- the world at its first calls, by the parts of its row
 pub begins_row : (t : Store) (r : Row) (kernel : ℕ) (states : List ℕ) (k : KernelState) (ss : List Process) → r.kernel ≡ kernel → r.states ≡ states → IsKernel t kernel k → AreInitialStates t states ss
     → (v : WorldState) × IsRow t r v × IsAdvance (record { processes = ss; kernel = k }) v
 begins_row t r kernel states k ss kernel-is states-is here initial =
-    begins t r k ss (subst (λ n. IsKernel t n k) (sym kernel-is) here) (subst (λ ns. AreInitialStates t ns ss) (sym states-is) initial)
+    let at = subst (λ n. IsKernel t n k) (sym kernel-is) here in
+    let us = chosen t r.states ss (subst (λ ns. AreInitialStates t ns ss) (sym states-is) initial) in
+    (record { processes = us.0; kernel = at.0 }, record { kernel = at.1; settled = at.3; states = us.1 }, record { kernel = at.2; processes = us.2 })
 
 same_state : (t : Store) (o : Option ℕ) (a b : Option Process) → Both (IsState t) o a → Both (IsState t) o b → a ≡ b
 same_state t None None None h k = refl
-same_state t None None (Some y) h k = absurd k
-same_state t None (Some x) b h k = absurd h
-same_state t (Some i) None b h k = absurd h
-same_state t (Some i) (Some x) None h k = absurd k
 same_state t (Some i) (Some x) (Some y) h k = ap (λ z. Some z) (same_some x y (option_map process_view (slice_get t.states.processes i)) h k)
+same_state t _ _ _ h k = search rules
 
 -- a row stands for one world
 pub row_unique : (t : Store) (r : Row) (w v : WorldState) → IsRow t r w → IsRow t r v → w ≡ v

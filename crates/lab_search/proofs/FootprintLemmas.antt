@@ -7,13 +7,12 @@ use Rattle.ipc_kernel.specs.Operands.{HasOperand, operand_in, with_operand}
 use Rattle.ipc_kernel.specs.declared.call.Call.{Call}
 use Rattle.ipc_kernel.specs.declared.place.Place.{Place}
 use Rattle.ipc_kernel.specs.declared.process.OpenTables.{OpenTables}
-use Rattle.ipc_store.proofs.Alikes.{alike_itself}
 use Rattle.lab_conditions.specs.Conditions.{StandsAt}
 use Rattle.lab_sched.specs.Worlds.{Process, Running, Waiting, Ended, calls, step_effect}
 use Rattle.lab_sched.specs.Verdicts.{HasEnded}
 use Rattle.lab_sched.specs.declared.process.Process.{Process as Kept}
 use Rattle.lab_worlds.specs.Unwaiting.{GoesOn}
-use Rattle.lab_sched.specs.Held.{process_view, step_of}
+use Rattle.lab_sched.specs.Held.{process_view}
 use Rattle.lab_search.specs.declared.known.Mover.{Mover}
 use Rattle.lab_search.specs.declared.store.Store.{Store}
 use Rattle.lab_search.specs.declared.store.Next.{Next}
@@ -77,20 +76,7 @@ footprint_effect_made t u k p s footprint e g settled state has made =
           (steps_by_operand k j p q s c footprint.place x o settled fixed stands has.works works has.operand at) made,
     )
 
--- what a process does next by the effect of its call
-pub next_by_effect : (t u : Store) (k : KernelState) (p : ℕ) (s : Process) (i kernel tables object state taken : ℕ) → Grows t u → IsSettled k → IsEffect t k p s i (To tables object state taken)
-    → ((o : Place) (x : OpenTables) → slice_get t.kernels.objects object ≡ Some o → slice_get t.kernels.tables tables ≡ Some x → IsExactly u kernel (with_operand k p i o x))
-    → IsNext u k p s (next.To kernel state taken)
-next_by_effect t u k p s i kernel tables object state taken g settled h there =
-    let at : IsExactly u kernel (step_of k p s).kernel = subst (λ j. IsExactly u kernel j) (sym h.5) (there h.1 h.0 h.3.1 h.3.0) in (
-      h.2,
-      ((step_of k p s).kernel, at, alike_itself (step_of k p s).kernel, steps_settled k p s settled),
-      state_grows t u state h.2 g h.4,
-      h.6,
-      h.7,
-    )
-
--- the same where the kernel that is kept is alike
+-- what a process does next by the effect of its call, where a kernel is kept that is alike the one after it
 pub next_by_alike : (t u : Store) (k : KernelState) (p : ℕ) (s : Process) (i kernel tables object state taken : ℕ) → Grows t u → IsSettled k → IsEffect t k p s i (To tables object state taken)
     → ((o : Place) (x : OpenTables) → slice_get t.kernels.objects object ≡ Some o → slice_get t.kernels.tables tables ≡ Some x → IsSettled (with_operand k p i o x)
     → (j : KernelState) × IsExactly u kernel j × IsAlike (with_operand k p i o x) j × IsSettled j)
@@ -150,9 +136,8 @@ move_goes_on t m n some h k s at settled here = next_goes_on t k m.pid s n some 
 
 -- a process that has ended does nothing, over whatever kernel
 ended_still : (k : KernelState) (p : ℕ) (s : Process) → HasEnded s → GoesOn (step_effect k p (Some s)) → ⊥
-ended_still k p (Running m) ended goes = absurd ended
-ended_still k p (Waiting m c) ended goes = absurd ended
 ended_still k p (Ended e) ended goes = goes
+ended_still k p _ ended goes = absurd ended
 
 pub move_of_ended : (t : Store) (m : Mover) → ((s : Kept) → slice_get t.states.processes m.state ≡ Some s → HasEnded (process_view s)) → IsMoveFrom t m next.Nothing
 move_of_ended t m ended k s at settled here =

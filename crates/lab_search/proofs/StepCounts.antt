@@ -1,6 +1,6 @@
 -- Sums of numbers, and how often a number stands in a list.
-use Rattle.std.proofs.Common.{ℕ, zero, suc, ◌+◌, ◌*◌, ◌<◌, ◌≤◌, ◌≡◌, ◌≢◌, ◌==◌, true, false, List, [], ◌∷◌, Some, refl, ap, inl, inr, ◌⊎◌, arith, length, slice_get, get_or, cond}
-use Rattle.std.proofs.lemmas.Bool.Decides.{eqb_tells}
+use Rattle.std.proofs.Common.{ℕ, zero, suc, ◌+◌, ◌*◌, ◌<◌, ◌≤◌, ◌≡◌, List, [], ◌∷◌, Some, refl, arith, length, slice_get, get_or}
+use Rattle.std.proofs.lemmas.Bool.Decides.{nat_tests}
 use Rattle.lab_sched.specs.Execution.{count}
 use Rattle.lab_search.proofs.StandingWorlds.{total}
 
@@ -18,24 +18,13 @@ total_most [] b h = omega arith
 total_most (x ∷ ks) b h = omega (arith, h 0 x refl, total_most ks b (λ q k e. h (suc q) k e))
 
 pub count_yes : (p q : ℕ) (ps : List ℕ) → q ≡ p → count p (q ∷ ps) ≡ count p ps + 1
-count_yes p q ps same = by (eqb_tells q p)
-  where
-    by : ((q == p ≡ true) × (q ≡ p)) ⊎ ((q == p ≡ false) × (q ≢ p)) → count p (q ∷ ps) ≡ count p ps + 1
-    by (inl one) = ap (λ b. cond b (count p ps + 1) (count p ps)) one.0
-    by (inr other) = absurd (other.1 same)
+count_yes p q ps same = grind (arith, nat_tests)
 
 pub count_no : (p q : ℕ) (ps : List ℕ) → (q ≡ p → ⊥) → count p (q ∷ ps) ≡ count p ps
-count_no p q ps other = by (eqb_tells q p)
-  where
-    by : ((q == p ≡ true) × (q ≡ p)) ⊎ ((q == p ≡ false) × (q ≢ p)) → count p (q ∷ ps) ≡ count p ps
-    by (inl one) = absurd (other one.1)
-    by (inr two) = ap (λ b. cond b (count p ps + 1) (count p ps)) two.0
+count_no p q ps other = grind (arith, nat_tests)
 
 pub count_first : (p q : ℕ) (ps : List ℕ) → count p (q ∷ ps) ≡ count p (q ∷ []) + count p ps
-count_first p q ps = elim (eqb_tells q p) [
-  | inl one ↦ let a = count_yes p q ps one.1 in let c = count_yes p q [] one.1 in omega (arith, a, c)
-  | inr other ↦ let a = count_no p q ps other.1 in let c = count_no p q [] other.1 in omega (arith, a, c)
-]
+count_first p q ps = grind (arith, nat_tests)
 
 -- a process that takes one of the steps is counted
 pub contained_counts : (ps : List ℕ) (p k : ℕ) → k < length ps → get_or ps k p ≡ p → 1 ≤ count p ps

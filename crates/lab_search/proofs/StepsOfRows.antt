@@ -10,6 +10,7 @@ use Rattle.lab_sched.specs.declared.process.Process.{Process as Kept}
 use Rattle.lab_sched.proofs.WorldLemmas.{after_effect}
 use Rattle.lab_states.specs.Rows.{Row}
 use Rattle.lab_search.specs.declared.known.Mover.{Mover}
+use Rattle.lab_search.specs.declared.making.KeptAttempt.{KeptAttempt}
 use Rattle.lab_search.specs.declared.rows.Change.{Change}
 use Rattle.lab_search.specs.declared.store.Store.{Store}
 use Rattle.lab_states.specs.declared.edges.Edge.{Edge}
@@ -19,11 +20,11 @@ use Rattle.lab_worlds.specs.Calls.{IsAtCall, IsAhead, Both, Alongside}
 use Rattle.lab_worlds.specs.Unwaiting.{GoesOn, NoneGoesOn}
 use Rattle.lab_worlds.specs.Stepped.{IsReady, IsReached, AreReached}
 use Rattle.lab_search.specs.Stored.{IsState, IsRow, IsAt, LeadsTo, IsStore, IsExactly, IsNext, IsMove, IsNextAt, HasEdge, HasEdgeIfEnabled, IsExpanded}
-use Rattle.lab_search.specs.Private.Stored.{Grows, IsMoveFrom, IsStep, changed}
+use Rattle.lab_search.specs.Private.Stored.{Grows, IsMoveFrom, IsStep, IsKeptStep, IsKeptAttempt, changed}
 use Rattle.lab_worlds.proofs.Pushes.{alongside_set, get_pushed, all_at}
 use Rattle.lab_worlds.proofs.AfterLocalSteps.{same_some}
 use Rattle.lab_search.proofs.FirstWorlds.{at_unique}
-use Rattle.lab_search.proofs.Growths.{state_kept, at_grows, row_grows}
+use Rattle.lab_search.proofs.Growths.{state_kept, state_grows, at_grows, row_grows}
 
 pub both_left : {A B : Type 0} (R : A → B → Type 0) (x : A) (o : Option B) → Both R (Some x) o → (y : B) × (o ≡ Some y) × R x y
 both_left R x None h = absurd h
@@ -186,3 +187,7 @@ edge_goes_on t w at is edge here none =
 -- one that makes none doesn't
 pub stays : (t : Store) (w : WorldState) (at p : ℕ) → IsAt t at w → IsNextAt t at p Nothing → GoesOn (step_effect_in w p) → ⊥
 stays t w at p here m goes = let n = m w here in n.2 (subst (λ o. GoesOn (step_effect w.kernel p o)) n.1 goes)
+
+-- the move that comes of an attempt
+pub move_of_attempt : (t u v : Store) (m : Mover) (a : KeptAttempt) (n : Next) → Grows t v → (h : IsKeptAttempt t u m a) → (IsKeptStep u h.0 m.pid h.1 a → IsNext v h.0 m.pid h.1 n) → IsMove v m n
+move_of_attempt t u v m a n g h made = (h.0, h.1, g.kernels.kernels m.kernel h.0 h.2, state_grows t v m.state h.1 g h.3, λ settled. made h.5)

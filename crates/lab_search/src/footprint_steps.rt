@@ -72,10 +72,11 @@ impl Store {
         if let Some(next) = self.next_by(mover, place, effect) {
             return Ok(Some(next));
         }
-        if let Effect::To { tables, object, .. } = effect {
-            self.kernels
-                .keep_with(mover.kernel, mover.pid as usize, place, object, tables)?;
-        }
+        let Effect::To { tables, object, .. } = effect else {
+            return Ok(None);
+        };
+        self.kernels
+            .keep_with(mover.kernel, mover.pid as usize, place, object, tables)?;
         Ok(self.next_by(mover, place, effect))
     }
 
@@ -149,23 +150,15 @@ impl Store {
         Some(next)
     }
 
-    /// Whether a process goes on, if it stands at a call that works on one object, whose step was made.
-    fn footprint_goes_on(&self, mover: Mover) -> Option<bool>
-        ensures yes { AreKnown self.now
-            → IfSome result (λ goes. IsTrue goes → IsMoveFrom self.now mover Limit) }
-    {
-        let footprint = self.footprint_at(mover)?;
-        let effect = self.moves.footprints.find(footprint)?;
-        Some(!effect.is_nothing())
-    }
-
     /// Whether a process goes on, if it is known.
     pub(crate) fn known_to_go_on(&self, mover: Mover) -> Option<bool>
         ensures yes { AreKnown self.now
             → IfSome result (λ goes. IsTrue goes → IsMoveFrom self.now mover Limit) }
     {
-        if let Some(goes) = self.footprint_goes_on(mover) {
-            return Some(goes);
+        if let Some(footprint) = self.footprint_at(mover) {
+            if let Some(effect) = self.moves.footprints.find(footprint) {
+                return Some(!effect.is_nothing());
+            }
         }
         let next = self.made_next(mover)?;
         Some(!next.is_nothing())

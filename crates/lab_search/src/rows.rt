@@ -127,9 +127,6 @@ impl Store {
             × (slice_get self.now.rows at ≡ Some r) × (n ≡ length r.states)) }
     {
         let (_, states) = self.rows.get(at)?;
-        match place_of(states.len()) {
-            Ok(count) => Some(count),
-            Err(_) => None,
-        }
+        place_of(states.len()).ok()
     }
 }

@@ -2,11 +2,10 @@
 ghost use Rattle.std.specs.Prelude.{◌≡◌, All, IsTrue, false, map, IfOk, IfSome, OnOk};
 ghost use Rattle.lab_sched.specs.Held.{process_view, IsHeld};
 ghost use Rattle.lab_worlds.specs.Closed.{HasAdvance};
-ghost use Rattle.lab_worlds.specs.Stepped.{IsReady};
 ghost use Rattle.lab_states.specs.Rows.{row_of};
 ghost use Rattle.lab_search.specs.Reduced.{AreExpandedIn, IsSearchedIn};
 ghost use Rattle.lab_search.specs.Private.Reduced.{StatesKeepNames};
-ghost use Rattle.lab_search.specs.Stored.{IsState, IsAt, IsStore};
+ghost use Rattle.lab_search.specs.Stored.{IsAt, IsStore};
 ghost use Rattle.lab_search.specs.Private.Stored.{IsLater, IsLocalSuccessor, AreInitialStates};
 
 use crate::moves::both;
@@ -43,28 +42,6 @@ pub struct Search {
 }
 
 impl Store {
-    /// Keeps the state of a process that stands at its call, if it does.
-    fn keep_ahead(&mut self, ahead: Ahead) -> Result<Option<LocalSuccessor>, ExploreFault>
-        requires store { IsStore self.old }
-        requires held { IsHeld ahead.process }
-        requires at_call { IsTrue ahead.at_call → IsReady ahead.process }
-        ensures later { OnOk result (IsLater self.old self.new) }
-        ensures kept { IfOk result (λ successor. IfSome successor (λ x.
-            IsTrue ahead.at_call × IsState self.new x.state (process_view ahead.process))) }
-    {
-        let Ahead {
-            process,
-            taken,
-            at_call,
-        } = ahead;
-        if !at_call {
-            discard(process);
-            return Ok(None);
-        }
-        let state = self.keep_state(process)?;
-        Ok(Some(LocalSuccessor { state, taken }))
-    }
-
     /// Keeps the state that a process comes to by all its local steps, if it may take so many.
     fn keep_first(
         &mut self,
@@ -77,9 +54,17 @@ impl Store {
         ensures successor { IfOk result (λ successor. IfSome successor (λ x.
             IsLocalSuccessor self.new x.state (process_view process.now))) }
     {
-        let process = process.copy(self.alloc)?;
-        let ahead = advance(self.alloc, process, most)?;
-        self.keep_ahead(ahead)
+        let Ahead {
+            process,
+            taken,
+            at_call,
+        } = advance(self.alloc, process.copy(self.alloc)?, most)?;
+        if !at_call {
+            discard(process);
+            return Ok(None);
+        }
+        let state = self.states.keep(self.alloc, process)?;
+        Ok(Some(LocalSuccessor { state, taken }))
     }
 
     /// Keeps the states that processes come to by all their local steps, if they may take so many.

@@ -11,7 +11,6 @@ ghost use Rattle.lab_search.specs.Private.Stored.{IsLater};
 use crate::known::Moves;
 use ipc_kernel::Kernel;
 use ipc_store::{Index, Kernels, arranged};
-use lab_sched::Process;
 use lab_states::{CollapsedState, Edges, Parents, Rows, States};
 use std::alloc::{AllocError, Global};
 
@@ -97,17 +96,6 @@ impl Store {
         self.kernels.forget(self.alloc);
         self.states.forget(self.alloc);
         self.row_index = Index::none(self.alloc);
-    }
-
-    /// Keeps the state of a process at a call; with its place.
-    pub(crate) fn keep_state(&mut self, process: Process) -> Result<u32, AllocError>
-        requires store { IsStore self.old }
-        requires ready { IsReady process }
-        ensures later { OnOk result (IsLater self.old self.new) }
-        ensures state { IfOk result (λ i. IsState self.new i (process_view process)) }
-    {
-        let place = self.states.keep(self.alloc, process)?;
-        Ok(place)
     }
 
     /// Keeps the state of a process at a call, which has written an output that is kept and its own

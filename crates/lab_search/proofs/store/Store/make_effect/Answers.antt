@@ -11,7 +11,7 @@ returns-in-Still-clause-footprint_effect c =
     let t = c.args.self.now in
     let u = c.try_move.new.self in
     let h = c.in_ok-try_move.ensures.attempt in
-    let still = subst (λ x. IsKeptStep u h.0 c.args.mover.pid h.1 x) c.in-Still.is h.5 in
+    let still = subst (IsKeptStep u h.0 c.args.mover.pid h.1) c.in-Still.is h.5 in
     footprint_effect_made t u h.0 c.args.mover.pid h.1 c.args.footprint effect.Nothing c.in_ok-try_move.ensures.later.grows h.4 h.3 (c.requires.operand h.0 h.2) still
 
 pub returns-in-Runs-clause-footprint_effect : goal.returns-in-Runs-clause-footprint_effect
@@ -19,7 +19,7 @@ returns-in-Runs-clause-footprint_effect c =
     let t = c.args.self.now in
     let u = c.try_move.new.self in
     let h = c.in_ok-try_move.ensures.attempt in
-    let runs = subst (λ x. IsKeptStep u h.0 c.args.mover.pid h.1 x) c.in-Runs.is h.5 in
+    let runs = subst (IsKeptStep u h.0 c.args.mover.pid h.1) c.in-Runs.is h.5 in
     footprint_effect_made t u h.0 c.args.mover.pid h.1 c.args.footprint effect.Limit c.in_ok-try_move.ensures.later.grows h.4 h.3 (c.requires.operand h.0 h.2) runs
 
 pub returns-in-Some-object_at-clause-later : goal.returns-in-Some-object_at-clause-later
