@@ -1,8 +1,8 @@
 -- Processes and worlds ahead of others: by all their local steps.
-use Rattle.std.proofs.Common.{ℕ, zero, suc, ◌+◌, ◌≡◌, List, [], ◌∷◌, Option, Some, None, refl, sym, ap, subst, ◌∙◌, slice_get}
+use Rattle.std.proofs.Common.{ℕ, zero, suc, ◌+◌, ◌≡◌, List, [], ◌∷◌, Option, Some, None, refl, sym, subst, slice_get, rules}
 use Rattle.lc3_machine.specs.Process.{Process as Machine}
 use Rattle.lc3_machine.proofs.Runs.{steps_append}
-use Rattle.lab_sched.specs.Worlds.{Process, Running, Waiting, Ended, moves, next_action}
+use Rattle.lab_sched.specs.Worlds.{Process, Running, moves, next_action}
 use Rattle.lab_sched.specs.LocalRun.{IsLocalStep, AreLocal}
 use Rattle.lab_sched.proofs.OwnSteps.{first_local}
 use Rattle.lab_worlds.specs.Calls.{IsAtCall, IsAhead, Both}
@@ -11,8 +11,7 @@ use Rattle.lab_worlds.specs.Calls.{IsAtCall, IsAhead, Both}
 pub none_local : (n : ℕ) (s u : Process) → IsAtCall s → AreLocal n s u → u ≡ s
 none_local zero s u at h = sym h
 none_local (suc n) (Running m) u at h = let asks = at.1 in let goes = h.1.1 in cc
-none_local (suc n) (Waiting m c) u at h = absurd h.1
-none_local (suc n) (Ended e) u at h = absurd h.1
+none_local (suc n) _ u at h = absurd h.1
 
 pub stays : (s u : Process) → IsAtCall s → IsAhead s u → u ≡ s
 stays s u at h = none_local h.taken s u at h.local
@@ -31,26 +30,21 @@ ahead_moves m q u e h = goes_on h.taken m q u e h.local h.at_call
 
 pub ahead_of_ahead : (a b c : Option Process) → Both IsAhead a b → Both IsAhead b c → Both IsAhead a c
 ahead_of_ahead None None None h i = tt
-ahead_of_ahead None None (Some z) h i = absurd i
-ahead_of_ahead None (Some y) c h i = absurd h
-ahead_of_ahead (Some x) None c h i = absurd h
-ahead_of_ahead (Some x) (Some y) None h i = absurd i
 ahead_of_ahead (Some x) (Some y) (Some z) h i = record {
   taken = h.taken + i.taken;
   local = steps_append IsLocalStep h.taken i.taken x y z h.local i.local;
   at_call = i.at_call;
 }
+ahead_of_ahead _ _ _ h i = search rules
 
 -- lists with the same elements at the same places
 pub same_by_gets : {A : Type 0} (xs ys : List A) → ((i : ℕ) → slice_get xs i ≡ slice_get ys i) → xs ≡ ys
 same_by_gets [] [] f = refl
-same_by_gets [] (y ∷ ys) f = let e = f 0 in absurd (cc)
-same_by_gets (x ∷ xs) [] f = let e = f 0 in absurd (cc)
-same_by_gets {A} (x ∷ xs) (y ∷ ys) f =
+same_by_gets (x ∷ xs) (y ∷ ys) f =
     let head : Some x ≡ Some y = f 0 in
-    let same : x ≡ y = cc in
     let tail = same_by_gets xs ys (λ i. f (suc i)) in
-    ap (λ z. z ∷ xs) same ∙ ap (λ zs. y ∷ zs) tail
+    cc
+same_by_gets _ _ f = let e = f 0 in absurd (cc)
 
 -- two values at one place
 pub same_some : {A : Type 0} (x y : A) (o : Option A) → o ≡ Some x → o ≡ Some y → x ≡ y

@@ -1,10 +1,9 @@
 -- Passes, fair lassos, and passes as many as one likes.
-use Rattle.std.proofs.Common.{ℕ, Bool, zero, suc, ◌≡◌, ◌<◌, ◌≤◌, ◌++◌, List, [], ◌∷◌, Option, Some, None, IfSome, true, false, sym, ap, subst, ◌∙◌, arith, length, slice_get, set, get_or, replicate, inl, inr, All}
+use Rattle.std.proofs.Common.{ℕ, Bool, zero, suc, ◌≡◌, ◌<◌, ◌≤◌, ◌++◌, List, [], ◌∷◌, Option, Some, None, IfSome, true, false, refl, sym, ap, subst, ◌∙◌, arith, length, slice_get, set, get_or, replicate, inl, inr, All}
 use Rattle.std.specs.Prelude.{Contains}
 use Rattle.std.proofs.Math.ListN.{get_or-append}
-use Rattle.std.proofs.lemmas.Bool.Decides.{eqb_tells}
-use Rattle.std.proofs.lemmas.List.{append_assoc, append-nil, length-append, length-replicate, length-set, get_or-replicate}
-use Rattle.std.proofs.lemmas.List.Elements.{Contains-push}
+use Rattle.std.proofs.lemmas.List.{append_assoc, append-nil, length-append, length-replicate, length-set}
+use Rattle.std.proofs.lemmas.List.Elements.{All-replicate, Contains-push}
 use Rattle.std.proofs.lemmas.Option.{slice_get-get_or}
 use Rattle.ipc_kernel.specs.Alike.{IsConsistent}
 use Rattle.lab_sched.specs.Worlds.{WorldState, nothing, step_effect_in, step, after, run, entries, IsEffective}
@@ -13,7 +12,7 @@ use Rattle.lab_sched.specs.Schedules.{steps_of}
 use Rattle.lab_sched.specs.declared.stepped.Stepped.TheVariants as stepped
 use Rattle.lab_sched.specs.Held.{asked_by, told_in}
 use Rattle.lab_sched.proofs.Runs.{told_nothing}
-use Rattle.lab_sched.proofs.ListPlaces.{get-set_other, get_past}
+use Rattle.lab_sched.proofs.ListPlaces.{get-set_other}
 use Rattle.lab_worlds.specs.declared.walking.Walk.{Walk}
 use Rattle.lab_worlds.specs.declared.segments.FairSegment.{FairSegment}
 use Rattle.lab_worlds.specs.declared.lassos.Lasso.{Lasso}
@@ -21,7 +20,7 @@ use Rattle.lab_worlds.specs.Calls.{AreAlike}
 use Rattle.lab_worlds.specs.Fairness.{IsFairTo, IsFairSegment, AreFairSegments, IsFairLasso, AreFairlyEndless}
 use Rattle.lab_worlds.specs.Walked.{IsWalk}
 use Rattle.lab_worlds.specs.Segments.{IsSegmentSoFar}
-use Rattle.lab_worlds.proofs.Pushes.{all_at}
+use Rattle.lab_worlds.proofs.Pushes.{all_at, at_or_other}
 use Rattle.lab_worlds.proofs.AlikeWorlds.{world_itself, world_then, world_back, same_effect, run_alike, effective_alike, consistent_run}
 
 -- a step that is told as none has no effect, and changes nothing
@@ -48,10 +47,7 @@ fair_to_more w ps qs p (inr pause) = inr (pause.0, pause.1 ++ qs, ap (λ xs. xs 
 -- one process more that is served
 fair_to_set : (w : WorldState) (ps : List ℕ) (fair_to : List Bool) (p : ℕ) → p < length fair_to → IsFairTo w ps p
     → ((q : ℕ) → slice_get fair_to q ≡ Some true → IsFairTo w ps q) → (q : ℕ) → slice_get (set fair_to p true) q ≡ Some true → IsFairTo w ps q
-fair_to_set w ps fair_to p within own others q e = elim (eqb_tells p q) [
-  | inl same ↦ subst (λ i. IsFairTo w ps i) same.1 own
-  | inr other ↦ others q (sym (get-set_other fair_to p q true other.1) ∙ e)
-]
+fair_to_set w ps fair_to p within own others q e = at_or_other (IsFairTo w ps) p q own (λ other. others q (sym (get-set_other fair_to p q true other) ∙ e))
 
 -- after a step
 pub taken_segment_so_far : (start : WorldState) (old new : FairSegment) (p : ℕ) → IsSegmentSoFar start old → IsWalk start new.walk → steps_of new.walk.schedule ≡ steps_of old.walk.schedule ++ p ∷ []
@@ -92,9 +88,7 @@ none_segment_so_far start p n walk fair_to count = record {
     none : (q : ℕ) → slice_get p.fair_to.items q ≡ Some true → ⊥
     none q e =
         let here : slice_get (replicate n false) q ≡ Some true = ap (λ bs. slice_get bs q) (sym fair_to) ∙ e in
-        let within : q < n = subst (λ l. q < l) (length-replicate n false) (get_past (replicate n false) q true here) in
-        let is : Some (get_or (replicate n false) q true) ≡ Some true = sym (slice_get-get_or (replicate n false) q true (get_past (replicate n false) q true here)) ∙ here in
-        let no : get_or (replicate n false) q true ≡ false = get_or-replicate n q false true within in
+        let no = all_at (λ b. b ≡ false) (replicate n false) q true (All-replicate (λ b. b ≡ false) n false refl) here in
         absurd (cc)
 
 -- a walk that has a step and serves each process is a fair segment

@@ -1,19 +1,15 @@
 -- Whatever steps are taken, the list has the advance of the world that they lead to, but for who waits.
 use Rattle.std.proofs.Common.{ℕ, ◌+◌, ◌≤◌, ◌≡◌, arith, length, List, [], ◌∷◌, Option, Some, None, refl, sym, ap, subst, ◌∙◌, slice_get, inl, inr, ◌⊎◌, Contains}
-use Rattle.std.proofs.lemmas.Bool.Decides.{eqb_tells}
 use Rattle.std.proofs.lemmas.List.{length-append}
 use Rattle.lc3_machine.specs.Process.{Process as Machine}
-use Rattle.ipc_kernel.specs.declared.call.Call.{Call}
-use Rattle.ipc_kernel.specs.declared.call.Answer.{Answer}
-use Rattle.ipc_kernel.specs.declared.call.Answer.TheVariants.{Done, Wait}
+use Rattle.ipc_kernel.specs.declared.call.Answer.TheVariants.{Wait}
 use Rattle.ipc_kernel.specs.Answer.{answer}
 use Rattle.ipc_kernel.specs.Alike.{IsConsistent}
 use Rattle.ipc_store.proofs.Alikes.{alike_then}
-use Rattle.lab_sched.specs.Worlds.{Process, Running, Waiting, Ended, WorldState, NextAction, moves, calls, next_action, StepEffect, nothing, local_step, kernel_step, step_effect, step_effect_in, process_after_answer, after, step, run, first_try, retry, IsEffective, entry_of, entries}
+use Rattle.lab_sched.specs.Worlds.{Process, Running, Waiting, Ended, WorldState, moves, next_action, StepEffect, nothing, local_step, kernel_step, step_effect, step_effect_in, process_after_answer, after, step, run, IsEffective, entry_of, entries}
 use Rattle.lab_sched.specs.Finished.{IsAtRest}
 use Rattle.lab_sched.specs.Stepping.{before_wait}
 use Rattle.lab_sched.proofs.ListPlaces.{get-set_same, get_past}
-use Rattle.lab_sched.proofs.Executions.{effect_local}
 use Rattle.lab_sched.proofs.Commutes.{after_other}
 use Rattle.lab_worlds.specs.Calls.{AreAlike, IsAtCall, IsAhead, Both, IsAdvance}
 use Rattle.lab_worlds.specs.Unwaiting.{GoesOn, NoneGoesOn, unwaiting, AsksAgain, AskAgain}
@@ -22,7 +18,8 @@ use Rattle.lab_worlds.proofs.AlikeWorlds.{effect_alike, kernel_alike, same_effec
 use Rattle.lab_worlds.proofs.AfterLocalSteps.{stays, ahead_moves, ahead_of_ahead, same_by_gets}
 use Rattle.lab_worlds.specs.Walked.{waiting}
 use Rattle.lab_worlds.proofs.FewestCalls.{calls_in, waiting_goes, waiting_still}
-use Rattle.lab_worlds.proofs.UnwaitingWorlds.{effect_at, tells, same_step, none_goes, unwaiting_at, still_unwaiting, goes_unwaiting, asks_on}
+use Rattle.lab_worlds.proofs.UnwaitingWorlds.{tells, same_step, none_goes, unwaiting_at, still_unwaiting, goes_unwaiting, asks_on, StepOf, step_of, still, by_itself, by_call, by_answer}
+use Rattle.lab_worlds.proofs.Pushes.{at_or_other}
 
 -- a step of the same kind leaves a process in the same state, whatever the rest of the world
 pub same_after : (w v : WorldState) (p : ℕ) (s : Process) (t : StepEffect) → slice_get w.processes p ≡ Some s → slice_get v.processes p ≡ Some s
@@ -36,14 +33,12 @@ pub both_step : (w v u : WorldState) (p : ℕ) (s : Process) (t : StepEffect) �
     → IsConsistent w.kernel → IsAdvance w v → IsAdvance (after v p t) u → IsAdvance (after w p t) u
 both_step w v u p s t a b c h i = record {
   kernel = alike_then (after w p t).kernel (after v p t).kernel u.kernel (kernel_alike w v p t c h.kernel) i.kernel;
-  processes = λ j. elim (eqb_tells p j) [
-    | inl same ↦ subst (λ n. Both IsAhead (slice_get (after w p t).processes n) (slice_get u.processes n)) same.1
-        (subst (λ o. Both IsAhead o (slice_get u.processes p)) (sym (same_after w v p s t a b)) (i.processes p))
-    | inr other ↦
-        let first = subst (λ o. Both IsAhead o (slice_get v.processes j)) (sym (after_other w j p t other.1)) (h.processes j) in
-        let then = subst (λ o. Both IsAhead o (slice_get u.processes j)) (after_other v j p t other.1) (i.processes j) in
-        ahead_of_ahead (slice_get (after w p t).processes j) (slice_get v.processes j) (slice_get u.processes j) first then
-  ];
+  processes = λ j. at_or_other (λ n. Both IsAhead (slice_get (after w p t).processes n) (slice_get u.processes n)) p j
+      (subst (λ o. Both IsAhead o (slice_get u.processes p)) (sym (same_after w v p s t a b)) (i.processes p))
+      (λ other.
+      let first = subst (λ o. Both IsAhead o (slice_get v.processes j)) (sym (after_other w j p t other)) (h.processes j) in
+      let then = subst (λ o. Both IsAhead o (slice_get u.processes j)) (after_other v j p t other) (i.processes j) in
+      ahead_of_ahead (slice_get (after w p t).processes j) (slice_get v.processes j) (slice_get u.processes j) first then);
 }
 
 -- a local step of a process keeps the advance
@@ -51,10 +46,8 @@ pub local_keeps : (w v : WorldState) (p : ℕ) (m q : Machine) (u : Process) →
     → next_action m ≡ moves q → IsAdvance w v → IsAhead (Running m) u → IsAdvance (after w p (local_step q)) v
 local_keeps w v p m q u a b e h i = record {
   kernel = h.kernel;
-  processes = λ j. elim (eqb_tells p j) [
-    | inl same ↦ subst (λ n. Both IsAhead (slice_get (after w p (local_step q)).processes n) (slice_get v.processes n)) same.1 here
-    | inr other ↦ subst (λ o. Both IsAhead o (slice_get v.processes j)) (sym (after_other w j p (local_step q) other.1)) (h.processes j)
-  ];
+  processes = λ j. at_or_other (λ n. Both IsAhead (slice_get (after w p (local_step q)).processes n) (slice_get v.processes n)) p j here
+      (λ other. subst (λ o. Both IsAhead o (slice_get v.processes j)) (sym (after_other w j p (local_step q) other)) (h.processes j));
 }
   where
     now : slice_get (after w p (local_step q)).processes p ≡ Some (Running q)
@@ -66,8 +59,7 @@ local_keeps w v p m q u a b e h i = record {
 -- a step that isn't effective changes nothing
 pub idle : (t : StepEffect) → (t ≡ nothing) ⊎ IsEffective t
 idle nothing = inl refl
-idle (local_step n) = inr tt
-idle (kernel_step m c r) = inr tt
+idle _ = inr tt
 
 -- levels of worlds: level 0 has the advance of the start, and level n + 1 that of each step by which a
 -- process goes on from a world of level n
@@ -87,33 +79,29 @@ StaysOrSteps w v p =
     ⊎ ((calls_in p (step_effect_in w p) ≡ 1) × (step_effect_in v p ≡ step_effect_in w p) × ((u : WorldState) → IsAdvance (step v p) u → IsAdvance (step w p) u))
 
 pub stays_or_steps : (w v : WorldState) (p : ℕ) → IsConsistent w.kernel → IsAdvance w v → GoesOn (step_effect_in w p) → StaysOrSteps w v p
-stays_or_steps w v p consistent h goes = by (slice_get w.processes p) (slice_get v.processes p) refl refl (h.processes p)
+stays_or_steps w v p consistent h goes = by (step_of w p)
   where
-    at_call : (s : Process) → slice_get w.processes p ≡ Some s → slice_get v.processes p ≡ Some s → calls_in p (step_effect_in w p) ≡ 1 → StaysOrSteps w v p
-    at_call s a b one =
+    ahead : (s : Process) (o : Option Process) → slice_get v.processes p ≡ o → Both IsAhead (Some s) o → (u : Process) × (slice_get v.processes p ≡ Some u) × IsAhead s u
+    ahead s None e i = absurd i
+    ahead s (Some u) e i = (u, e, i)
+
+    there : (s : Process) → slice_get w.processes p ≡ Some s → (u : Process) × (slice_get v.processes p ≡ Some u) × IsAhead s u
+    there s a = ahead s (slice_get v.processes p) refl (subst (λ o. Both IsAhead o (slice_get v.processes p)) a (h.processes p))
+
+    at_call : (s : Process) → slice_get w.processes p ≡ Some s → IsAtCall s → calls_in p (step_effect_in w p) ≡ 1 → StaysOrSteps w v p
+    at_call s a at one =
+        let u = there s a in
+        let b : slice_get v.processes p ≡ Some s = u.1 ∙ ap (λ x. Some x) (stays s u.0 at u.2) in
         let same = same_in_advance w v p s consistent h a b in
-        inr (one, same, λ u next. both_step w v u p s (step_effect_in w p) a b consistent h (subst (λ t. IsAdvance (after v p t) u) same next))
+        inr (one, same, λ x next. both_step w v x p s (step_effect_in w p) a b consistent h (subst (λ t. IsAdvance (after v p t) x) same next))
 
-    running : (m : Machine) (u : Process) (a : NextAction) → next_action m ≡ a → slice_get w.processes p ≡ Some (Running m) → slice_get v.processes p ≡ Some u → IsAhead (Running m) u → StaysOrSteps w v p
-    running m u (moves q) e a b i =
-        let is : step_effect_in w p ≡ local_step q = effect_local w p m q a e in
-        let here : step w p ≡ after w p (local_step q) = ap (λ t. after w p t) is in
-        inl (q, is, subst (λ x. IsAdvance x v) (sym here) (local_keeps w v p m q u a b e h i))
-    running m u (calls c) e a b i =
-        at_call (Running m) a (b ∙ ap (λ x. Some x) (stays (Running m) u (c, e) i)) (ap (calls_in p) (effect_at w p (Some (Running m)) a ∙ ap (first_try w.kernel p m) e))
-
-    again : (m : Machine) (c : Call) (x : Answer) → GoesOn (retry m c x) → calls_in p (retry m c x) ≡ 1
-    again m c Wait h = absurd h
-    again m c (Done r) h = refl
-
-    by : (a b : Option Process) → slice_get w.processes p ≡ a → slice_get v.processes p ≡ b → Both IsAhead a b → StaysOrSteps w v p
-    by None b a c i = absurd (subst GoesOn (effect_at w p None a) goes)
-    by (Some s) None a b i = absurd i
-    by (Some (Running m)) (Some u) a b i = running m u (next_action m) refl a b i
-    by (Some (Waiting m c)) (Some u) a b i =
-        let is = effect_at w p (Some (Waiting m c)) a in
-        at_call (Waiting m c) a (b ∙ ap (λ x. Some x) (stays (Waiting m c) u tt i)) (ap (calls_in p) is ∙ again m c (answer w.kernel p c).0 (subst GoesOn is goes))
-    by (Some (Ended e)) b a c i = absurd (subst GoesOn (effect_at w p (Some (Ended e)) a) goes)
+    by : StepOf w p → StaysOrSteps w v p
+    by (still e) = absurd (subst GoesOn e goes)
+    by (by_itself m q a acts e) =
+        let u = there (Running m) a in
+        inl (q, e, subst (λ t. IsAdvance (after w p t) v) (sym e) (local_keeps w v p m q u.0 a u.1 acts h u.2))
+    by (by_call m c r a asks is e) = at_call (Running m) a (c, asks) (ap (calls_in p) e)
+    by (by_answer m c r a is e) = at_call (Waiting m c) a tt (ap (calls_in p) e)
 
 -- a step that goes on, from a world whose advance a level has
 goes_advance : (start : WorldState) (V : ℕ → WorldState → Type 0) → AreLevels start V → (n : ℕ) (w : WorldState) (p : ℕ) → IsConsistent w.kernel → GoesOn (step_effect_in w p) → HasAdvance (V n) w
@@ -169,16 +157,13 @@ asks_run (p ∷ ps) w asks = asks_run ps (step w p) (asks_on w p asks)
 
 -- no process of a world at rest goes on
 pub rests_on : (w : WorldState) (p : ℕ) → AreAtRest w → GoesOn (step_effect_in w p) → ⊥
-rests_on w p rest h = by (slice_get w.processes p) refl
+rests_on w p rest h = by (step_of w p)
   where
-    waits : (m : Machine) (c : Call) (a : Answer) → a ≡ Wait → GoesOn (retry m c a) → ⊥
-    waits m c a e g = subst GoesOn (ap (retry m c) e) g
-
-    by : (o : Option Process) → slice_get w.processes p ≡ o → ⊥
-    by None a = subst GoesOn (ap (λ o. step_effect w.kernel p o) a) h
-    by (Some (Running m)) a = rest p (Running m) a
-    by (Some (Waiting m c)) a = waits m c (answer w.kernel p c).0 (rest p (Waiting m c) a) (subst GoesOn (ap (λ o. step_effect w.kernel p o) a) h)
-    by (Some (Ended e)) a = subst GoesOn (ap (λ o. step_effect w.kernel p o) a) h
+    by : StepOf w p → ⊥
+    by (still e) = subst GoesOn e h
+    by (by_itself m q at asks e) = rest p (Running m) at
+    by (by_call m c a at asks is e) = rest p (Running m) at
+    by (by_answer m c r at is e) = let waits : (answer w.kernel p c).0 ≡ Wait = rest p (Waiting m c) at in absurd (cc)
 
 -- a process at rest is at a call, also if it hasn't begun to wait
 rest_at_call : (w : WorldState) (p : ℕ) (s : Process) → IsAtRest w.kernel p s → AsksAgain s → IsAtCall (before_wait s)

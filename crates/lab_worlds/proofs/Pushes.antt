@@ -27,21 +27,19 @@ within_more P xs i x h is here = AllWithin-more P xs 0 i h (λ d. subst P (sym (
 
 pub both_weaker : {A B : Type 0} (R Q : A → B → Type 0) → ((x : A) (y : B) → R x y → Q x y) → (a : Option A) (b : Option B) → Both R a b → Both Q a b
 both_weaker R Q w None None h = tt
-both_weaker R Q w None (Some y) h = absurd h
-both_weaker R Q w (Some x) None h = absurd h
 both_weaker R Q w (Some x) (Some y) h = w x y h
+both_weaker R Q w _ _ h = absurd h
+
+-- what holds at a place, and at another, holds at each
+pub at_or_other : (P : ℕ → Type 0) (p j : ℕ) → P p → ((p ≡ j → ⊥) → P j) → P j
+at_or_other P p j here there = elim (eqb_tells p j) [ inl same ↦ subst P same.1 here | inr other ↦ there other.1 ]
 
 pub alongside_set : {A B : Type 0} (R : A → B → Type 0) (xs : List A) (ys : List B) (p : ℕ) (a x : A) (b y : B) → slice_get xs p ≡ Some a → slice_get ys p ≡ Some b
     → Alongside R xs ys → R x y → Alongside R (set xs p x) (set ys p y)
-alongside_set R xs ys p a x b y ea eb h r j = elim (eqb_tells p j) [
-  | inl same ↦
-      subst (λ n. Both R (slice_get (set xs p x) n) (slice_get (set ys p y) n)) same.1
-      (subst (λ o. Both R o (slice_get (set ys p y) p)) (sym (get-set_same xs p x (get_past xs p a ea)))
-      (subst (λ o. Both R (Some x) o) (sym (get-set_same ys p y (get_past ys p b eb))) r))
-  | inr other ↦
-      subst (λ o. Both R o (slice_get (set ys p y) j)) (sym (get-set_other xs p j x other.1))
-      (subst (λ o. Both R (slice_get xs j) o) (sym (get-set_other ys p j y other.1)) (h j))
-]
+alongside_set R xs ys p a x b y ea eb h r j = at_or_other (λ n. Both R (slice_get (set xs p x) n) (slice_get (set ys p y) n)) p j
+    (subst (λ o. Both R o (slice_get (set ys p y) p)) (sym (get-set_same xs p x (get_past xs p a ea)))
+    (subst (λ o. Both R (Some x) o) (sym (get-set_same ys p y (get_past ys p b eb))) r))
+    (λ other. subst (λ o. Both R o (slice_get (set ys p y) j)) (sym (get-set_other xs p j x other)) (subst (λ o. Both R (slice_get xs j) o) (sym (get-set_other ys p j y other)) (h j)))
 
 -- an element that was read
 pub got : {A : Type 0} (xs ys : List A) (i : ℕ) (x : A) → xs ≡ ys → i < length xs → x ≡ get_or xs i x → slice_get ys i ≡ Some x
@@ -54,7 +52,6 @@ alongside_cons R x y xs ys h r (suc p) = r p
 pub alongside_push : {A B : Type 0} (R : A → B → Type 0) (xs : List A) (ys : List B) (x : A) (y : B) → Alongside R xs ys → R x y → Alongside R (xs ++ x ∷ []) (ys ++ y ∷ [])
 alongside_push R [] [] x y h r zero = r
 alongside_push R [] [] x y h r (suc p) = tt
-alongside_push R [] (b ∷ ys) x y h r p = absurd (h 0)
-alongside_push R (a ∷ xs) [] x y h r p = absurd (h 0)
 alongside_push R (a ∷ xs) (b ∷ ys) x y h r zero = h 0
 alongside_push R (a ∷ xs) (b ∷ ys) x y h r (suc p) = alongside_push R xs ys x y (λ q. h (suc q)) r p
+alongside_push R _ _ x y h r p = absurd (h 0)

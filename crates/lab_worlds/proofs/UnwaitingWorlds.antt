@@ -2,11 +2,10 @@
 use Rattle.std.proofs.Common.{ℕ, ◌≡◌, ◌<◌, ◌≤◌, arith, length, ◌∷◌, [], List, Option, Some, None, refl, sym, ap, subst, ◌∙◌, slice_get, set, map, inl, inr, ◌⊎◌}
 use Rattle.std.specs.Option.{option_map}
 use Rattle.std.proofs.lemmas.Bool.{cases_lt}
-use Rattle.std.proofs.lemmas.Bool.Decides.{eqb_tells}
 use Rattle.std.proofs.lemmas.List.{map-set}
 use Rattle.std.proofs.lemmas.Option.{slice_get-map, slice_get_past}
 use Rattle.lc3_machine.specs.Process.{Process as Machine}
-use Rattle.ipc_traps.specs.Asked.{Request, Local, Refuses, Calls, Ends, next_request}
+use Rattle.ipc_traps.specs.Asked.{Request, Local, next_request}
 use Rattle.ipc_kernel.specs.declared.call.Call.{Call}
 use Rattle.ipc_kernel.specs.declared.call.Answer.{Answer}
 use Rattle.ipc_kernel.specs.declared.call.Answer.TheVariants.{Done, Wait}
@@ -22,7 +21,8 @@ use Rattle.lab_worlds.specs.Unwaiting.{GoesOn, unwaiting, AsksAgain, AskAgain, S
 use Rattle.lab_worlds.specs.Closed.{RestsAlike}
 use Rattle.lab_sched.specs.Finished.{IsAtRest}
 use Rattle.lab_sched.specs.Verdicts.{IsRunning}
-use Rattle.lab_worlds.proofs.AfterLocalSteps.{same_by_gets}
+use Rattle.lab_worlds.proofs.AfterLocalSteps.{same_by_gets, same_some}
+use Rattle.lab_worlds.proofs.Pushes.{at_or_other}
 
 -- a step goes on, or it doesn't
 pub tells : (t : StepEffect) → GoesOn t ⊎ (GoesOn t → ⊥)
@@ -95,30 +95,38 @@ begun w p m c a waits =
     map-set before_wait w.processes p (Waiting m c) ∙ set_same (map before_wait w.processes) p (Running m) (unwaiting_at w p (Some (Running m)) a) in
     ap {B = WorldState} (λ xs. record { processes = xs; kernel = (answer w.kernel p c).1 }) ps ∙ ap {B = WorldState} (λ k. record { processes = map before_wait w.processes; kernel = k }) (answer_wait w.kernel p c waits)
 
-pub still_unwaiting : (w : WorldState) (p : ℕ) → (GoesOn (step_effect_in w p) → ⊥) → unwaiting (step w p) ≡ unwaiting w
-still_unwaiting w p h = by (slice_get w.processes p) refl
+-- how a process steps: not at all, by itself, by trying its call, or by the answer for which it waits
+pub data StepOf (w : WorldState) (p : ℕ) : Type 0 where
+  still : step_effect_in w p ≡ nothing → StepOf w p
+  by_itself : (m q : Machine) → slice_get w.processes p ≡ Some (Running m) → next_action m ≡ moves q → step_effect_in w p ≡ local_step q → StepOf w p
+  by_call : (m : Machine) (c : Call) (a : Answer) → slice_get w.processes p ≡ Some (Running m) → next_action m ≡ calls c → (answer w.kernel p c).0 ≡ a → step_effect_in w p ≡ kernel_step m c a → StepOf w p
+  by_answer : (m : Machine) (c : Call) (r : Reply) → slice_get w.processes p ≡ Some (Waiting m c) → (answer w.kernel p c).0 ≡ Done r → step_effect_in w p ≡ kernel_step m c (Done r) → StepOf w p
+
+pub step_of : (w : WorldState) (p : ℕ) → StepOf w p
+step_of w p = by (slice_get w.processes p) refl
   where
-    -- a step with this effect
-    from : (t : StepEffect) → step_effect_in w p ≡ t → unwaiting (after w p t) ≡ unwaiting w → unwaiting (step w p) ≡ unwaiting w
-    from t e same = ap (λ x. unwaiting (after w p x)) e ∙ same
+    running : (m : Machine) (a : NextAction) → next_action m ≡ a → slice_get w.processes p ≡ Some (Running m) → StepOf w p
+    running m (moves q) e at = by_itself m q at e (effect_at w p (Some (Running m)) at ∙ ap (first_try w.kernel p m) e)
+    running m (calls c) e at = by_call m c (answer w.kernel p c).0 at e refl (effect_at w p (Some (Running m)) at ∙ ap (first_try w.kernel p m) e)
 
-    attempt : (m : Machine) (c : Call) (a : Answer) → slice_get w.processes p ≡ Some (Running m) → (answer w.kernel p c).0 ≡ a → step_effect_in w p ≡ kernel_step m c a → unwaiting (step w p) ≡ unwaiting w
-    attempt m c Wait at is e = from (kernel_step m c Wait) e (begun w p m c at is)
-    attempt m c (Done r) at is e = absurd (h (subst GoesOn (sym e) tt))
+    waiting : (m : Machine) (c : Call) (a : Answer) → slice_get w.processes p ≡ Some (Waiting m c) → (answer w.kernel p c).0 ≡ a → step_effect_in w p ≡ retry m c a → StepOf w p
+    waiting m c Wait at is e = still e
+    waiting m c (Done r) at is e = by_answer m c r at is e
 
-    again : (m : Machine) (c : Call) (a : Answer) → step_effect_in w p ≡ retry m c a → unwaiting (step w p) ≡ unwaiting w
-    again m c Wait e = from nothing e refl
-    again m c (Done r) e = absurd (h (subst GoesOn (sym e) tt))
+    by : (o : Option Process) → slice_get w.processes p ≡ o → StepOf w p
+    by (Some (Running m)) at = running m (next_action m) refl at
+    by (Some (Waiting m c)) at = waiting m c (answer w.kernel p c).0 at refl (effect_at w p (Some (Waiting m c)) at)
+    by o at = still (effect_at w p o at)
 
-    running : (m : Machine) (a : NextAction) → next_action m ≡ a → slice_get w.processes p ≡ Some (Running m) → unwaiting (step w p) ≡ unwaiting w
-    running m (moves q) e at = absurd (h (subst GoesOn (sym (effect_at w p (Some (Running m)) at ∙ ap (first_try w.kernel p m) e)) tt))
-    running m (calls c) e at = attempt m c (answer w.kernel p c).0 at refl (effect_at w p (Some (Running m)) at ∙ ap (first_try w.kernel p m) e)
-
-    by : (o : Option Process) → slice_get w.processes p ≡ o → unwaiting (step w p) ≡ unwaiting w
-    by None a = from nothing (effect_at w p None a) refl
-    by (Some (Running m)) a = running m (next_action m) refl a
-    by (Some (Waiting m c)) a = again m c (answer w.kernel p c).0 (effect_at w p (Some (Waiting m c)) a)
-    by (Some (Ended e)) a = from nothing (effect_at w p (Some (Ended e)) a) refl
+pub still_unwaiting : (w : WorldState) (p : ℕ) → (GoesOn (step_effect_in w p) → ⊥) → unwaiting (step w p) ≡ unwaiting w
+still_unwaiting w p h = by (step_of w p)
+  where
+    by : StepOf w p → unwaiting (step w p) ≡ unwaiting w
+    by (still e) = ap (λ t. unwaiting (after w p t)) e
+    by (by_itself m q at asks e) = absurd (h (subst GoesOn (sym e) tt))
+    by (by_call m c Wait at asks is e) = ap (λ t. unwaiting (after w p t)) e ∙ begun w p m c at is
+    by (by_call m c (Done r) at asks is e) = absurd (h (subst GoesOn (sym e) tt))
+    by (by_answer m c r at is e) = absurd (h (subst GoesOn (sym e) tt))
 
 -- a process that has its reply doesn't wait
 replied_back : (m : Machine) (c : Call) (r : Reply) → before_wait (process_after_answer m c (Done r)) ≡ process_after_answer m c (Done r)
@@ -127,18 +135,15 @@ replied_back m c r = by (next_request m)
   where
     by : (q : Request) → before_wait (process_after_reply_to m q r) ≡ process_after_reply_to m q r
     by (Local n) = refl
-    by (Refuses e) = refl
-    by (Calls d) = refl
-    by (Ends how) = refl
+    by _ = refl
 
 -- a step that goes on
 pub moved_unwaiting : (w : WorldState) (p : ℕ) (t : StepEffect) → GoesOn t → unwaiting (after w p t) ≡ after (unwaiting w) p t
-moved_unwaiting w p nothing h = absurd h
 moved_unwaiting w p (local_step n) h = ap {B = WorldState} (λ ps. record { processes = ps; kernel = w.kernel }) (map-set before_wait w.processes p (Running n))
-moved_unwaiting w p (kernel_step m c Wait) h = absurd h
 moved_unwaiting w p (kernel_step m c (Done r)) h =
     ap {B = WorldState} (λ ps. record { processes = ps; kernel = (answer w.kernel p c).1 })
     (map-set before_wait w.processes p (process_after_answer m c (Done r)) ∙ ap (λ x. set (map before_wait w.processes) p x) (replied_back m c r))
+moved_unwaiting w p _ h = absurd h
 
 -- a step that goes on, where none has begun to wait
 pub goes_unwaiting : (w : WorldState) (p : ℕ) → AskAgain w → GoesOn (step_effect_in w p) → unwaiting (step w p) ≡ step (unwaiting w) p
@@ -161,42 +166,24 @@ answered_asks m c (Done r) e = by (next_request m)
   where
     by : (q : Request) → AsksAgain (process_after_reply_to m q r)
     by (Local n) = tt
-    by (Refuses e) = tt
-    by (Calls d) = tt
-    by (Ends how) = tt
+    by _ = tt
 
 pub asks_on : (w : WorldState) (p : ℕ) → AskAgain w → AskAgain (step w p)
-asks_on w p asks = by (slice_get w.processes p) refl
+asks_on w p asks = by (step_of w p)
   where
-    kept : step_effect_in w p ≡ nothing → AskAgain (step w p)
-    kept e = subst (λ t. AskAgain (after w p t)) (sym e) asks
-
     -- p becomes one that asks for what it waits for
     made : (s u : Process) (t : StepEffect) → slice_get w.processes p ≡ Some s → step_effect_in w p ≡ t → slice_get (after w p t).processes p ≡ Some u → AsksAgain u → AskAgain (step w p)
-    made s u t a e there good = subst (λ x. AskAgain (after w p x)) (sym e) (λ i x at. elim (eqb_tells p i) [
-      | inl same ↦
-          let h : Some u ≡ Some x = sym there ∙ ap (λ n. slice_get (after w p t).processes n) same.1 ∙ at in
-          let is : u ≡ x = cc in
-          subst AsksAgain is good
-      | inr other ↦ asks i x (sym (after_other w i p t other.1) ∙ at)
-    ])
+    made s u t a e there good = subst (λ x. AskAgain (after w p x)) (sym e) (λ i. at_or_other (λ n. (x : Process) → slice_get (after w p t).processes n ≡ Some x → AsksAgain x) p i
+        (λ x at. subst AsksAgain (same_some u x (slice_get (after w p t).processes p) there at) good) (λ other x at. asks i x (sym (after_other w i p t other) ∙ at)))
 
     answered : (s : Process) (m : Machine) (c : Call) (a : Answer) → slice_get w.processes p ≡ Some s → step_effect_in w p ≡ kernel_step m c a → next_action m ≡ calls c → AskAgain (step w p)
     answered s m c a at e is = made s (process_after_answer m c a) (kernel_step m c a) at e (get-set_same w.processes p (process_after_answer m c a) (get_past w.processes p s at)) (answered_asks m c a is)
 
-    running : (m : Machine) (a : NextAction) → next_action m ≡ a → slice_get w.processes p ≡ Some (Running m) → AskAgain (step w p)
-    running m (moves q) e at = made (Running m) (Running q) (local_step q) at (effect_at w p (Some (Running m)) at ∙ ap (first_try w.kernel p m) e) (get-set_same w.processes p (Running q) (get_past w.processes p (Running m) at)) tt
-    running m (calls c) e at = answered (Running m) m c (answer w.kernel p c).0 at (effect_at w p (Some (Running m)) at ∙ ap (first_try w.kernel p m) e) e
-
-    again : (m : Machine) (c : Call) (a : Answer) → slice_get w.processes p ≡ Some (Waiting m c) → step_effect_in w p ≡ retry m c a → AskAgain (step w p)
-    again m c Wait at e = kept e
-    again m c (Done r) at e = answered (Waiting m c) m c (Done r) at e (asks p (Waiting m c) at)
-
-    by : (o : Option Process) → slice_get w.processes p ≡ o → AskAgain (step w p)
-    by None a = kept (effect_at w p None a)
-    by (Some (Running m)) a = running m (next_action m) refl a
-    by (Some (Waiting m c)) a = again m c (answer w.kernel p c).0 a (effect_at w p (Some (Waiting m c)) a)
-    by (Some (Ended e)) a = kept (effect_at w p (Some (Ended e)) a)
+    by : StepOf w p → AskAgain (step w p)
+    by (still e) = subst (λ t. AskAgain (after w p t)) (sym e) asks
+    by (by_itself m q at is e) = made (Running m) (Running q) (local_step q) at e (get-set_same w.processes p (Running q) (get_past w.processes p (Running m) at)) tt
+    by (by_call m c a at is done e) = answered (Running m) m c a at e is
+    by (by_answer m c r at done e) = answered (Waiting m c) m c (Done r) at e (asks p (Waiting m c) at)
 
 pub unwaiting_step : StepsUnaffectedByWaits
 unwaiting_step w p asks = record {
@@ -210,16 +197,8 @@ unwaiting_step w p asks = record {
 -- processes at rest that are the same before they began to wait are the same
 one_rest : (k j : KernelState) (p : ℕ) (s u : Process) → AsksAgain s → AsksAgain u → IsAtRest k p s → IsAtRest j p u → before_wait u ≡ before_wait s → u ≡ s
 one_rest k j p (Running m) u a b h i e = absurd h
-one_rest k j p (Waiting m c) (Running n) a b h i e = absurd i
-one_rest k j p (Waiting m c) (Waiting n d) a b h i e =
-    let same : n ≡ m = cc in
-    let acts : calls d ≡ calls c = sym b ∙ ap next_action same ∙ a in
-    let call : d ≡ c = cc in
-    ap (λ x. Waiting x d) same ∙ ap (Waiting m) call
-one_rest k j p (Waiting m c) (Ended f) a b h i e = absurd (cc)
-one_rest k j p (Ended d) (Running n) a b h i e = absurd i
-one_rest k j p (Ended d) (Waiting n c) a b h i e = absurd (cc)
-one_rest k j p (Ended d) (Ended f) a b h i e = e
+one_rest k j p s (Running n) a b h i e = absurd i
+one_rest k j p s u a b h i e = cc
 
 pub rests_alike : RestsAlike
 rests_alike w v a b h i same = record {
@@ -232,12 +211,11 @@ rests_alike w v a b h i same = record {
 
     by : (p : ℕ) (x y : Option Process) → slice_get w.processes p ≡ x → slice_get v.processes p ≡ y → slice_get v.processes p ≡ slice_get w.processes p
     by p None None c d = d ∙ sym c
-    by p None (Some u) c d = let e : Some (before_wait u) ≡ None = both p None (Some u) c d in absurd (cc)
-    by p (Some s) None c d = let e : None ≡ Some (before_wait s) = both p (Some s) None c d in absurd (cc)
     by p (Some s) (Some u) c d =
         let e : Some (before_wait u) ≡ Some (before_wait s) = both p (Some s) (Some u) c d in
         let back : before_wait u ≡ before_wait s = cc in
         d ∙ ap (λ x. Some x) (one_rest w.kernel v.kernel p s u (a p s c) (b p u d) (h p s c) (i p u d) back) ∙ sym c
+    by p x y c d = let e = both p x y c d in absurd (cc)
 
 -- a process that doesn't wait, in the world in which none has begun to wait
 pub same_at : (w : WorldState) (p : ℕ) (s : Process) → slice_get w.processes p ≡ Some s → before_wait s ≡ s → slice_get (unwaiting w).processes p ≡ slice_get w.processes p
@@ -257,13 +235,11 @@ same_unwaiting w n few h = ap {B = WorldState} (λ ps. record { processes = ps; 
 
 running_back : (s : Process) → IsRunning s → before_wait s ≡ s
 running_back (Running m) h = refl
-running_back (Waiting m c) h = absurd h
-running_back (Ended e) h = absurd h
+running_back _ h = absurd h
 
 running_asks : (s : Process) → IsRunning s → AsksAgain s
 running_asks (Running m) h = tt
-running_asks (Waiting m c) h = absurd h
-running_asks (Ended e) h = absurd h
+running_asks _ h = absurd h
 
 abbrev pub AreRunning : WorldState → Type 0
 AreRunning w = (p : ℕ) (s : Process) → slice_get w.processes p ≡ Some s → IsRunning s
