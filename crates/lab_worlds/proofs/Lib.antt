@@ -6,12 +6,10 @@ pub mod HeldAdvances
 mod StepsToCalls
 pub mod Pushes
 pub mod WalkLemmas
-mod KeptEnds
 pub mod FairLassos
 pub mod StepsOnObjects
 pub mod IndependentSteps
 pub mod OnwardSteps
-mod StepsTold
 pub mod Beginnings
 pub mod WalkedEnds
 pub mod OwnCalls

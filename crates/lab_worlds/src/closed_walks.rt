@@ -34,18 +34,13 @@ impl Walk {
                 self.go(pid as usize)?;
                 self.go_on(pid as usize, taken)
             }
-            WalkPart::Rest(pid) => self.wait(pid as usize),
+            WalkPart::Rest(pid) => {
+                if matches!(self.world.process(pid as usize), Some(Process::Running(_))) {
+                    self.go(pid as usize)?;
+                }
+                Ok(())
+            }
         }
-    }
-
-    /// Lets a process begin to wait, if it runs.
-    fn wait(&mut self, pid: usize) -> Result<(), ExploreFault>
-        ensures walk { OnOk result (KeepsStart self.old self.new) }
-    {
-        if matches!(self.world.process(pid), Some(Process::Running(_))) {
-            self.go(pid)?;
-        }
-        Ok(())
     }
 
     /// Goes along parts of a closed walk.

@@ -1,9 +1,8 @@
 //! The ends to which walks come.
 ghost use Rattle.std.specs.Prelude.{◌≡◌, [], All};
 ghost use Rattle.lab_sched.specs.Held.{IsHeld};
-ghost use Rattle.lab_sched.specs.Worlds.{WorldState};
 ghost use Rattle.lab_sched.specs.Starts.{AreStarts, initial_world};
-ghost use Rattle.lab_worlds.specs.Ends.{IsEnd, AreEnds};
+ghost use Rattle.lab_worlds.specs.Ends.{AreEnds};
 
 use crate::ends::End;
 use crate::fault::ExploreFault;
@@ -57,13 +56,6 @@ impl Gathering {
         walker.finish()?;
         self.digests.push(digest)?;
         let end = end_along(alloc, processes, &walker.schedule)?;
-        self.keep(end)
-    }
-
-    fn keep(&mut self, end: End) -> Result<(), ExploreFault>
-        ensures ends { (start : WorldState) → IsEnd start end
-            → AreEnds start self.old.ends.items → AreEnds start self.new.ends.items }
-    {
         self.size = self.size.saturating_add(end.size());
         self.ends.push(end)?;
         Ok(())

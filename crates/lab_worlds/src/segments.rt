@@ -33,12 +33,7 @@ fn mark(fair_to: &mut Vec<bool>, pid: usize) -> Result<(), ExploreFault>
 fn is_fair_to_all(fair_to: &[bool]) -> bool
     ensures yes { IsTrue result → All (λ b. b ≡ true) fair_to.now }
 {
-    for process in fair_to {
-        if !*process {
-            return false;
-        }
-    }
-    true
+    fair_to.iter().all(|process| *process)
 }
 
 impl FairSegment {

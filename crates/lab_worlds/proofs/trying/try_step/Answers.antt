@@ -2,14 +2,13 @@ use Rattle.std.proofs.Common.{Some, ap, subst, arith}
 use Rattle.lab_sched.specs.Held.{StepResult, process_view, asked_by}
 use Rattle.lab_sched.specs.Worlds.{step_effect}
 use Rattle.lab_worlds.specs.Stepped.{IsReached}
-use Rattle.lab_worlds.proofs.StepsTold.{told_of}
 use Rattle.lab_worlds.proofs.trying.try_step.Goals as goal
 
 pub returns-then-not-goes_on : goal.returns-then-not-goes_on
 returns-then-not-goes_on c = record {
   stepped =
       let s = process_view c.args.process in
-      let told = told_of c.args.kernel c.take_step.new.kernel c.args.pid s (process_view c.take_step.new.process) c.in_ok-stepped.stepped c.in_ok-stepped.ensures.ok in
+      let told = ap (λ (x : StepResult). x.told) c.in_ok-stepped.ensures.ok in
       c.goes_on.ensures.no c.if-not-goes_on.true (asked_by (Some s)) (step_effect c.args.kernel c.args.pid (Some s)) told;
 }
 
@@ -17,7 +16,7 @@ pub returns-then-not-at_call : goal.returns-then-not-at_call
 returns-then-not-at_call c = record {
   stepped =
       let s = process_view c.args.process in
-      let told = told_of c.args.kernel c.take_step.new.kernel c.args.pid s (process_view c.take_step.new.process) c.in_ok-stepped.stepped c.in_ok-stepped.ensures.ok in
+      let told = ap (λ (x : StepResult). x.told) c.in_ok-stepped.ensures.ok in
       c.goes_on.ensures.yes c.if-not-goes_on.false (asked_by (Some s)) (step_effect c.args.kernel c.args.pid (Some s)) told;
 }
 
@@ -25,7 +24,7 @@ pub returns : goal.returns
 returns c =
     let s = process_view c.args.process in
     let ok = c.in_ok-stepped.ensures.ok in
-    let told = told_of c.args.kernel c.take_step.new.kernel c.args.pid s (process_view c.take_step.new.process) c.in_ok-stepped.stepped ok in
+    let told = ap (λ (x : StepResult). x.told) ok in
     let at_call = c.in_ok-process.ensures.at_call c.if-not-at_call.false in
     record {
       stepped = (
