@@ -33,14 +33,12 @@ effect_alike k j p (Some (Ended e)) s a = refl
 
 -- the kernels stay alike
 pub kernel_alike : (w v : WorldState) (p : ℕ) (t : StepEffect) → IsConsistent w.kernel → IsAlike w.kernel v.kernel → IsAlike (after w p t).kernel (after v p t).kernel
-kernel_alike w v p nothing s a = a
-kernel_alike w v p (local_step n) s a = a
 kernel_alike w v p (kernel_step m c r) s a = (answers_alike w.kernel v.kernel p c s a).1
+kernel_alike w v p _ s a = a
 
 pub consistent_after : (w : WorldState) (p : ℕ) (t : StepEffect) → IsConsistent w.kernel → IsConsistent (after w p t).kernel
-consistent_after w p nothing s = s
-consistent_after w p (local_step n) s = s
 consistent_after w p (kernel_step m c r) s = stays_consistent w.kernel p c s
+consistent_after w p _ s = s
 
 pub consistent_run : (ps : List ℕ) (w : WorldState) → IsConsistent w.kernel → IsConsistent (run w ps).kernel
 unfolding run
@@ -77,21 +75,16 @@ run_alike (p ∷ ps) w v s a = run_alike ps (step w p) (step v p) (consistent_af
 ended_alike : (w v : WorldState) → v.processes ≡ w.processes → HaveEnded w → HaveEnded v
 ended_alike w v e h p s at = h p s (ap (λ ps. slice_get ps p) (sym e) ∙ at)
 
-pub stuck_alike : (w v : WorldState) → IsConsistent w.kernel → AreAlike w v → AreStuck w → AreStuck v
-stuck_alike w v s a h = record {
-  waits = (h.waits.0, h.waits.1, ap (λ ps. slice_get ps h.waits.0) a.processes ∙ h.waits.2, h.waits.3);
-  none_runs = λ p x at. h.none_runs p x (ap (λ ps. slice_get ps p) (sym a.processes) ∙ at);
-  none_moves = λ p effective. h.none_moves p (subst IsEffective (same_effect w v p s a) effective);
-}
-
-stuck_back : (w v : WorldState) → IsConsistent w.kernel → AreAlike w v → AreStuck v → AreStuck w
-stuck_back w v s a h = record {
-  waits = (h.waits.0, h.waits.1, ap (λ ps. slice_get ps h.waits.0) (sym a.processes) ∙ h.waits.2, h.waits.3);
-  none_runs = λ p x at. h.none_runs p x (ap (λ ps. slice_get ps p) a.processes ∙ at);
-  none_moves = λ p effective. h.none_moves p (subst IsEffective (sym (same_effect w v p s a)) effective);
+-- where the same processes make the same steps
+stuck_alike : (w v : WorldState) → v.processes ≡ w.processes → ((p : ℕ) → step_effect_in v p ≡ step_effect_in w p) → AreStuck w → AreStuck v
+stuck_alike w v e steps h = record {
+  waits = (h.waits.0, h.waits.1, ap (λ ps. slice_get ps h.waits.0) e ∙ h.waits.2, h.waits.3);
+  none_runs = λ p x at. h.none_runs p x (ap (λ ps. slice_get ps p) (sym e) ∙ at);
+  none_moves = λ p effective. h.none_moves p (subst IsEffective (steps p) effective);
 }
 
 pub one_verdict : OneVerdict
 one_verdict w v verdict.Ended s a h = ended_alike w v a.processes h
-one_verdict w v verdict.Stuck s a h = stuck_alike w v s a h
-one_verdict w v verdict.Open s a h = (λ ended. h.0 (ended_alike v w (sym a.processes) ended), λ stuck. h.1 (stuck_back w v s a stuck))
+one_verdict w v verdict.Stuck s a h = stuck_alike w v a.processes (λ p. same_effect w v p s a) h
+one_verdict w v verdict.Open s a h =
+    (λ ended. h.0 (ended_alike v w (sym a.processes) ended), λ stuck. h.1 (stuck_alike v w (sym a.processes) (λ p. sym (same_effect w v p s a)) stuck))

@@ -34,14 +34,11 @@ copies_world ps cs k same starts empty = subst (λ xs. IsWorld xs k) (sym same) 
 
 -- each process of a laboratory runs before its first step
 pub starts_run : (ps : List Kept) (k : KernelState) → AreStarts ps → AreRunning (record { processes = map process_view ps; kernel = k })
-starts_run ps k starts p s at = by (slice_get ps p) refl
+starts_run ps k starts p s at = by (slice_get ps p) refl (sym (slice_get-map process_view ps p) ∙ at)
   where
-    by : (o : Option Kept) → slice_get ps p ≡ o → IsRunning s
-    by None e = let h : None ≡ Some s = ap (λ x. option_map process_view x) (sym e) ∙ sym (slice_get-map process_view ps p) ∙ at in absurd (cc)
-    by (Some x) e =
-        let h : Some (process_view x) ≡ Some s = ap (λ x. option_map process_view x) (sym e) ∙ sym (slice_get-map process_view ps p) ∙ at in
-        let same : process_view x ≡ s = cc in
-        subst IsRunning same (all_at Runs ps p x starts.running e)
+    by : (o : Option Kept) → slice_get ps p ≡ o → option_map process_view o ≡ Some s → IsRunning s
+    by None e is = absurd (cc)
+    by (Some x) e is = let same : process_view x ≡ s = cc in subst IsRunning same (all_at Runs ps p x starts.running e)
 
 -- so none has begun to wait
 pub starts_unwaiting : (ps qs : List Kept) (k : KernelState) → qs ≡ ps → AreStarts ps → unwaiting (record { processes = map process_view qs; kernel = k }) ≡ record { processes = map process_view qs; kernel = k }

@@ -15,9 +15,8 @@ use Rattle.lab_worlds.specs.Independent.{unlinks, KeepsNames, IsIndependent}
 
 -- a call that a step makes has the same answer over another kernel
 abbrev pub SameAnswer : KernelState → KernelState → ℕ → StepEffect → Type 0
-SameAnswer k j p nothing = Unit {0}
-SameAnswer k j p (local_step n) = Unit {0}
 SameAnswer k j p (kernel_step m c a) = (answer j p c).0 ≡ (answer k p c).0
+SameAnswer k j p _ = Unit {0}
 
 -- so the step is the same
 pub same_effect_over : (k j : KernelState) (p : ℕ) (o : Option Process) → GoesOn (step_effect k p o) → SameAnswer k j p (step_effect k p o) → step_effect j p o ≡ step_effect k p o
@@ -36,10 +35,8 @@ same_effect_over k j p (Some (Ended e)) goes same = refl
 
 -- what a step makes of a list of processes
 made_comm : (ps : List Process) (p q : ℕ) (a b : Option Process) → p ≢ q → processes_with (processes_with ps p a) q b ≡ processes_with (processes_with ps q b) p a
-made_comm ps p q None None ne = refl
-made_comm ps p q None (Some y) ne = refl
-made_comm ps p q (Some x) None ne = refl
 made_comm ps p q (Some x) (Some y) ne = set_comm ps p q x y ne
+made_comm ps p q _ _ ne = refl
 
 -- two steps of two processes, the first of which is independent
 pub record AreIndependent (w : WorldState) (p q : ℕ) : Type 0 where
@@ -50,16 +47,14 @@ pub record AreIndependent (w : WorldState) (p q : ℕ) : Type 0 where
 
 -- an independent step goes on
 pub independent_goes : (k : KernelState) (t : StepEffect) → IsIndependent k t → GoesOn t
-independent_goes k nothing h = h
 independent_goes k (local_step n) h = tt
 independent_goes k (kernel_step m c (Done r)) h = tt
-independent_goes k (kernel_step m c Wait) h = h
+independent_goes k _ h = h
 
 -- a call that takes no name away, if a step is one
 abbrev pub CallKeepsNames : StepEffect → Type 0
-CallKeepsNames nothing = Unit {0}
-CallKeepsNames (local_step n) = Unit {0}
 CallKeepsNames (kernel_step m c a) = is_unlink c ≡ false
+CallKeepsNames _ = Unit {0}
 
 -- the step of a process that isn't about to take one away
 pub keeps_names : (k : KernelState) (p : ℕ) (o : Option Process) → ((s : Process) → o ≡ Some s → unlinks s ≡ false) → CallKeepsNames (step_effect k p o)
@@ -141,6 +136,5 @@ pub named_after : StayNamed → (w : WorldState) (p : ℕ) → are_named w.kerne
 named_after law w p named keeps = by (step_effect_in w p) (keeps_names w.kernel p (slice_get w.processes p) keeps)
   where
     by : (t : StepEffect) → CallKeepsNames t → are_named (kernel_after w.kernel p t).places ≡ true
-    by nothing h = named
-    by (local_step n) h = named
     by (kernel_step m c a) h = law w.kernel p c named h
+    by _ h = named

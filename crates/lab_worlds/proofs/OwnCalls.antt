@@ -1,8 +1,7 @@
 -- Processes that stand at calls of their own.
-use Rattle.std.proofs.Common.{ℕ, ◌≡◌, true, List, Some, refl, sym, ap, subst, ◌∙◌}
+use Rattle.std.proofs.Common.{ℕ, ◌≡◌, true, List, Some, refl, sym, ap, subst, ◌∙◌, arith}
 use Rattle.ipc_kernel.specs.Kernel.{KernelState}
 use Rattle.ipc_kernel.specs.declared.call.Call.{Call}
-use Rattle.ipc_kernel.specs.declared.call.Call.TheVariants.{MqOpen, MqClose, MqUnlink, MqSend, MqReceive, MqGetattr, MqSetattr, SemOpen, SemClose, SemUnlink, SemWait, SemTrywait, SemPost, SemGetvalue, Exit}
 use Rattle.ipc_kernel.specs.declared.call.Answer.{Answer}
 use Rattle.ipc_kernel.specs.declared.call.Answer.TheVariants.{Done, Wait}
 use Rattle.ipc_kernel.specs.declared.place.Place.{Place as Object}
@@ -15,21 +14,7 @@ use Rattle.lab_worlds.specs.Independent.{IsIndependent}
 
 -- an own call can't wait
 own_or_wait : (ps : List Object) (c : Call) → is_own ps c ≡ true → may_wait c ≡ true → ⊥
-own_or_wait ps (MqOpen name flags attr) a b = absurd (cc)
-own_or_wait ps (MqClose d) a b = absurd (cc)
-own_or_wait ps (MqUnlink name) a b = absurd (cc)
-own_or_wait ps (MqSend d words prio) a b = absurd (cc)
-own_or_wait ps (MqReceive d len) a b = absurd (cc)
-own_or_wait ps (MqGetattr d) a b = absurd (cc)
-own_or_wait ps (MqSetattr d flags) a b = absurd (cc)
-own_or_wait ps (SemOpen name flags value) a b = absurd (cc)
-own_or_wait ps (SemClose s) a b = absurd (cc)
-own_or_wait ps (SemUnlink name) a b = absurd (cc)
-own_or_wait ps (SemWait s) a b = absurd (cc)
-own_or_wait ps (SemTrywait s) a b = absurd (cc)
-own_or_wait ps (SemPost s) a b = absurd (cc)
-own_or_wait ps (SemGetvalue s) a b = absurd (cc)
-own_or_wait ps Exit a b = absurd (cc)
+own_or_wait ps c a b = grind arith
 
 -- so a process that stands at one takes an independent step
 pub standing_independent : (k : KernelState) (p : ℕ) (s : Process) (c : Call) → StandsAt s c → is_own k.places c ≡ true → IsIndependent k (step_effect k p (Some s))

@@ -11,7 +11,7 @@ use Rattle.ipc_kernel.specs.Operands.{with_operand, HasOperand, IsAnsweredAlike}
 use Rattle.ipc_store.proofs.LocalCalls.{kept}
 use Rattle.ipc_store.proofs.OperandAnswers.{answers_by_operand}
 use Rattle.ipc_store.proofs.SettledAnswers.{stays_settled}
-use Rattle.lab_sched.specs.Worlds.{Process, Running, Waiting, Ended, calls, next_action, StepEffect, nothing, local_step, kernel_step, step_effect, first_try, retry, process_after, kernel_after}
+use Rattle.lab_sched.specs.Worlds.{Process, Running, Waiting, Ended, calls, next_action, StepEffect, nothing, kernel_step, step_effect, first_try, retry, process_after, kernel_after}
 use Rattle.lab_conditions.specs.Conditions.{StandsAt}
 use Rattle.lab_worlds.specs.Unwaiting.{GoesOn}
 use Rattle.lab_worlds.specs.Operands.{IsStepAlike, StepsByOperand, StepsSettled}
@@ -41,9 +41,7 @@ steps_by_operand k j p q s c i t o sk sj stands at_k at_j hk hj = by s stands
     same_kernel u y has =
         let tables : Some t ≡ Some u = sym hj.tables ∙ has.tables in
         let object : Some o ≡ Some y = sym hj.object ∙ has.object in
-        let one : t ≡ u = cc in
-        let other : o ≡ y = cc in
-        sym (kept k p i t o hk) ∙ ap (λ x. with_operand k p i x t) other ∙ ap (λ x. with_operand k p i y x) one
+        cc (kept k p i t o hk)
 
     again : (m : Machine) (a : Answer) → (answer j q c).0 ≡ a → IsStepAlike k j p q (Waiting m c) i
     again m Wait is = alike_by k j p q (Waiting m c) i nothing (ap (retry m c) (alike.answers ∙ is)) (ap (retry m c) is) same_kernel
@@ -55,9 +53,8 @@ steps_by_operand k j p q s c i t o sk sj stands at_k at_j hk hj = by s stands
     by (Ended e) stood = absurd stood
 
 settled_after : (k : KernelState) (p : ℕ) (e : StepEffect) → IsSettled k → IsSettled (kernel_after k p e)
-settled_after k p nothing h = h
-settled_after k p (local_step n) h = h
 settled_after k p (kernel_step m c a) h = stays_settled k p c h
+settled_after k p _ h = h
 
 pub steps_settled : StepsSettled
 steps_settled k p s h = settled_after k p (step_effect k p (Some s)) h

@@ -14,6 +14,5 @@ asks_at_call (Ended e) u c same asks = absurd asks
 
 -- and so is one that has ended
 pub ended_at_call : (s u : Process) → u ≡ s → HasEnded s → IsAtCall u
-ended_at_call (Running m) u same ended = absurd ended
-ended_at_call (Waiting m d) u same ended = absurd ended
 ended_at_call (Ended e) u same ended = subst IsAtCall (sym same) tt
+ended_at_call _ u same ended = absurd ended

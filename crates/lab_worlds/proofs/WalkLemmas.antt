@@ -6,7 +6,7 @@ use Rattle.std.proofs.lemmas.Option.{slice_get_past}
 use Rattle.lab_sched.specs.declared.schedule.block.Block.{Block}
 use Rattle.lab_sched.specs.declared.stepped.Stepped.{Stepped}
 use Rattle.lab_sched.specs.declared.stepped.Stepped.TheVariants as stepped
-use Rattle.lab_sched.specs.Worlds.{WorldState, StepEffect, nothing, local_step, kernel_step, step_effect_in, step, run, entries, entry_of, IsEffective}
+use Rattle.lab_sched.specs.Worlds.{WorldState, StepEffect, nothing, step_effect_in, step, run, entries, entry_of, IsEffective}
 use Rattle.lab_sched.specs.Held.{told_in}
 use Rattle.lab_sched.specs.Execution.{AreEffective}
 use Rattle.lab_sched.specs.Schedules.{steps_of}
@@ -19,8 +19,7 @@ use Rattle.lab_worlds.proofs.AfterLocalSteps.{same_by_gets}
 
 some_effective : (t : StepEffect) → (t ≡ nothing → ⊥) → IsEffective t
 some_effective nothing h = absurd (h refl)
-some_effective (local_step n) h = tt
-some_effective (kernel_step m c a) h = tt
+some_effective _ h = tt
 
 told_effective : (w : WorldState) (p : ℕ) → (told_in w p ≡ stepped.Same → ⊥) → IsEffective (step_effect_in w p)
 told_effective w p h = some_effective (step_effect_in w p) (λ none. h (nothing_told w p none))

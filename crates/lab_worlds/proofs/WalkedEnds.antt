@@ -1,7 +1,7 @@
 -- The ends of walks.
 use Rattle.std.proofs.Common.{ℕ, ◌≡◌, refl, sym, ap, subst, ◌∙◌, inl, inr}
 use Rattle.ipc_kernel.specs.Kernel.{KernelState}
-use Rattle.lab_sched.specs.Worlds.{Process, Running, Waiting, Ended, WorldState, step_effect, step_effect_in}
+use Rattle.lab_sched.specs.Worlds.{Process, Waiting, WorldState, step_effect, step_effect_in}
 use Rattle.lab_sched.specs.Finished.{IsAtRest}
 use Rattle.lab_sched.specs.Verdicts.{IsVerdict, HasEnded}
 use Rattle.lab_sched.specs.declared.verdict.Verdict.{Verdict}
@@ -15,9 +15,8 @@ use Rattle.lab_worlds.specs.Ends.{IsEnd}
 use Rattle.lab_worlds.proofs.HeldAdvances.{idle}
 
 ended_rests : (k : KernelState) (p : ℕ) (s : Process) → HasEnded s → IsAtRest k p s
-ended_rests k p (Running m) h = h
 ended_rests k p (Waiting m c) h = absurd h
-ended_rests k p (Ended e) h = h
+ended_rests k p _ h = h
 
 -- a world that isn't open is at rest
 pub verdict_rests : (w : WorldState) (v : Verdict) → IsVerdict w v → (v ≡ verdict.Open → ⊥) → AreAtRest w
