@@ -5,14 +5,15 @@ ghost use Rattle.lc3_asm.specs.Listings.{listing_text};
 ghost use Rattle.lc3_asm.specs.Texts.{Program};
 
 use crate::check::messages_if;
-use crate::complaint::{At, Complaint, Misuse, Reason};
-use crate::files::{has_source_name, is_same_file, read_code, write_object, write_text};
+use crate::complaint::{At, Complaint, Misuse};
+use crate::files::{has_source_name, is_same_file, write_bytes, write_object};
 use crate::job::Job;
+use crate::programs::read_assembled;
 use crate::progress::Progress;
 use lab_io::Output;
-use lc3_asm::{AsmFault, Assembled, assemble, listing};
+use lab_sources::Source;
+use lc3_asm::{Assembled, listing};
 use lc3_table::Profile;
-use std::alloc::Global;
 use std::io::Write;
 use std::rt::Files;
 
@@ -29,39 +30,19 @@ pub struct Assembly<'a> {
     pub profile: Profile,
 }
 
-/// What the bytes of a source are assembled to.
-pub fn assemble_bytes<'a>(
-    alloc: Global,
-    source: &'a str,
-    bytes: &[u8],
-) -> Result<Assembled, Complaint<'a>> {
-    let Ok(text) = str::from_utf8(bytes) else {
-        return Err(Reason::NotUtf8.at(source));
-    };
-    match assemble(alloc, text) {
-        Err(AsmFault::NoMemory) => Err(Reason::NoMemory.at(source)),
-        outcome => outcome.at(alloc, source),
-    }
-}
-
 /// What a source is assembled to. The messages about it are written where they are wanted, before anything else is.
 fn accepted<'a, T: Files, E: Write, P: Progress>(
     job: &Job<'_, T, P>,
     assembly: Assembly<'a>,
     errors: &mut Output<E>,
 ) -> Result<Assembled, Complaint<'a>> {
-    let source = assembly.source;
-    let bytes = read_code(job.rt, job.alloc, source)?;
-    let report = messages_if(job, source, &bytes, assembly.profile, assembly.explain);
-    match assemble_bytes(job.alloc, source, &bytes) {
-        Ok(assembled) => {
-            if let Some(report) = report {
-                let _ = errors.write_all(report.text.as_bytes());
-            }
-            Ok(assembled)
-        }
-        Err(complaint) => Err(complaint.explained(report)),
+    let (profile, wanted) = (assembly.profile, assembly.explain);
+    let Source { text, assembled } = read_assembled(job, assembly.source, profile, wanted)?;
+    let report = messages_if(job, assembly.source, text.as_bytes(), profile, wanted);
+    if let Some(report) = report {
+        let _ = errors.write_all(report.text.as_bytes());
     }
+    Ok(assembled)
 }
 
 /// Assembles a source, writes its object file, and then the listing where it is asked for. The messages about the source come
@@ -90,5 +71,5 @@ pub fn assemble_file<'a, T: Files, W: Write, E: Write, P: Progress>(
     if !assembly.list {
         return Ok(());
     }
-    write_text(&listing(job.alloc, &assembled)?, output)
+    write_bytes(listing(job.alloc, &assembled)?.as_bytes(), output)
 }

@@ -5,7 +5,7 @@ ghost use Rattle.lc3_word.specs.Segment.{Segment};
 ghost use Rattle.lc3_table.specs.Text.{image_lines};
 
 use crate::complaint::Complaint;
-use crate::files::write_text;
+use crate::files::write_bytes;
 use crate::job::Job;
 use crate::programs::read_image_file;
 use crate::progress::Progress;
@@ -24,5 +24,5 @@ pub fn disassemble_file<'a, T: Files, W: Write, P: Progress>(
         × Appends (W.contents output.old.device) (W.contents output.new.device) (image_lines image)) }
 {
     let (image, _) = read_image_file(job, object)?;
-    write_text(&image_text(job.alloc, &image)?, output)
+    write_bytes(image_text(job.alloc, &image)?.as_bytes(), output)
 }

@@ -81,10 +81,16 @@ fn source_meant<T: Files>(rt: &T, alloc: Global, name: &str) -> Option<String> {
 
 /// The bytes of a file, at most 4,000,000: a file with more is refused as too large.
 pub fn read_file<T: Files>(rt: &T, alloc: Global, name: &str) -> Result<Vec<u8>, CliFault> {
-    match fs::open(rt, name) {
-        Ok(file) => read_whole(alloc, &mut Input::new(file)),
-        Err(error) if error.kind() == ErrorKind::OutOfMemory => Err(CliFault::NoMemory),
-        Err(_) => Err(CliFault::Read),
+    let file = fs::open(rt, name).map_err(|error| memory_or(&error, CliFault::Read))?;
+    read_whole(alloc, &mut Input::new(file))
+}
+
+/// Want of memory, where that was the error, or else this fault.
+fn memory_or(error: &io::Error, fault: CliFault) -> CliFault {
+    if error.kind() == ErrorKind::OutOfMemory {
+        CliFault::NoMemory
+    } else {
+        fault
     }
 }
 
@@ -106,10 +112,8 @@ pub fn write_whole<T: Files>(
     bytes: &[u8],
 ) -> Result<(), CliFault> {
     if fs::metadata(rt, name).is_ok_and(|found| !found.is_file()) {
-        return write_file(
-            fs::create(rt, name).map_err(|error| not_made(&error))?,
-            bytes,
-        );
+        let file = fs::create(rt, name).map_err(|error| memory_or(&error, CliFault::Write))?;
+        return write_file(file, bytes);
     }
     let (file, beside) = create_beside(rt, alloc, name)?;
     let outcome = write_file(file, bytes).and_then(|()| fs::rename(
@@ -135,36 +139,16 @@ fn create_beside<T: Files>(
         match File::create_new(rt, beside.as_str()) {
             Ok(file) => return Ok((file, beside)),
             Err(error) if error.kind() == ErrorKind::AlreadyExists => {}
-            Err(error) => return Err(not_made(&error)),
+            Err(error) => return Err(memory_or(&error, CliFault::Write)),
         }
     }
     Err(CliFault::Write)
-}
-
-fn not_made(error: &io::Error) -> CliFault {
-    if error.kind() == ErrorKind::OutOfMemory {
-        CliFault::NoMemory
-    } else {
-        CliFault::Write
-    }
 }
 
 fn write_file<W: Write + Drop>(file: W, bytes: &[u8]) -> Result<(), CliFault> {
     Output::new(file)
         .write_all(bytes)
         .map_err(|_| CliFault::Write)
-}
-
-/// Writes a text to the output of the program.
-pub fn write_text<W: Write>(text: &str, output: &mut Output<W>) -> Result<(), Complaint<'static>>
-    ensures written { OnOk result
-        (Appends (W.contents output.old.device) (W.contents output.new.device) text.now) }
-    ensures prefix { OnErr result
-        (AppendsPrefix (W.contents output.old.device) (W.contents output.new.device) text.now) }
-    ensures failed { OnErr result (IsTrue output.new.failed) }
-    ensures healthy { OnOk result (output.new.failed ≡ output.old.failed) }
-{
-    write_bytes(text.as_bytes(), output)
 }
 
 /// Writes bytes to the output of the program.
@@ -176,8 +160,7 @@ pub fn write_bytes<W: Write>(bytes: &[u8], output: &mut Output<W>) -> Result<(),
     ensures failed { OnErr result (IsTrue output.new.failed) }
     ensures healthy { OnOk result (output.new.failed ≡ output.old.failed) }
 {
-    match output.write_all(bytes) {
-        Ok(()) => Ok(()),
-        Err(_) => Err(Reason::CannotWrite.at("run")),
-    }
+    output
+        .write_all(bytes)
+        .map_err(|_| Reason::CannotWrite.at("run"))
 }

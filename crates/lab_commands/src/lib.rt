@@ -35,13 +35,12 @@ pub use debug::{Debugged, debug_given};
 pub use dis::disassemble_file;
 pub use explore::{Search, find_ends};
 pub use files::{
-    has_source_name, is_file, is_same_file, read_file, read_source, write_bytes, write_text,
-    write_whole,
+    has_source_name, is_file, is_same_file, read_file, read_source, write_bytes, write_whole,
 };
 pub use inquiry::{Inquiry, refuse_question};
 pub use job::{Job, Texts};
 pub use limits::{limit_met, standing_at};
-pub use programs::{Programs, laboratory, read_programs, read_with_input};
+pub use programs::{Programs, laboratory, read_programs};
 pub use progress::Progress;
 pub use run::run_given;
 pub use step::{read_schedule, report_given};

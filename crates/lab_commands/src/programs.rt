@@ -2,7 +2,7 @@
 ghost use Rattle.std.specs.Prelude.{◌≡◌, false, IfOk};
 ghost use Rattle.lab_sched.specs.Starts.{fresh};
 
-use crate::asm::assemble_bytes;
+use crate::advice::advice_line;
 use crate::check::messages_if;
 use crate::complaint::{At, Complaint, Reason};
 use crate::files::{has_source_name, read_code, read_file};
@@ -14,6 +14,7 @@ use lab_io::Input;
 use lab_places::Numbered;
 use lab_sched::{Fresh, FreshFault, Program};
 use lab_sources::{Listing, Source};
+use lc3_asm::{AsmFault, assemble};
 use lc3_obj::read_image;
 use lc3_table::Profile;
 use lc3_word::Image;
@@ -31,7 +32,28 @@ pub struct Programs {
     pub lines: Vec<Vec<String>>,
 }
 
+fn with_lines<'a>((source, lines): (&'a Option<Source>, &'a Vec<String>)) -> Option<Numbered<'a>> {
+    let lines = lines.as_slice();
+    let source = source.as_ref()?;
+    Some(Numbered { source, lines })
+}
+
 impl Programs {
+    fn push<'a, T: Files, P: Progress>(
+        &mut self,
+        job: &Job<'_, T, P>,
+        word: &'a str,
+    ) -> Result<(), Complaint<'a>> {
+        let (file, console) = program_of(word);
+        let (image, source) = read_image_file(job, file)?;
+        let input = match console {
+            Console::File(file) => read_file(job.rt, job.alloc, file).at(job.alloc, file)?,
+            Console::Standard | Console::Nowhere => Vec::new(job.alloc),
+        };
+        self.programs.push(Program { image, input })?;
+        Ok(self.push_source(job.alloc, source)?)
+    }
+
     fn push_source(&mut self, alloc: Global, source: Option<Source>) -> Result<(), AllocError> {
         let Some(source) = source else {
             self.sources.push(None)?;
@@ -46,12 +68,11 @@ impl Programs {
 
     /// The sources with their lines, of each program where it was given as one.
     pub fn numbered(&self, alloc: Global) -> Result<Vec<Option<Numbered<'_>>>, AllocError> {
-        let mut numbered = Vec::new(alloc);
-        for (source, lines) in self.sources.iter().zip(self.lines.iter()) {
-            let lines = lines.as_slice();
-            numbered.push(source.as_ref().map(|source| Numbered { source, lines }))?;
-        }
-        Ok(numbered)
+        self.sources
+            .iter()
+            .zip(self.lines.iter())
+            .map(with_lines)
+            .collect(alloc)
     }
 
     /// Reads the console input of the process that takes it from standard input, if one of these words says so.
@@ -63,10 +84,9 @@ impl Programs {
     ) -> Result<(), Complaint<'static>>
         requires input_healthy { input.old.failed ≡ false }
     {
-        let Some(process) = words.iter().position(|word| takes_input(word)) else {
-            return Ok(());
-        };
-        if let Some(program) = self.programs.get_mut(process) {
+        if let Some(process) = words.iter().position(|word| takes_input(word))
+            && let Some(program) = self.programs.get_mut(process)
+        {
             program.input = read_whole(alloc, input).at(alloc, "standard input")?;
         }
         Ok(())
@@ -85,24 +105,9 @@ pub fn read_programs<'a, T: Files, P: Progress>(
         lines: Vec::new(job.alloc),
     };
     for word in words {
-        let (program, source) = read_program(job, word)?;
-        given.programs.push(program)?;
-        given.push_source(job.alloc, source)?;
+        given.push(job, word)?;
     }
     Ok(given)
-}
-
-fn read_program<'a, T: Files, P: Progress>(
-    job: &Job<'_, T, P>,
-    word: &'a str,
-) -> Result<(Program, Option<Source>), Complaint<'a>> {
-    let (file, console) = program_of(word);
-    let (image, source) = read_image_file(job, file)?;
-    let input = match console {
-        Console::File(file) => read_file(job.rt, job.alloc, file).at(job.alloc, file)?,
-        Console::Standard | Console::Nowhere => Vec::new(job.alloc),
-    };
-    Ok((Program { image, input }, source))
 }
 
 /// The image in a file, and the source that it is assembled from, where the file is one.
@@ -113,7 +118,7 @@ pub fn read_image_file<'a, T: Files, P: Progress>(
     if !has_source_name(file) {
         return Ok((read_object(job, file)?, None));
     }
-    let source = read_assembled(job, file)?;
+    let source = read_assembled(job, file, Profile::A, false)?;
     let image = source
         .image(job.alloc)
         .map_err(|_| Reason::NoMemory.at(file))?;
@@ -130,33 +135,35 @@ fn read_object<'a, T: Files, P: Progress>(
         .iter()
         .all(|byte| matches!(byte, b' '..=b'~' | b'\t' | b'\n' | b'\r'));
     if is_text && !bytes.is_empty() && job.advises() {
-        let line = format!(in job.alloc;
-            "lc3lab: {}: looks like a text; the name of a source ends in .asm\n",
-            Shown(file)
-        );
-        if let Ok(line) = line {
+        let file = Shown(file);
+        let told = format_args!("{file}: looks like a text; the name of a source ends in .asm");
+        if let Ok(line) = advice_line(job.alloc, told, None) {
             job.progress.tell(&line);
         }
     }
     read_image(job.alloc, bytes.as_slice()).at(job.alloc, file)
 }
 
-/// The source in a file. Where it is refused, and somebody looks, the messages about it follow: those of every machine, since
-/// what differs is told of accepted sources alone.
-fn read_assembled<'a, T: Files, P: Progress>(
+/// The source in a file, and what it is assembled to. Where it is refused, the messages about it follow, where they are wanted or
+/// somebody looks. Those about a program are of every machine, since what differs is told of accepted sources alone.
+pub(crate) fn read_assembled<'a, T: Files, P: Progress>(
     job: &Job<'_, T, P>,
     file: &'a str,
+    profile: Profile,
+    wanted: bool,
 ) -> Result<Source, Complaint<'a>> {
     let bytes = read_code(job.rt, job.alloc, file)?;
-    match assemble_bytes(job.alloc, file, &bytes) {
-        Ok(assembled) => match String::from_utf8(bytes) {
-            Ok(text) => Ok(Source { text, assembled }),
-            Err(_) => Err(Reason::NotUtf8.at(file)),
-        },
-        Err(complaint) => {
-            Err(complaint.explained(messages_if(job, file, &bytes, Profile::A, false)))
+    let complaint = match str::from_utf8(&bytes).map(|text| assemble(job.alloc, text)) {
+        Ok(Ok(assembled)) => {
+            let text = String::from_utf8(bytes).map_err(|_| Reason::NotUtf8.at(file))?;
+            return Ok(Source { text, assembled });
         }
-    }
+        Ok(Err(AsmFault::NoMemory)) => Reason::NoMemory.at(file),
+        Ok(Err(fault)) => Complaint::new(job.alloc, file, fault),
+        Err(_) => Reason::NotUtf8.at(file),
+    };
+    let report = messages_if(job, file, &bytes, profile, wanted);
+    Err(complaint.followed(report.map(|report| report.text)))
 }
 
 /// The laboratory of 1 to 64 programs on machines of a profile, before its first step.
@@ -168,19 +175,6 @@ pub fn laboratory(
     ensures start { IfOk result (λ f. f ≡ fresh profile programs.now) }
 {
     Fresh::new(alloc, programs, profile).map_err(|fault| fault_of(alloc, fault))
-}
-
-/// The programs that words name, and behind their files the console input that comes from standard input, if one does.
-pub fn read_with_input<'a, T: Files, R: Read, P: Progress>(
-    job: &Job<'_, T, P>,
-    words: &[&'a str],
-    input: &mut Input<R>,
-) -> Result<Programs, Complaint<'a>>
-    requires input_healthy { input.old.failed ≡ false }
-{
-    let mut given = read_programs(job, words)?;
-    given.fill(job.alloc, words, input)?;
-    Ok(given)
 }
 
 /// What is said where there is no laboratory of some programs.
