@@ -4,56 +4,68 @@ use crate::places::Place;
 use lab_arguments::Shown;
 use lc3_word::unsigned;
 use std::alloc::{AllocError, Global};
-use std::fmt::Write;
+use std::fmt::Display;
 
-/// The first of some words that may not stand where it does, if there is one, and the place that is reached: the first word
-/// stands at this one.
-pub(crate) fn reached<'a>(first: Place, words: &[&'a str]) -> (Option<&'a str>, Place) {
+/// The first word of a text that may not stand where it does, if there is one, and the place that is reached: the first word
+/// stands at this one. A character at the ends of words is no part of them.
+pub(crate) fn reached(first: Place, text: &str, outside: char) -> (Option<&str>, Place) {
     let mut place = first;
-    for word in words {
+    for piece in text.split(' ').filter(|piece| !piece.is_empty()) {
+        let word = piece.trim_matches(outside);
         let Some(next) = place.behind(word) else {
-            return (Some(*word), place);
+            return (Some(word), place);
         };
         place = next;
     }
     (None, place)
 }
 
-/// The line that says what isn't understood in words of which the first stands at this place, and what was meant, if that is
-/// known.
+/// The line that says what isn't understood in a text of which the first word stands at this place, and what was meant, if that
+/// is known, where memory allows it. A character at the ends of words is no part of them.
 pub(crate) fn line_on(
     alloc: Global,
     first: Place,
-    words: &[&str],
+    text: &str,
+    outside: char,
     meant: Option<&str>,
-) -> Result<Option<String>, AllocError> {
-    let (word, place) = reached(first, words);
+) -> Option<String> {
+    let (word, place) = reached(first, text, outside);
     let may_end = matches!(
         place,
         Place::Many | Place::And | Place::Error | Place::Nothing | Place::At
     );
     if word.is_none() && may_end {
-        return Ok(None);
+        return None;
     }
-    Ok(Some(unknown(alloc, word, place.text(), meant)?))
+    unknown(alloc, word, place.text(), meant)
 }
 
-/// Says that a word isn't understood, or is missing, what may stand there, and what was meant, if that is known.
+/// Says that a word isn't understood, or is missing, what may stand there, and what was meant, if that is known, where memory
+/// allows it.
 pub(crate) fn unknown(
     alloc: Global,
     word: Option<&str>,
     text: &str,
     meant: Option<&str>,
-) -> Result<String, AllocError> {
-    let mut line = match word {
-        Some(word) => format!(in alloc; "lc3lab: {}: isn't understood; {text}", Shown(word))?,
-        None => format!(in alloc; "lc3lab: a word is missing at the end; {text}")?,
+) -> Option<String> {
+    let (word, fault) = match word {
+        Some(word) => (word, ": isn't understood"),
+        None => ("a word", " is missing at the end"),
     };
-    if let Some(meant) = meant {
-        write!(line, "; did you mean {}?", Shown(meant))?;
+    let word = Shown(word);
+    advice_line(alloc, format_args!("{word}{fault}; {text}"), meant).ok()
+}
+
+/// A line of advice, and in it what was meant, if that is known.
+pub(crate) fn advice_line<F: Display + Drop>(
+    alloc: Global,
+    told: F,
+    meant: Option<&str>,
+) -> Result<String, AllocError> {
+    match meant {
+        Some(meant) => format!(in alloc; "lc3lab: {told}; did you mean {}?\n", Shown(meant)),
+        None => format!(in alloc; "lc3lab: {told}\n"),
     }
-    line.push_str("\n")?;
-    Ok(line)
 }
 
 /// The words of a text, between blanks.
@@ -109,37 +121,29 @@ fn mended(alloc: Global, first: Place, words: &[&str]) -> Result<Option<String>,
     Ok(Some(text))
 }
 
+/// The word that was meant by one at a place. A number is changed as the sign before it asks; no word where no number is so.
 fn word_meant(alloc: Global, place: Place, before: &str, word: &str) -> Result<String, AllocError> {
     match place {
-        Place::Name if !word.starts_with('/') => format!(in alloc; "/{word}"),
-        Place::Name => String::from_str(alloc, word),
+        Place::Name => format!(in alloc; "/{}", word.strip_prefix('/').unwrap_or(word)),
         Place::Sign => {
-            let sign = match word {
-                ">=" => ">",
-                "<=" => "<",
-                "==" => "=",
-                _ => word,
-            };
-            String::from_str(alloc, sign)
+            let sign = word.strip_suffix('=').filter(|sign| !sign.is_empty());
+            String::from_str(alloc, sign.unwrap_or(word))
         }
-        Place::Number => number_meant(alloc, before, word),
+        Place::Number => {
+            let number = unsigned(10, word.as_bytes());
+            let changed = match before {
+                ">=" => number.and_then(|number| number.checked_sub(1)),
+                "<=" => number.and_then(|number| number.checked_add(1)),
+                _ => return String::from_str(alloc, word),
+            };
+            match changed {
+                Some(number) => format!(in alloc; "{number}"),
+                None => Ok(String::new(alloc)),
+            }
+        }
         Place::Address | Place::Anywhere | Place::WaitsAt => range_meant(alloc, word),
         Place::Error => word.to_ascii_uppercase(alloc),
         _ => word.to_ascii_lowercase(alloc),
-    }
-}
-
-/// A number, changed as the sign before it asks; no word where no number is so.
-fn number_meant(alloc: Global, sign: &str, word: &str) -> Result<String, AllocError> {
-    let number = unsigned(10, word.as_bytes());
-    let changed = match sign {
-        ">=" => number.and_then(|number| number.checked_sub(1)),
-        "<=" => number.and_then(|number| number.checked_add(1)),
-        _ => return String::from_str(alloc, word),
-    };
-    match changed {
-        Some(number) => format!(in alloc; "{number}"),
-        None => Ok(String::new(alloc)),
     }
 }
 

@@ -4,7 +4,7 @@ use crate::job::Job;
 use crate::progress::Progress;
 use lab_sched::{SchedFault, Schedule};
 use lc3_word::{WHITE_SPACE, words_between};
-use std::alloc::{AllocError, Global};
+use std::alloc::Global;
 
 const BLOCK: &str = "a block is P*N, with P from 0 to 63 and N from 1 to 999999999, or P alone";
 
@@ -16,41 +16,32 @@ pub(crate) fn block_advice<T, P: Progress>(
     text: &str,
     fault: SchedFault,
 ) -> Option<String> {
-    if !job.advises() {
-        return None;
-    }
     match fault {
-        SchedFault::BadBlock { at } => {
-            let word = word_at(job.alloc, text, at)?;
-            let block = block_of(job.alloc, word).ok()?;
+        SchedFault::BadBlock { at } if job.advises() => {
+            let words = words_between(job.alloc, WHITE_SPACE, text.as_bytes()).ok()?;
+            let word = *words.get(at.checked_sub(1)?)?;
+            let word = str::from_utf8(word).ok()?;
+            if word.len() > MOST_SHOWN {
+                return None;
+            }
+            let block = block_of(job.alloc, word);
             let meant = block
                 .as_deref()
                 .filter(|block| Schedule::read(job.alloc, block).is_ok());
-            unknown(job.alloc, Some(word), BLOCK, meant).ok()
+            unknown(job.alloc, Some(word), BLOCK, meant)
         }
-        SchedFault::TooLong { .. } | SchedFault::NoMemory => None,
+        _ => None,
     }
 }
 
-/// The word of a text with this number, from 1, where it is short enough to be shown.
-fn word_at(alloc: Global, text: &str, number: usize) -> Option<&str> {
-    let words = words_between(alloc, WHITE_SPACE, text.as_bytes()).ok()?;
-    let word = *words.get(number.checked_sub(1)?)?;
-    if word.len() > MOST_SHOWN {
-        return None;
-    }
-    str::from_utf8(word).ok()
-}
-
-/// The block of the numbers in a word.
-fn block_of(alloc: Global, word: &str) -> Result<Option<String>, AllocError> {
-    let numbers: Vec<&str> = word
+/// The block of the numbers in a word, if there are such, and memory allows it.
+fn block_of(alloc: Global, word: &str) -> Option<String> {
+    let mut numbers = word
         .split(|character: char| !character.is_ascii_digit())
-        .filter(|piece| !piece.is_empty())
-        .collect(alloc)?;
-    match numbers.as_slice() {
-        [process] if !word.contains('*') => Ok(Some(String::from_str(alloc, process)?)),
-        [process, steps] => Ok(Some(format!(in alloc; "{process}*{steps}")?)),
-        _ => Ok(None),
+        .filter(|piece| !piece.is_empty());
+    match (numbers.next(), numbers.next(), numbers.next()) {
+        (Some(process), None, _) if !word.contains('*') => String::from_str(alloc, process).ok(),
+        (Some(process), Some(steps), None) => format!(in alloc; "{process}*{steps}").ok(),
+        _ => None,
     }
 }

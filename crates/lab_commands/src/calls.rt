@@ -3,7 +3,7 @@ ghost use Rattle.std.specs.Prelude.{◌≡◌, ◌++◌, List, true, false, map,
 ghost use Rattle.lab_ways.specs.declared.wanted.Wanted.{Wanted as Asked};
 ghost use Rattle.lab_commands.specs.Private.Inquiries.{AsksSo, IsAskedOfCalls};
 
-use crate::advice::{line_on, words_of};
+use crate::advice::line_on;
 use crate::complaint::{Complaint, Misuse};
 use crate::places::Place;
 use lab_arguments::is_of_calls;
@@ -98,17 +98,10 @@ pub(crate) fn wanted_in<'a>(
     match read_calls(alloc, word, never)? {
         Some(wanted) if wanted.process.is_none_or(|process| process < count) => Ok(wanted),
         Some(_) => Err(elsewhere.of(word)),
-        None => Err(unread.of(word).followed(advice_on(alloc, word, first))),
+        None => Err(
+            unread
+                .of(word)
+                .followed(line_on(alloc, first, word, ',', None)),
+        ),
     }
-}
-
-/// The line that says why a word that begins at this place asks nothing of calls, where memory allows it.
-fn advice_on(alloc: Global, text: &str, first: Place) -> Option<String> {
-    let words: Vec<&str> = words_of(alloc, text)
-        .ok()?
-        .into_iter()
-        .map(|word| word.trim_matches(','))
-        .collect(alloc)
-        .ok()?;
-    line_on(alloc, first, &words, None).ok()?
 }

@@ -3,9 +3,9 @@ ghost use Rattle.std.specs.Prelude.{◌≡◌, ◌++◌, List, true, false, map,
 ghost use Rattle.lab_conditions.specs.declared.never.Never.{Never as Condemned};
 ghost use Rattle.lab_commands.specs.Private.Inquiries.{required_words, IsAsked, IsAskedOfCalls};
 
-use crate::advice::{line_on, meant_by, words_of};
+use crate::advice::{line_on, meant_by};
 use crate::calls::{calls_of, wanted_in};
-use crate::complaint::{Complaint, Misuse, Reason};
+use crate::complaint::{Complaint, Misuse};
 use crate::labels::{Unresolved, reversed};
 use crate::outputs::{need_in, needs_of};
 use crate::places::Place;
@@ -56,7 +56,7 @@ pub fn inquiry_of(question: &Question<'_>) -> Inquiry {
     }
 }
 
-/// What a question asks of processes with these sources, where they were given as such.
+/// What a question that isn't refused asks of processes with these sources, where they were given as such.
 pub fn asked_of<'a>(
     alloc: Global,
     question: &Question<'a>,
@@ -129,20 +129,64 @@ pub fn refuse_question<'a>(
     question: &Question<'a>,
     count: usize,
 ) -> Result<(), Complaint<'a>> {
-    for word in &question.outputs {
-        if is_of_calls(word) {
-            wanted_in(alloc, word, false, count)?;
-        } else {
-            need_in(alloc, word, count)?;
+    let asked = [
+        (Place::Output, &question.outputs),
+        (Place::Waiter, &question.waiters),
+        (Place::Start, &question.never),
+    ];
+    for (first, words) in asked {
+        for word in words {
+            refuse(alloc, first, word, count)?;
         }
     }
-    for word in &question.waiters {
-        refuse_waiter(alloc, word, count)?;
-    }
-    for word in &question.never {
-        refuse_never(alloc, word, count)?;
-    }
     Ok(())
+}
+
+/// Refuses a word that begins at this place and asks nothing of so many processes, whatever its labels stand for.
+fn refuse<'a>(
+    alloc: Global,
+    first: Place,
+    word: &'a str,
+    count: usize,
+) -> Result<(), Complaint<'a>> {
+    let (unread, elsewhere) = match first {
+        Place::Waiter => (Misuse::NoWaiter, Misuse::NoSuchWaiter),
+        _ if is_of_calls(word) => {
+            let never = matches!(first, Place::Start);
+            return wanted_in(alloc, word, never, count).map(|_| ());
+        }
+        Place::Output => return need_in(alloc, word, count).map(|_| ()),
+        _ => (Misuse::NoCondition, Misuse::NoSuchProcess),
+    };
+    match fits(alloc, first, word, count)? {
+        Some(true) => Ok(()),
+        Some(false) => Err(elsewhere.of(word)),
+        None => Err(
+            unread
+                .of(word)
+                .followed(advice_on(alloc, first, word, count)),
+        ),
+    }
+}
+
+/// Whether a text that begins at this place names none but so many processes, if it is a condition or a process that may wait,
+/// whatever its labels stand for.
+fn fits(alloc: Global, first: Place, text: &str, count: usize) -> Result<Option<bool>, AllocError> {
+    let outline = outlined(alloc, text)?;
+    match first {
+        Place::Waiter => Ok(read_waiter(alloc, &outline)?.map(|waiter| waiter.process < count)),
+        _ => Ok(read_or_none(Never::read(alloc, &outline))?.map(|never| never.names_only(count))),
+    }
+}
+
+/// The line that says why a text that begins at this place asks nothing of so many processes, where memory allows it.
+fn advice_on(alloc: Global, first: Place, text: &str, count: usize) -> Option<String> {
+    let meant = meant_by(alloc, first, text).ok()?;
+    let taken = meant.as_deref().filter(|meant| matches!(
+        fits(alloc, first, meant, count),
+        Ok(Some(true))
+    ));
+    line_on(alloc, first, text, ' ', taken)
 }
 
 /// The words that requirements are, in the order in which they are answered.
@@ -174,33 +218,14 @@ fn waiters_of<'a>(
 {
     let mut waiters = Vec::new(alloc);
     for word in words {
-        refuse_waiter(alloc, word, sources.len())?;
-        let waiter = waiter_in(alloc, sources, word).map_err(|fault| fault.of(
-            Misuse::UnfitWaiter,
-            word,
-        ))?;
-        waiters.push(waiter)?;
+        let outcome = resolved(alloc, sources, word);
+        let text = outcome.map_err(|fault| fault.of(Misuse::UnfitWaiter, word))?;
+        match read_waiter(alloc, &text)? {
+            Some(waiter) => waiters.push(waiter)?,
+            None => return Err(reversed(alloc, &text).of(Misuse::UnfitWaiter, word)),
+        }
     }
     Ok(waiters)
-}
-
-/// Refuses a word that names none of so many processes, whatever its labels stand for.
-fn refuse_waiter<'a>(alloc: Global, word: &'a str, count: usize) -> Result<(), Complaint<'a>> {
-    match read_waiter(alloc, &outlined(alloc, word)?)? {
-        None => Err(
-            Misuse::NoWaiter
-                .of(word)
-                .followed(advice_on(alloc, Place::Waiter, word, count)),
-        ),
-        Some(waiter) if waiter.process < count => Ok(()),
-        Some(_) => Err(Misuse::NoSuchWaiter.of(word)),
-    }
-}
-
-/// The process that may wait, by the labels of its source.
-fn waiter_in(alloc: Global, sources: &[Option<Source>], word: &str) -> Result<Waiter, Unresolved> {
-    let text = resolved(alloc, sources, word)?;
-    read_waiter(alloc, &text)?.ok_or_else(|| reversed(alloc, &text))
 }
 
 fn nevers_of<'a>(
@@ -213,33 +238,12 @@ fn nevers_of<'a>(
 {
     let mut nevers = Vec::new(alloc);
     for word in words {
-        refuse_never(alloc, word, sources.len())?;
         match push_nevers(alloc, &mut nevers, sources, word) {
             Ok(()) => {}
             Err(fault) => return Err(fault.of(Misuse::UnfitCondition, word)),
         }
     }
     Ok(nevers)
-}
-
-/// Refuses a word that writes nothing which could never be so of so many processes, whatever its labels stand for.
-fn refuse_never<'a>(alloc: Global, word: &'a str, count: usize) -> Result<(), Complaint<'a>> {
-    if is_of_calls(word) {
-        wanted_in(alloc, word, true, count)?;
-        return Ok(());
-    }
-    match Never::read(alloc, &outlined(alloc, word)?) {
-        Ok(never) if never.names_only(count) => Ok(()),
-        Ok(_) => Err(Misuse::NoSuchProcess.of(word)),
-        Err(ReadFault::NoCondition) => {
-            Err(
-                Misuse::NoCondition
-                    .of(word)
-                    .followed(advice_on(alloc, Place::Start, word, count)),
-            )
-        }
-        Err(ReadFault::NoMemory) => Err(Reason::NoMemory.at("run")),
-    }
 }
 
 /// Adds what must never be so, as a word writes it, or as it is meant where it has labels, unless it is of calls.
@@ -274,45 +278,31 @@ fn labelled(
     sources: &[Option<Source>],
     word: &str,
 ) -> Result<Vec<Never>, Unresolved> {
-    let mut nevers = Vec::new(alloc);
-    for text in &spread(alloc, sources, word)? {
-        nevers.push(never_in(alloc, sources, text)?)?;
-    }
-    Ok(nevers)
+    let texts = spread(alloc, sources, word)?;
+    texts
+        .iter()
+        .map(|text| never_in(alloc, sources, text))
+        .try_collect(alloc)
 }
 
 /// What must never be so, as a text writes it, by the labels of the processes. It is told as it was written.
 fn never_in(alloc: Global, sources: &[Option<Source>], text: &str) -> Result<Never, Unresolved> {
     let meant = resolved(alloc, sources, text)?;
-    match Never::read(alloc, &meant) {
-        Ok(Never::Holds(Condition { parts, .. })) => {
+    match read_or_none(Never::read(alloc, &meant))? {
+        Some(Never::Holds(Condition { parts, .. })) => {
             let text = String::from_str(alloc, text)?;
             Ok(Never::Holds(Condition { text, parts }))
         }
-        Ok(never) => Ok(never),
-        Err(ReadFault::NoCondition) => Err(reversed(alloc, &meant)),
-        Err(ReadFault::NoMemory) => Err(Unresolved::NoMemory),
+        Some(never) => Ok(never),
+        None => Err(reversed(alloc, &meant)),
     }
 }
 
-/// The line that says why a text that begins at this place asks nothing of so many processes, where memory allows it.
-fn advice_on(alloc: Global, first: Place, text: &str, count: usize) -> Option<String> {
-    let meant = meant_by(alloc, first, text).ok()?;
-    let taken = meant
-        .as_deref()
-        .filter(|meant| is_taken(alloc, first, meant, count));
-    line_on(alloc, first, &words_of(alloc, text).ok()?, taken).ok()?
-}
-
-/// Whether a text that begins at this place asks something of so many processes.
-fn is_taken(alloc: Global, first: Place, text: &str, count: usize) -> bool {
-    let Ok(outline) = outlined(alloc, text) else {
-        return false;
-    };
-    match first {
-        Place::Waiter =>
-            matches!(read_waiter(alloc, &outline), Ok(Some(waiter)) if waiter.process < count),
-        _ => Never::read(alloc, &outline).is_ok_and(|never| never.names_only(count)),
+fn read_or_none<T: Drop>(read: Result<T, ReadFault>) -> Result<Option<T>, AllocError> {
+    match read {
+        Ok(read) => Ok(Some(read)),
+        Err(ReadFault::NoCondition) => Ok(None),
+        Err(ReadFault::NoMemory) => Err(AllocError),
     }
 }
 
@@ -325,21 +315,18 @@ fn read_waiter(alloc: Global, text: &str) -> Result<Option<Waiter>, AllocError> 
             last: 0xFFFF,
         }));
     }
-    match Condition::read(alloc, text) {
-        Ok(condition) => Ok(match condition.parts.as_slice() {
-            [
-                Part::Of {
-                    process,
-                    state: State::At { first, last },
-                },
-            ] => Some(Waiter {
-                process: *process,
-                first: *first,
-                last: *last,
-            }),
-            _ => None,
+    let condition = read_or_none(Condition::read(alloc, text))?;
+    Ok(condition.and_then(|condition| match condition.parts.as_slice() {
+        [
+            Part::Of {
+                process,
+                state: State::At { first, last },
+            },
+        ] => Some(Waiter {
+            process: *process,
+            first: *first,
+            last: *last,
         }),
-        Err(ReadFault::NoCondition) => Ok(None),
-        Err(ReadFault::NoMemory) => Err(AllocError),
-    }
+        _ => None,
+    }))
 }

@@ -1,10 +1,10 @@
 //! What is required of outputs, read from words.
-use crate::advice::{reached, unknown, words_of};
+use crate::advice::{reached, unknown};
 use crate::complaint::{Complaint, Misuse};
 use crate::places::Place;
 use lab_arguments::is_of_calls;
 use lab_questions::OutputNeed;
-use std::alloc::{AllocError, Global};
+use std::alloc::Global;
 
 /// What those words require of the outputs of so many processes that ask nothing of calls.
 pub(crate) fn needs_of<'a>(
@@ -12,13 +12,11 @@ pub(crate) fn needs_of<'a>(
     words: &[&'a str],
     count: usize,
 ) -> Result<Vec<OutputNeed>, Complaint<'a>> {
-    let mut needs = Vec::new(alloc);
-    for word in words {
-        if !is_of_calls(word) {
-            needs.push(need_in(alloc, word, count)?)?;
-        }
-    }
-    Ok(needs)
+    let words = words.iter().copied();
+    words
+        .filter(|word| !is_of_calls(word))
+        .map(|word| need_in(alloc, word, count))
+        .try_collect(alloc)
 }
 
 /// What a word requires of the outputs of so many processes.
@@ -50,29 +48,26 @@ fn advice_on(alloc: Global, word: &str) -> Option<String> {
             Some((head, string)) => (head, Some(string)),
             None => (left, None),
         };
-        match (reached(place, &words_of(alloc, head).ok()?), string) {
+        match (reached(place, head, ' '), string) {
             ((None, Place::Text), Some(string)) => {
-                let Some(rest) = behind_string(alloc, string).ok()? else {
-                    let word = format!(in alloc; "\"{string}").ok()?;
-                    return unknown(alloc, Some(&word), Place::Text.text(), None).ok();
+                let Some(rest) = behind_string(string) else {
+                    return unknown(alloc, left.strip_prefix(head), Place::Text.text(), None);
                 };
                 left = rest;
                 place = Place::Joint;
             }
-            ((word, place), _) => return unknown(alloc, word, place.text(), None).ok(),
+            ((word, place), _) => return unknown(alloc, word, place.text(), None),
         }
     }
     None
 }
 
 /// What stands behind a string, where that goes on with `and` or `or`.
-fn behind_string<'a>(alloc: Global, string: &'a str) -> Result<Option<&'a str>, AllocError> {
-    let Some((characters, rest)) = string.split_once('"') else {
-        return Ok(None);
-    };
-    let words = words_of(alloc, rest)?;
-    if characters.ends_with('\\') || !matches!(words.first().copied(), Some("and" | "or")) {
-        return Ok(None);
+fn behind_string(string: &str) -> Option<&str> {
+    let (characters, rest) = string.split_once('"')?;
+    let joint = rest.split(' ').find(|piece| !piece.is_empty());
+    if characters.ends_with('\\') || !matches!(joint, Some("and" | "or")) {
+        return None;
     }
-    Ok(Some(rest))
+    Some(rest)
 }

@@ -92,7 +92,7 @@ enum Kind {
     Name,
     /// A number up to 65,535.
     Number,
-    /// An address or a label, or two with a `-` between them.
+    /// An address or a label, or two with a `-` between them. The first of two addresses isn't above the second.
     Range,
     /// The name of an error.
     Error,
@@ -233,7 +233,11 @@ impl Kind {
                 .strip_prefix('/')
                 .is_some_and(|rest| !rest.is_empty() && !rest.contains('/')),
             Kind::Number => unsigned(10, word.as_bytes()).is_some_and(|number| number <= 65_535),
-            Kind::Range => is_range(word),
+            Kind::Range if is_labelled(word) => true,
+            Kind::Range => {
+                let (first, last) = ends_of(word);
+                matches!((address(first), address(last)), (Some(first), Some(last)) if first <= last)
+            }
             Kind::Error => error_named(word).is_some(),
             Kind::Call => Service::of_name(word.as_bytes()).is_some(),
             Kind::Count => call_count(word.as_bytes()).is_some(),
@@ -247,11 +251,4 @@ pub(crate) fn address(word: &str) -> Option<u32> {
         return None;
     }
     unsigned(16, digits.as_bytes())
-}
-
-/// Whether a word is an address, or two with a `-` between them, the first not above the second. Labels may stand for them.
-fn is_range(word: &str) -> bool {
-    let (first, last) = ends_of(word);
-    is_labelled(word)
-        || matches!((address(first), address(last)), (Some(first), Some(last)) if first <= last)
 }
