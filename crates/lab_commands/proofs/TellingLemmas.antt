@@ -68,9 +68,10 @@ nothing_told sources s old =
     record { text = told.0; tells = told.1; begun = record { sent = []; unsent = told.0; whole = refl; appended = Appends-nil old } }
 
 -- where all was written, so was a beginning of it
-pub all_begun : (sources : List (Option SourceSeen)) (s : Search) (old new : Option (List ℕ)) → HasTold sources s old new → HasBegun sources s old new
-all_begun sources s old new told =
-    record { text = told.text; tells = told.tells; begun = record { sent = told.text; unsent = []; whole = sym (append-nil told.text); appended = told.appended } }
+pub all_begun : (sources : List (Option SourceSeen)) (s : Search) (old new : Option (List ℕ)) (text : List ℕ) → Tells sources s s.inquiry.choice text
+    → Appends old new text → HasBegun sources s old new
+all_begun sources s old new text tells appended =
+    record { text = text; tells = tells; begun = record { sent = text; unsent = []; whole = sym (append-nil text); appended = appended } }
 
 -- a text that tells was written
 pub has_told : (sources : List (Option SourceSeen)) (s : Search) (old new : Option (List ℕ)) (text : List ℕ) → Tells sources s s.inquiry.choice text
@@ -82,7 +83,7 @@ pub has_begun : (sources : List (Option SourceSeen)) (s : Search) (old new : Opt
     → AppendsPrefix old new text → HasBegun sources s old new
 has_begun sources s old new text tells begun = record { text = text; tells = tells; begun = begun }
 
--- the line of the schedule that is chosen
-pub tells_chosen : (a : Answers) (choice : Choice) (text : List ℕ) (shown : Option (List ℕ)) → IsChosen a choice shown → text ≡ line_or_none shown
-    → TellsChosen a choice text
-tells_chosen a choice text shown chosen line = record { shown = shown; chosen = chosen; line = line }
+-- the line of the schedule that is chosen tells it
+pub tells_chosen : (sources : List (Option SourceSeen)) (s : Search) (choice : Choice) (text : List ℕ) (shown : Option (List ℕ))
+    → s.inquiry.choice ≡ Some choice → IsChosen s.answers choice shown → text ≡ line_or_none shown → Tells sources s s.inquiry.choice text
+tells_chosen sources s choice text shown is chosen line = rw is (record { shown = shown; chosen = chosen; line = line })

@@ -3,8 +3,6 @@ ghost use Rattle.std.specs.Prelude.{◌≡◌, Ok, IfOk};
 
 use lab_arguments::Shown;
 use lab_io::Output;
-use lab_questions::Word;
-use lc3_messages::Report;
 use std::alloc::{AllocError, AllocFailed, Global};
 use std::fmt::{self, Display};
 use std::io::Write;
@@ -51,11 +49,7 @@ impl Misuse {
 
     /// The complaint about the word that is misused.
     pub fn of(self, word: &str) -> Complaint<'_> {
-        Complaint {
-            place: word,
-            text: Text::Misuse(self),
-            explanation: None,
-        }
+        Complaint::saying(word, Text::Misuse(self))
     }
 }
 
@@ -67,26 +61,6 @@ pub enum Reason {
     NotItsSource { process: usize },
     #[error("not UTF-8")]
     NotUtf8,
-    #[error("incomplete")]
-    Incomplete,
-    #[error("endless")]
-    Endless,
-    #[error("ended")]
-    Ended,
-    #[error("stuck")]
-    Stuck,
-    /// An end isn't as a word requires.
-    #[error("not {}", .0.text())]
-    Not(Word),
-    /// What is required of an output isn't so at an end.
-    #[error("not out")]
-    Unwritten,
-    /// What is asked of calls isn't so on a way.
-    #[error("uncalled")]
-    Uncalled,
-    /// What must never be so was reached.
-    #[error("reached")]
-    Reached,
     #[error("NoEnd")]
     NoEnd,
     #[error("cannot write")]
@@ -98,11 +72,7 @@ pub enum Reason {
 impl Reason {
     /// The complaint about this at a place.
     pub fn at(self, place: &str) -> Complaint<'_> {
-        Complaint {
-            place,
-            text: Text::Reason(self),
-            explanation: None,
-        }
+        Complaint::saying(place, Text::Reason(self))
     }
 }
 
@@ -158,23 +128,22 @@ impl<'a> Complaint<'a> {
     /// The complaint about a fault at a place, or about want of memory where none is left for its text.
     pub fn new<F: Display + Drop>(alloc: Global, place: &'a str, fault: F) -> Complaint<'a> {
         match format!(in alloc; "{fault}") {
-            Ok(text) => Complaint {
-                place,
-                text: Text::Made(text),
-                explanation: None,
-            },
+            Ok(text) => Complaint::saying(place, Text::Made(text)),
             Err(_) => Reason::NoMemory.at("run"),
+        }
+    }
+
+    fn saying(place: &'a str, text: Text) -> Complaint<'a> {
+        Complaint {
+            place,
+            text,
+            explanation: None,
         }
     }
 
     /// Whether the words of the command line are wrong.
     pub fn is_of_words(&self) -> bool {
         matches!(self.text, Text::Misuse(_))
-    }
-
-    /// The complaint with the messages about its source, if there are any, unless it is of memory.
-    pub fn explained(self, report: Option<Report>) -> Complaint<'a> {
-        self.followed(report.map(|report| report.text))
     }
 
     /// The complaint with further lines about it, each with its line feed, if there are any, unless it is of memory.

@@ -2,8 +2,9 @@
 ghost use Rattle.std.specs.Prelude.{◌≡◌, true, false, IfOk, OnOk, OnErr, string_bytes};
 ghost use Rattle.std.specs.Option.{option_map, option_copied};
 ghost use Rattle.lab_commands.specs.Complaints.{asks_verdict_alone, failure_of, complains};
-ghost use Rattle.lab_commands.specs.Told.{numbered_end, IsChosen, TellsChosen, Tells, HasTold, HasBegun};
+ghost use Rattle.lab_commands.specs.Told.{numbered_end, IsChosen, Tells, HasTold, HasBegun};
 
+use crate::advice::advice_line;
 use crate::complaint::{Complaint, Reason};
 use crate::explore::Search;
 use crate::files::write_bytes;
@@ -19,7 +20,7 @@ use std::io::Write;
 
 /// Writes what was found, with where processes stand in these sources, says which objects that conditions name nobody opens,
 /// and complains where memory was refused on the way, or not all is as it has to be.
-#[tactic(auto, using(crate::proofs::TellingLemmas::all_begun))]
+#[tactic(auto, using(crate::proofs::TellingLemmas::nothing_told, crate::proofs::TellingLemmas::has_told, crate::proofs::TellingLemmas::has_begun, crate::proofs::TellingLemmas::all_begun))]
 pub fn tell_ends<T, W: Write, P: Progress>(
     job: &Job<'_, T, P>,
     sources: &[Option<Numbered<'_>>],
@@ -33,33 +34,15 @@ pub fn tell_ends<T, W: Write, P: Progress>(
         (W.contents output.old.device) (W.contents output.new.device)) }
     ensures passes { OnOk result (complains search.now ≡ false) }
 {
-    write_told(job.alloc, sources, search, output)?;
+    write_bytes(&told_of(job.alloc, sources, search)?, output)?;
     for object in &search.answers.unopened {
-        let line = format!(in job.alloc; "lc3lab: explore: nobody opens {object}\n")?;
-        job.progress.tell(&line);
+        let told = format_args!("explore: nobody opens {object}");
+        job.progress.tell(&advice_line(job.alloc, told, None)?);
     }
-    complain(job.alloc, search)?;
-    Ok(())
+    complain(job.alloc, search)
 }
 
-#[tactic(auto, using(crate::proofs::TellingLemmas::nothing_told, crate::proofs::TellingLemmas::has_told, crate::proofs::TellingLemmas::has_begun))]
-fn write_told<W: Write>(
-    alloc: Global,
-    sources: &[Option<Numbered<'_>>],
-    search: &Search,
-    output: &mut Output<W>,
-) -> Result<(), Complaint<'static>>
-    requires output_healthy { output.old.failed ≡ false }
-    ensures told { OnOk result (HasTold sources.now search.now
-        (W.contents output.old.device) (W.contents output.new.device)) }
-    ensures prefix { OnErr result (HasBegun sources.now search.now
-        (W.contents output.old.device) (W.contents output.new.device)) }
-{
-    let told = told_of(alloc, sources, search)?;
-    write_bytes(&told, output)?;
-    Ok(())
-}
-
+#[tactic(auto, using(crate::proofs::TellingLemmas::tells_chosen))]
 fn told_of(
     alloc: Global,
     sources: &[Option<Numbered<'_>>],
@@ -70,30 +53,16 @@ fn told_of(
 {
     let found = &search.answers;
     match search.inquiry.choice {
-        Some(choice) => chosen_line(alloc, found, choice),
+        Some(choice) => match chosen_schedule(alloc, found, choice)? {
+            Some(text) => Ok(format!(in alloc; "{text}\n")?.into_bytes()),
+            None => Ok(Vec::new(alloc)),
+        },
         None if search.inquiry.json => {
             let reach = search.inquiry.reach;
             Ok(answers_json(alloc, found, reach, search.limit.as_ref())?.into_bytes())
         }
         None => Ok(placed(alloc, sources, found.text.as_bytes())?),
     }
-}
-
-/// The schedule that is chosen, as a line, if there is one.
-#[tactic(auto, using(crate::proofs::TellingLemmas::tells_chosen))]
-fn chosen_line(
-    alloc: Global,
-    found: &Answers,
-    choice: Choice,
-) -> Result<Vec<u8>, Complaint<'static>>
-    ensures told { IfOk result (λ bytes. TellsChosen found.now choice bytes.items) }
-{
-    let Some(text) = chosen_schedule(alloc, found, choice)? else {
-        return Ok(Vec::new(alloc));
-    };
-    let mut bytes = text.into_bytes();
-    bytes.push(b'\n')?;
-    Ok(bytes)
 }
 
 /// The text of a schedule that is chosen, if there is one: what isn't as it has to be has none where all is so, and an end, which
@@ -160,37 +129,34 @@ fn complain(alloc: Global, search: &Search) -> Result<(), Complaint<'static>>
     ensures none { OnOk result (complains search.now ≡ false) }
     ensures some { OnErr result (complains search.now ≡ true) }
 {
-    let found = &search.answers;
-    let refused = found.exploration.refused;
-    let judges = found.asked.judges();
+    let asked = &search.answers.asked;
+    let refused = search.answers.exploration.refused;
+    let judges = asked.judges();
     match failure_of(search) {
-        Some(Failure::Not(Word::Ended)) if is_of_verdict(search) => {
-            Err(Reason::Stuck.at("explore"))
-        }
-        Some(Failure::Not(Word::Stuck)) if is_of_verdict(search) => {
-            Err(Reason::Ended.at("explore"))
-        }
-        Some(Failure::Not(word)) => Err(Reason::Not(word).at("explore")),
-        Some(Failure::Output(number)) => Err(match found.asked.outputs.get(number) {
-            Some(need) => Complaint::new(alloc, "explore", format_args!("not {}", need.text)),
-            None => Reason::Unwritten.at("explore"),
-        }),
-        Some(Failure::Reached(number)) => Err(match found.asked.never.get(number) {
-            Some(condition) => {
-                Complaint::new(alloc, "explore", format_args!("reached {condition}"))
-            }
-            None => Reason::Reached.at("explore"),
-        }),
-        Some(Failure::Endless) => Err(Reason::Endless.at("explore")),
-        Some(Failure::Call(number)) => Err(match found.asked.call_words.get(number) {
-            Some(word) => {
-                let head = if word.never { "reached" } else { "uncalled" };
-                Complaint::new(alloc, "explore", format_args!("{head} {}", word.text))
-            }
-            None => Reason::Uncalled.at("explore"),
-        }),
         Some(Failure::Incomplete) if refused => Err(Reason::NoMemory.at("run")),
-        Some(Failure::Incomplete) if judges => Err(Reason::Incomplete.at("explore")),
+        Some(Failure::Incomplete) if judges => Err(unmet(alloc, "incomplete", "")),
         Some(Failure::Incomplete) | None => Ok(()),
+        Some(Failure::Endless) => Err(unmet(alloc, "endless", "")),
+        Some(Failure::Not(Word::Ended)) if is_of_verdict(search) => Err(unmet(alloc, "stuck", "")),
+        Some(Failure::Not(Word::Stuck)) if is_of_verdict(search) => Err(unmet(alloc, "ended", "")),
+        Some(Failure::Not(word)) => Err(unmet(alloc, "not ", word.text())),
+        Some(Failure::Output(number)) => {
+            let need = asked.outputs.get(number);
+            Err(unmet(alloc, "not ", need.map_or("out", |need| need.text.as_str())))
+        }
+        Some(Failure::Reached(number)) => {
+            let never = asked.never.get(number);
+            Err(unmet(alloc, "reached ", never.map_or("", |never| never.text())))
+        }
+        Some(Failure::Call(number)) => {
+            let word = asked.call_words.get(number);
+            let text = word.map_or("", |word| word.text.as_str());
+            let is_never = word.is_some_and(|word| word.never);
+            Err(unmet(alloc, if is_never { "reached " } else { "uncalled " }, text))
+        }
     }
+}
+
+fn unmet(alloc: Global, head: &str, text: &str) -> Complaint<'static> {
+    Complaint::new(alloc, "explore", format_args!("{head}{text}"))
 }
