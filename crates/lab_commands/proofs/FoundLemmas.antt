@@ -13,7 +13,7 @@ use Rattle.lab_questions.specs.Programs.{AlwaysMeet, IsRefuted}
 use Rattle.lab_questions.specs.Texts.{schedule_at}
 use Rattle.lab_questions.specs.declared.asked.Asked.{Asked}
 use Rattle.lab_questions.specs.declared.answers.Answers.{Answers}
-use Rattle.lab_commands.specs.Found.{AreTrue, AreAll, IsTrueText, IsSearched, AreWalked}
+use Rattle.lab_commands.specs.Found.{AreTrue, IsSearched, AreWalked}
 
 -- what is told as unmet is refuted
 are_true : (start : WorldState) (asked : Asked) (a : Answers)
@@ -28,54 +28,7 @@ are_true : (start : WorldState) (asked : Asked) (a : Answers)
 are_true start asked a waiters outputs ends refuted unwritten =
     record { ends = ends; refuted = rw waiters refuted; unwritten = rw outputs unwritten }
 
--- what a complete search tells
-are_all : (start : WorldState) (asked : Asked) (a : Answers)
-    → a.asked.waiters.items ≡ asked.waiters.items
-    → a.asked.outputs.items ≡ asked.outputs.items
-    → a.asked.never.items ≡ asked.never.items
-    → HaveAllEnds start a.exploration.ends.items
-    → All (λ x. x.fault ≡ None → AlwaysMeet x.word asked.waiters.items start) a.answers.items
-    → Alongside (λ need fault. fault ≡ None → AlwaysWritten need start) asked.outputs.items a.output_faults.items
-    → AreKept start asked.never.items a.exploration.reached.items
-    → AreAll start a
-are_all start asked a waiters outputs never ends met written unreached =
-    record { ends = ends; met = rw waiters met; written = rw outputs written; unreached = rw never unreached }
-
--- what a search tells is so
-is_searched : (start : WorldState) (asked : Asked) (a : Answers)
-    → a.asked.waiters.items ≡ asked.waiters.items
-    → a.asked.outputs ≡ asked.outputs
-    → a.asked.never.items ≡ asked.never.items
-    → a.asked.wanted ≡ asked.wanted
-    → a.asked.show ≡ asked.show
-    → a.asked.fair ≡ asked.fair
-    → AreEnds start a.exploration.ends.items
-    → All (λ x. IfSome x.fault (λ i. IsRefuted x.word asked.waiters.items start (schedule_at a.exploration.ends.items 0)
-    (schedule_at a.exploration.ends.items i))) a.answers.items
-    → Alongside (λ need fault. IfSome fault (λ i. IsOutputRefuted need start (schedule_at a.exploration.ends.items i)))
-    asked.outputs.items a.output_faults.items
-    → (IsTrue a.exploration.complete → HaveAllEnds start a.exploration.ends.items)
-    → (IsTrue a.exploration.complete
-    → All (λ x. x.fault ≡ None → AlwaysMeet x.word asked.waiters.items start) a.answers.items)
-    → (IsTrue a.exploration.complete
-    → Alongside (λ need fault. fault ≡ None → AlwaysWritten need start) asked.outputs.items a.output_faults.items)
-    → (IsTrue a.exploration.complete → AreKept start asked.never.items a.exploration.reached.items)
-    → (SaysComplete (string_bytes a.text) → TellsEveryEnd asked.show start (string_bytes a.text))
-    → (SaysComplete (string_bytes a.text) → (SaysStuck (string_bytes a.text) → ⊥) → NeverStuck start)
-    → (asked.fair ≡ false → SaysComplete (string_bytes a.text) → (SaysEndless (string_bytes a.text) → ⊥) → AreBounded start)
-    → AreReached start asked.never.items a.exploration.reached.items
-    → AreAllWays start asked.wanted.items a.ways.items
-    → IsSearched start a
-is_searched start asked a waiters outputs never wanted show fair ends refuted unwritten all met written kept says_all says_free says_bounded reached ways =
-    record {
-      sound = are_true start asked a waiters (ap (λ o. o.items) outputs) ends refuted unwritten;
-      complete = λ c. are_all start asked a waiters (ap (λ o. o.items) outputs) never (all c) (met c) (written c) (kept c);
-      text = record { all = rw show says_all; free = says_free; bounded = rw fair says_bounded };
-      reached = rw never reached;
-      ways = rw wanted ways;
-    }
-
--- the same of what is asked, where it is answered
+-- what a search tells of what is asked is so
 pub searched_in : (start : WorldState) (asked : Asked) (r : Result Answers ExploreFault)
     → IfOk r (λ a. a.asked.waiters.items ≡ asked.waiters.items)
     → IfOk r (λ a. a.asked.outputs ≡ asked.outputs)
@@ -102,7 +55,13 @@ pub searched_in : (start : WorldState) (asked : Asked) (r : Result Answers Explo
     → IfOk r (λ a. IsSearched start a)
 searched_in start asked (Err e) waiters outputs never wanted show fair ends refuted unwritten all met written kept says_all says_free says_bounded reached ways = tt
 searched_in start asked (Ok a) waiters outputs never wanted show fair ends refuted unwritten all met written kept says_all says_free says_bounded reached ways =
-    is_searched start asked a waiters outputs never wanted show fair ends refuted unwritten all met written kept says_all says_free says_bounded reached ways
+    record {
+      sound = are_true start asked a waiters (ap (λ o. o.items) outputs) ends refuted unwritten;
+      complete = λ c. record { ends = all c; met = rw waiters (met c); written = rw (ap (λ o. o.items) outputs) (written c); unreached = rw never (kept c) };
+      text = record { all = rw show says_all; free = says_free; bounded = rw fair says_bounded };
+      reached = rw never reached;
+      ways = rw wanted ways;
+    }
 
 -- what walks tell is so
 pub are_walked : (start : WorldState) (asked : Asked) (a : Answers)

@@ -4,7 +4,7 @@ use crate::job::Job;
 use lc3_word::unsigned;
 use std::fmt;
 use std::rt::Files;
-use std::time::{Clock, Instant};
+use std::time::{Clock, Duration, Instant};
 
 /// The file in which Linux tells how many pages of memory the program has: its second word.
 const PAGES: &str = "/proc/self/statm";
@@ -15,19 +15,15 @@ const PAGES_IN_A_MEGABYTE: u32 = 256;
 /// `0.6 s and 40 MB`.
 #[derive(Clone, Copy)]
 pub struct SearchCost {
-    tenths_of_seconds: u64,
+    took: Duration,
     megabytes: Option<u32>,
 }
 
 impl SearchCost {
     /// What was spent since then.
     pub fn since<T: Files + Clock, P>(job: &Job<'_, T, P>, began: Instant) -> Option<SearchCost> {
-        let took = began.elapsed(job.rt).ok()?;
         Some(SearchCost {
-            tenths_of_seconds: took
-                .as_secs()
-                .saturating_mul(10)
-                .saturating_add(u64::from(took.subsec_millis() / 100)),
+            took: began.elapsed(job.rt).ok()?,
             megabytes: megabytes_now(job),
         })
     }
@@ -35,8 +31,8 @@ impl SearchCost {
 
 impl fmt::Display for SearchCost {
     fn fmt<W: fmt::Write>(&self, f: &mut fmt::Formatter<W>) -> fmt::Result {
-        let seconds = self.tenths_of_seconds / 10;
-        let tenths = self.tenths_of_seconds % 10;
+        let seconds = self.took.as_secs();
+        let tenths = self.took.subsec_millis() / 100;
         write!(f, "{seconds}.{tenths} s")?;
         match self.megabytes {
             Some(megabytes) => write!(f, " and {megabytes} MB"),

@@ -9,7 +9,7 @@ use crate::inquiry::{Inquiry, asked_of, inquiry_of};
 use crate::job::Job;
 use crate::programs::{Programs, laboratory};
 use crate::progress::{Progress, SearchCount, WALKS, WORLDS};
-use crate::stages::{has_more, stages_of};
+use crate::stages::{has_more, most_of, stage_of, stages_of};
 use lab_arguments::Question;
 use lab_questions::{Answers, Asked, LimitMet, Reach, ask, ask_walks};
 use lab_sched::Fresh;
@@ -41,8 +41,12 @@ pub fn find_ends<'a, T: Threads + Sync, P: Progress>(
 {
     let inquiry = inquiry_of(question);
     if question.first {
-        for stage in &stages_of(job.alloc, &inquiry)? {
-            let search = searched(job, given, profile, question, *stage)?;
+        let most = most_of(inquiry.reach);
+        for stage in stages_of(inquiry.reach)
+            .iter()
+            .filter(|stage| **stage < most)
+        {
+            let search = searched(job, given, profile, question, stage_of(&inquiry, *stage))?;
             if !has_more(&search) {
                 return Ok(search);
             }

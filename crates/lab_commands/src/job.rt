@@ -33,13 +33,7 @@ impl<'a, T, P> Job<'a, T, P> {
     pub fn noting(&self, notes: Notes) -> Job<'a, T, P>
         ensures job { result ≡ record self.now { notes = notes } }
     {
-        Job {
-            rt: self.rt,
-            alloc: self.alloc,
-            progress: self.progress,
-            texts: self.texts,
-            notes,
-        }
+        Job { notes, ..*self }
     }
 }
 

@@ -43,11 +43,8 @@ pub fn limit_met<T, P: Progress>(
         return Ok(None);
     }
     let visited = found.worlds;
-    let more = if visited < MOST_WORLDS {
-        Some(visited.saturating_mul(100).min(MOST_WORLDS))
-    } else {
-        None
-    };
+    let next = visited.saturating_mul(100).min(MOST_WORLDS);
+    let more = (visited < MOST_WORLDS).then_some(next);
     Ok(Some(LimitMet::Worlds { visited, more }))
 }
 
@@ -58,21 +55,22 @@ fn limit_of_steps(
     profile: Profile,
     limits: Limits,
 ) -> Result<LimitMet, Complaint<'static>> {
-    let fresh = laboratory(alloc, given.programs.as_slice(), profile)?;
-    let steps = limits.steps;
-    let Some(Loop { process, pc, word }) = loop_in(World::from(fresh), steps) else {
-        let memory = limits.memory;
-        return Ok(LimitMet::StepsOrMemory { steps, memory });
-    };
-    let source = given
-        .sources
-        .get(process)
-        .and_then(|source| source.as_ref());
-    Ok(LimitMet::Steps {
-        process,
-        steps,
-        standing: standing_at(alloc, source, pc, word)?,
-    })
+    let Limits { steps, memory, .. } = limits;
+    let mut world = World::from(laboratory(alloc, given.programs.as_slice(), profile)?);
+    if let Some(process) = loop_in(&mut world, steps)
+        && let Some(stopped) = world.process(process)
+    {
+        let source = given.sources.get(process);
+        let source = source.and_then(|source| source.as_ref());
+        let machine = stopped.machine();
+        let pc = machine.pc();
+        return Ok(LimitMet::Steps {
+            process,
+            steps,
+            standing: standing_at(alloc, source, pc, machine.word(pc))?,
+        });
+    }
+    Ok(LimitMet::StepsOrMemory { steps, memory })
 }
 
 /// Where an address stands: its nearest label and its line, as far as there is a source with such, and else the address.
@@ -93,15 +91,6 @@ pub fn standing_at(
     })
 }
 
-/// A process that took too many steps without a call, and where it stands behind them.
-#[derive(Clone, Copy)]
-struct Loop {
-    process: usize,
-    pc: u16,
-    /// The word there.
-    word: u16,
-}
-
 /// What a process does in its turn.
 enum Turn {
     /// It has called the kernel, or has ended.
@@ -114,24 +103,15 @@ enum Turn {
 
 /// A process that takes so many steps without a call, if there is one as the processes of a world take turns, each to its next
 /// call, for some time. A call that is refused before the kernel is asked counts as none.
-fn loop_in(world: World, most: u32) -> Option<Loop> {
-    let mut world = world;
+fn loop_in(world: &mut World, most: u32) -> Option<usize> {
     let mut left = most.saturating_mul(4).max(LEAST_TAKEN);
     for _round in 0..left {
         let mut goes_on = false;
         for process in 0..world.count() {
-            match turn_of(&mut world, process, most, &mut left)? {
+            match turn_of(world, process, most, &mut left)? {
                 Turn::Calls => goes_on = true,
                 Turn::Rests => (),
-                Turn::Loops => {
-                    let machine = world.process(process)?.machine();
-                    let pc = machine.pc();
-                    return Some(Loop {
-                        process,
-                        pc,
-                        word: machine.word(pc),
-                    });
-                }
+                Turn::Loops => return Some(process),
             }
         }
         if !goes_on {

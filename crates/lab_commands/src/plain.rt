@@ -1,19 +1,9 @@
 //! What processes have written, as it is.
 ghost use Rattle.std.specs.Prelude.{◌≡◌, ◌++◌, OnOk, IfOk, string_bytes};
-ghost use Rattle.lab_commands.specs.Plain.{as_lines, name_line, plain_part, plain_output};
+ghost use Rattle.lab_commands.specs.Plain.{name_line, plain_part, plain_output};
 
 use lab_sched::World;
 use std::alloc::{AllocError, Global};
-
-fn push_lines(bytes: &mut Vec<u8>, output: &[u8]) -> Result<(), AllocError>
-    ensures bytes { OnOk result (bytes.new.items ≡ bytes.old.items ++ as_lines output.now) }
-{
-    bytes.extend_from_slice(output)?;
-    match output.last() {
-        Some(b'\n') | None => Ok(()),
-        Some(_) => bytes.extend_from_slice(b"\n"),
-    }
-}
 
 fn name_line(alloc: Global, count: usize, pid: usize) -> Result<String, AllocError>
     ensures text { IfOk result (λ s. string_bytes s ≡ name_line count pid) }
@@ -34,9 +24,14 @@ fn push_process(
     ensures bytes { OnOk result (bytes.new.items ≡ bytes.old.items ++ plain_part pid world.now) }
 {
     bytes.extend_from_slice(name_line(alloc, world.count(), pid)?.as_bytes())?;
-    match world.process(pid) {
-        Some(process) => push_lines(bytes, process.machine().output()),
-        None => Ok(()),
+    let Some(process) = world.process(pid) else {
+        return Ok(());
+    };
+    let output = process.machine().output();
+    bytes.extend_from_slice(output)?;
+    match output.last() {
+        Some(b'\n') | None => Ok(()),
+        Some(_) => bytes.extend_from_slice(b"\n"),
     }
 }
 

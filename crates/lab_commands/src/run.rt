@@ -1,9 +1,9 @@
 //! The command `run`.
-ghost use Rattle.std.specs.Prelude.{◌≡◌, ◌≤◌, ◌++◌, ℕ, List, false, IfOk, OnOk, string_bytes};
+ghost use Rattle.std.specs.Prelude.{◌≡◌, ◌≤◌, ℕ, List, false, IfOk, OnOk, string_bytes};
 ghost use Rattle.std.specs.Io.KnownBytes.{Appends};
 ghost use Rattle.lab_sched.specs.Worlds.{run};
 ghost use Rattle.lab_sched.specs.Schedules.{steps_of};
-ghost use Rattle.lab_commands.specs.Runs.{behind_blank, run_text, run_bytes, IsToldRun};
+ghost use Rattle.lab_commands.specs.Runs.{run_text, run_bytes, IsToldRun};
 ghost use Rattle.lab_threads.specs.Limits.{most_steps_each};
 
 use crate::complaint::{At, Complaint};

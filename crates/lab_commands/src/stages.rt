@@ -3,24 +3,29 @@ use crate::explore::Search;
 use crate::inquiry::Inquiry;
 use lab_questions::{Failure, Reach};
 use lab_worlds::Walks;
-use std::alloc::{AllocError, Global};
 
-/// How many worlds a search visits at first, and then, one number after the other, as long as nothing is found.
 const WORLDS: [u32; 7] = [1_000, 4_000, 16_000, 64_000, 256_000, 1_024_000, 4_096_000];
 
-/// How many walks are taken at first, and then, one number after the other, as long as nothing is found.
 const WALKS: [u32; 6] = [10, 100, 1_000, 10_000, 100_000, 1_000_000];
 
 /// How many worlds a search visits at most, or how many walks are taken.
-fn most_of(reach: Reach) -> u32 {
+pub(crate) fn most_of(reach: Reach) -> u32 {
     match reach.walks {
         Some(walks) => walks.count,
         None => reach.limits.worlds,
     }
 }
 
+/// How many worlds are visited at first, or how many walks are taken, and then, as long as nothing is found.
+pub(crate) fn stages_of(reach: Reach) -> &'static [u32] {
+    match reach.walks {
+        Some(_) => &WALKS,
+        None => &WORLDS,
+    }
+}
+
 /// A search that comes before another, of so many worlds or walks.
-fn stage_of(inquiry: &Inquiry, most: u32) -> Inquiry {
+pub(crate) fn stage_of(inquiry: &Inquiry, most: u32) -> Inquiry {
     let mut reach = inquiry.reach;
     reach.is_stage = true;
     match reach.walks {
@@ -33,19 +38,6 @@ fn stage_of(inquiry: &Inquiry, most: u32) -> Inquiry {
         None => reach.limits.worlds = most,
     }
     Inquiry { reach, ..*inquiry }
-}
-
-/// The searches that come before a search, each of which goes less far than the next.
-pub(crate) fn stages_of(alloc: Global, inquiry: &Inquiry) -> Result<Vec<Inquiry>, AllocError> {
-    let counts: &[u32] = match inquiry.reach.walks {
-        Some(_) => &WALKS,
-        None => &WORLDS,
-    };
-    counts
-        .iter()
-        .filter(|most| **most < most_of(inquiry.reach))
-        .map(|most| stage_of(inquiry, *most))
-        .collect(alloc)
 }
 
 /// Whether a search that goes further than this one has something to find: it went as far as it was to go, without visiting

@@ -60,11 +60,8 @@ pub fn read_schedule<T, R: Read, P: Progress>(
     let Ok(text) = str::from_utf8(bytes.as_slice()) else {
         return Err(Reason::NotUtf8.at("schedule"));
     };
-    match Schedule::read(job.alloc, text) {
-        Ok(schedule) => Ok(schedule),
-        Err(fault) => {
-            let complaint = Complaint::new(job.alloc, "schedule", fault);
-            Err(complaint.followed(block_advice(job, text, fault)))
-        }
-    }
+    Schedule::read(job.alloc, text).map_err(|fault| {
+        let complaint = Complaint::new(job.alloc, "schedule", fault);
+        complaint.followed(block_advice(job, text, fault))
+    })
 }
