@@ -1,12 +1,10 @@
 -- What a page shows of a search.
-use Rattle.std.specs.Prelude.{◌≡◌, ◌⊎◌, Bool, true, false, List, All, IsTrue, is_some, map}
+use Rattle.std.specs.Prelude.{◌≡◌, ◌⊎◌, List, All, IsTrue, is_some, map}
 use Rattle.lab_sched.specs.Worlds.{WorldState}
 use Rattle.lab_worlds.specs.declared.exploration.Exploration.{Exploration}
 use Rattle.lab_pictures.specs.Pictures.{IsNode, IsStep, HaveAllSteps, BeginsAt}
 use Rattle.lab_pictures.specs.declared.picture.Arrow.{Arrow}
 use Rattle.lab_pictures.specs.declared.picture.Node.{Node}
-use Rattle.lab_ways.specs.declared.ways.Ways.{Ways}
-use Rattle.lab_ways.specs.declared.ways.Ways.TheVariants.{Always, Without, Unknown}
 use Rattle.lab_page.specs.declared.worlds.WorldEdge.{WorldEdge}
 use Rattle.lab_questions.specs.Programs.{AsksRest}
 use Rattle.lab_questions.specs.declared.answers.Answer.{Answer}
@@ -28,9 +26,3 @@ pub record ArePictured (start : WorldState) (edges : List WorldEdge) : Type 0 wh
 -- it was found that not all is as a word requires: an end isn't, or some run never ends, and the word asks that each does
 abbrev pub IsUnmet : Exploration → Answer → Type 0
 IsUnmet found a = IsTrue (is_some a.fault) ⊎ (AsksRest a.word × IsTrue (is_some found.lasso))
-
--- a way shows that what is asked of calls isn't so
-abbrev pub is_against : Ways → Bool
-is_against Always = false
-is_against (Without schedule) = true
-is_against Unknown = false
