@@ -16,12 +16,10 @@ pub fn run_meant<T: Files, P>(
     if !is_file(job.rt, file) {
         return Ok(None);
     }
-    let file = Shown(file);
-    let mut line = format!(in job.alloc; "lc3lab: {file}: is a file; did you mean lc3lab run")?;
-    for word in words {
-        let word = Shown(word);
-        write!(line, " {word}")?;
-    }
-    line.push_str("?\n")?;
+    let words = words.join(job.alloc, " ")?;
+    let (file, words) = (Shown(file), Shown(&words));
+    let line = format!(in job.alloc;
+        "lc3lab: {file}: is a file; did you mean lc3lab run {words}?\n"
+    )?;
     Ok(Some(line))
 }

@@ -100,10 +100,10 @@ pub fn run_programs<
     let given = Given::read_filled(job, setup, files, input)?;
     let report = run_given(job, &given.programs, setup.profile, manner, output)?;
     given.tell_notes(&[&report.schedule]);
-    if let Some(page) = manner.page {
-        given.write_page(page, &report.schedule)?;
+    match manner.page {
+        Some(page) => given.write_page(page, &report.schedule).map(|_| ()),
+        None => Ok(()),
     }
-    Ok(())
 }
 
 /// Carries out the commands that come from the input on programs, and then tells notes of the steps that were taken, where

@@ -52,13 +52,14 @@ impl<T, P: Progress> Explored<'_, '_, T, P> {
         let Some(limit) = &self.search.limit else {
             return Ok(());
         };
-        let told = format!(in job.alloc; "{limit}")?;
-        let line = match (limit, self.search.cost, told.strip_suffix(')')) {
-            (LimitMet::Worlds { .. }, Some(cost), Some(front)) => {
-                format!(in job.alloc; "lc3lab: note: {front}; these took {cost})\n")?
-            }
-            _ => format!(in job.alloc; "lc3lab: note: {told}\n")?,
-        };
+        let mut line = format!(in job.alloc; "lc3lab: note: {limit}")?;
+        if let (LimitMet::Worlds { .. }, Some(cost)) = (limit, self.search.cost)
+            && line.ends_with(')')
+        {
+            line.pop();
+            write!(line, "; these took {cost})")?;
+        }
+        line.push_str("\n")?;
         job.progress.tell(&line);
         Ok(())
     }

@@ -1,7 +1,7 @@
 //! Notes of what goes wrong in a run and isn't told of it: calls that were refused, and warnings of sources.
 use crate::given::Given;
 use lab_arguments::program_of;
-use lab_commands::{Complaint, Job, Progress, messages_if, standing_at};
+use lab_commands::{Job, Progress, messages_if, standing_at};
 use lab_notes::{Refusal, noted, push_more, push_note};
 use lab_sched::{Schedule, World};
 use lab_sources::Source;
@@ -45,23 +45,25 @@ impl<T, P: Progress> Given<'_, '_, T, P> {
 
     /// Tells the notes of runs of the programs, where notes are told. Where memory is refused, there are fewer.
     pub fn tell_notes(&self, schedules: &[&Schedule]) {
-        if self.job.tells_notes() {
-            let _ = self.tell_each(schedules);
+        if !self.job.tells_notes() {
+            return;
         }
-    }
-
-    fn tell_each(&self, schedules: &[&Schedule]) -> Result<(), Complaint<'static>> {
         let sources = self.programs.sources.iter();
-        let sources = sources
+        let Ok(sources) = sources
             .map(|source| source.as_ref())
-            .collect(self.job.alloc)?;
+            .collect(self.job.alloc)
+        else {
+            return;
+        };
         let mut notes = Notes::new(self.job, sources);
         for schedule in schedules {
-            if !notes.tell(self.world()?, schedule)? {
-                return Ok(());
-            }
+            let Ok(world) = self.world() else {
+                return;
+            };
+            let Ok(true) = notes.tell(world, schedule) else {
+                return;
+            };
         }
-        Ok(())
     }
 }
 
