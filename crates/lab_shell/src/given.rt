@@ -90,8 +90,12 @@ pub fn page_files<'a, T: Files, P>(
         return Ok(Vec::new(job.alloc));
     };
     let files = source_files(job.alloc, words, setup.programs.len())?;
-    let words = setup.programs.as_slice();
-    if words.iter().any(|word| is_of_program(job.rt, page, word))
+    let is_of_program = setup.programs.iter().any(|word| {
+        let (program, console) = program_of(word);
+        is_same_file(job.rt, page, program)
+            || matches!(console, Console::File(input) if is_same_file(job.rt, page, input))
+    });
+    if is_of_program
         || files.iter().any(|file| file.is_some_and(|file| is_same_file(job.rt, page, file)))
     {
         return Err(Misuse::OwnFile.of(page));
@@ -102,7 +106,7 @@ pub fn page_files<'a, T: Files, P>(
     Ok(files)
 }
 
-/// Of each of `count` processes the source file that one of the words names.
+/// Of each of `count` processes the source file that one of the words `P=FILE` names.
 fn source_files<'a>(
     alloc: Global,
     words: &[&'a str],
@@ -110,10 +114,8 @@ fn source_files<'a>(
 ) -> Result<Vec<Option<&'a str>>, Complaint<'a>> {
     let mut files = vec![in alloc; None; count]?;
     for word in words {
-        let Some((process, file)) = process_and_file(word) else {
-            return Err(Misuse::UnknownProcess.of(word));
-        };
-        match files.get_mut(process) {
+        let (process, file) = word.split_once('=').unwrap_or(("", ""));
+        match files.get_mut(process.parse::<usize>().unwrap_or(usize::MAX)) {
             None => return Err(Misuse::UnknownProcess.of(word)),
             Some(Some(_)) => return Err(Misuse::TwoSources.of(word)),
             Some(place) => *place = Some(file),
@@ -122,46 +124,40 @@ fn source_files<'a>(
     Ok(files)
 }
 
-/// The number and the file in a word `P=FILE`.
-fn process_and_file(word: &str) -> Option<(usize, &str)> {
-    let (process, file) = word.split_once('=')?;
-    Some((process.parse::<usize>().ok()?, file))
-}
-
-/// Whether a file is the program file or the input file that a word names.
-fn is_of_program<T: Files>(rt: &T, file: &str, word: &str) -> bool {
-    let (program, console) = program_of(word);
-    is_same_file(rt, file, program)
-        || matches!(console, Console::File(input) if is_same_file(rt, file, input))
-}
-
-/// The source of each process: that in its file, which is assembled to its program, and where no file is named the one that
-/// the program was given as, if it was.
 fn page_sources<'a, T: Files, P>(
     job: &Job<'_, T, P>,
     files: &[Option<&'a str>],
     given: &Programs,
 ) -> Result<Vec<Option<Source>>, Complaint<'a>> {
+    let files = files.iter().enumerate();
+    files
+        .map(|(process, file)| page_source(job, *file, process, given))
+        .try_collect(job.alloc)
+}
+
+/// What a page shows of the source of a process: of that in a file, which is assembled to its program, and where no file is named
+/// of the one that the program was given as, if it was.
+fn page_source<'a, T: Files, P>(
+    job: &Job<'_, T, P>,
+    file: Option<&'a str>,
+    process: usize,
+    given: &Programs,
+) -> Result<Option<Source>, Complaint<'a>> {
     let alloc = job.alloc;
-    let mut sources = Vec::new(alloc);
-    for (process, file) in files.iter().enumerate() {
-        let source = match (
-            *file,
-            given.programs.get(process),
-            given.sources.get(process),
-        ) {
-            (Some(file), Some(program), _) => {
-                Some(source_for(job, file, process, &program.image)?)
-            }
-            (_, _, Some(Some(source))) => {
-                let text = String::from_str(alloc, &source.text)?;
-                Some(source_of(alloc, text, &source.assembled)?)
-            }
-            _ => None,
-        };
-        sources.push(source)?;
+    match (
+        file,
+        given.programs.get(process),
+        given.sources.get(process),
+    ) {
+        (Some(file), Some(program), _) => {
+            Ok(Some(source_for(job, file, process, &program.image)?))
+        }
+        (_, _, Some(Some(source))) => {
+            let text = String::from_str(alloc, &source.text)?;
+            Ok(Some(source_of(alloc, text, &source.assembled)?))
+        }
+        _ => Ok(None),
     }
-    Ok(sources)
 }
 
 /// The source in a file, which is assembled to the image of a process.

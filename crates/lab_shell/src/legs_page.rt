@@ -5,7 +5,7 @@ use crate::ends_page::Explored;
 use lab_commands::{At, Complaint};
 use lab_page::Worlds;
 use lab_pictures::Picture;
-use lab_sched::{MOST_STEPS, Process, Schedule, World};
+use lab_sched::{MOST_STEPS, Schedule, World};
 use lab_worlds::ExploreFault;
 
 /// Steps of a process from the world behind a schedule, at least so many, until it is as in another world.
@@ -71,7 +71,12 @@ impl<'j, 'a, T, P> Explored<'j, 'a, T, P> {
         let most = self.search.inquiry.reach.limits.steps;
         let mut world = self.world_after(leg.schedule)?;
         for steps in 0..most.saturating_add(2) {
-            if steps >= leg.least && is_alike(world.process(leg.pid), leg.after.process(leg.pid)) {
+            if steps >= leg.least
+                && let Some(process) = world.process(leg.pid)
+                && let Some(after) = leg.after.process(leg.pid)
+                && process.machine().pc() == after.machine().pc()
+                && process.is_same(after)
+            {
                 return Ok(Some(steps));
             }
             if world.step(leg.pid).is_err() {
@@ -88,14 +93,5 @@ impl<'j, 'a, T, P> Explored<'j, 'a, T, P> {
             .map_err(|_| ExploreFault::Unvouched)
             .at(self.given.job.alloc, "run")?;
         Ok(world)
-    }
-}
-
-fn is_alike(process: Option<&Process>, other: Option<&Process>) -> bool {
-    match (process, other) {
-        (Some(process), Some(other)) => {
-            process.machine().pc() == other.machine().pc() && process.is_same(other)
-        }
-        _ => false,
     }
 }
