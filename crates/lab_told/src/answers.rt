@@ -36,7 +36,6 @@ fn error_in(word: u16) -> Option<Errno>
     }
 }
 
-/// What became of a call that had this reply.
 fn replied(reply: Reply) -> Outcome
     ensures outcome { result ≡ replied reply }
 {

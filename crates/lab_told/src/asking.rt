@@ -46,7 +46,6 @@ pub struct Observed {
     pub asking: Option<Asking>,
 }
 
-/// The call that process `pid` is about to make, if it makes one.
 fn asking_of(
     alloc: Global,
     kernel: &Kernel,

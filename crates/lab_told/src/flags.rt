@@ -23,7 +23,6 @@ pub fn has_flag(flag: u16, word: u16) -> bool
     word & flag != 0
 }
 
-/// This text, where a flag is set.
 fn where_set(flag: u16, word: u16, text: &'static str) -> &'static str
     ensures text { result.now ≡ (if has_flag flag word then text.now else []) }
 {

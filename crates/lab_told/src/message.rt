@@ -83,8 +83,7 @@ fn push_shown(text: &mut String, shown: &[u16], more: bool) -> Result<(), AllocE
     let words = Words(shown);
     let more = if more { " ..." } else { "" };
     let glyphs = Glyphs(shown);
-    write!(text, "[{words}{more}{glyphs}]")?;
-    Ok(())
+    write!(text, "[{words}{more}{glyphs}]")
 }
 
 /// Adds the words of a message.
@@ -109,8 +108,7 @@ pub fn push_buffer(
 {
     if !is_in_memory(at, len) {
         let at = Hex(at);
-        write!(text, "{at}")?;
-        return Ok(());
+        return write!(text, "{at}");
     }
     let words = read_words(*text.allocator(), process.machine(), at, len)?;
     push_message(text, words.as_slice())

@@ -55,7 +55,6 @@ fn is_unused(kernel: &Kernel, place: u8) -> bool
     }
 }
 
-/// Keeps where a message comes from that was sent.
 fn send(origins: &mut Vec<Origin>, origin: Origin) -> Result<(), AllocError>
     ensures kept { OnOk result (origins.new.items ≡ origins_with origin origins.old.items) }
 {

@@ -72,7 +72,6 @@ fn set(accounts: &mut Vec<Account>, pid: usize, account: Account)
     }
 }
 
-/// Keeps what a process gave by what it did in step `number`.
 fn keep_givers(givers: &mut Vec<Option<u32>>, number: u32, act: &Act)
     ensures kept { givers.new.items ≡ givers_after number (act_done act.now) givers.old.items }
 {

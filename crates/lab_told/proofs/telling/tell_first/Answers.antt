@@ -1,4 +1,4 @@
-use Rattle.std.proofs.Common.{◌+◌, rules, refl, sym, ap, ◌∙◌}
+use Rattle.std.proofs.Common.{◌+◌, rules, sym, ap, ◌∙◌}
 use Rattle.std.proofs.lemmas.Result.{err_from_is_err_and}
 use Rattle.lab_sched.specs.Worlds.{step}
 use Rattle.lab_told.specs.Scenes.{scene_at}
@@ -16,15 +16,7 @@ returns-clause-scene g c =
 
 pub returns-clause-told : goal.returns-clause-told
 returns-clause-told g c =
-    c.in_ok-tell_step.ensures.told (scene_at c.args.steps.first c.args.world.now c.args.tally.now) (record {
-      number = refl;
-      world = c.in_ok-told.ensures.world;
-      tally = c.in_ok-told.ensures.tally;
-      waited = search rules;
-      told = c.in_ok-told.ensures.told;
-      some = c.steps_told-count.ensures.some;
-      other = c.steps_told-count.ensures.other;
-    })
+    c.in_ok-tell_step.ensures.told (scene_at c.args.steps.first c.args.world.now c.args.tally.now) (search rules)
 
 pub returns-in_err-told-clause-fault : goal.returns-in_err-told-clause-fault
 returns-in_err-told-clause-fault g c =
@@ -35,12 +27,4 @@ returns-in_err-told-clause-fault g c =
 pub returns-in_err-tell_step-clause-fault : goal.returns-in_err-tell_step-clause-fault
 returns-in_err-tell_step-clause-fault g c =
     let p = err_from_is_err_and c.from_residual-in_err-tell_step.result c.from_residual-in_err-tell_step.ensures.1 in
-    rw (p.1, p.2) (c.in_err-tell_step.ensures.fault (scene_at c.args.steps.first c.args.world.now c.args.tally.now) (record {
-      number = refl;
-      world = c.in_ok-told.ensures.world;
-      tally = c.in_ok-told.ensures.tally;
-      waited = search rules;
-      told = c.in_ok-told.ensures.told;
-      some = c.steps_told-count.ensures.some;
-      other = c.steps_told-count.ensures.other;
-    }))
+    rw (p.1, p.2) (c.in_err-tell_step.ensures.fault (scene_at c.args.steps.first c.args.world.now c.args.tally.now) (search rules))
