@@ -1,20 +1,15 @@
 -- The steps between two lines.
-use Rattle.std.proofs.Common.{◌≡◌, ℕ, suc, ◌+◌, ◌==◌, ◌&&◌, Bool, true, false, List, [], ◌∷◌, length, set, inl, inr, refl, sym, ap, ◌∙◌, arith}
+use Rattle.std.proofs.Common.{◌≡◌, ℕ, suc, ◌+◌, Bool, true, false, List, length, set, inl, inr, sym, ap, ◌∙◌, arith}
 use Rattle.std.proofs.lemmas.Bool.{cases_lt}
 use Rattle.std.proofs.lemmas.List.{set-set, set_past, get_or-set_same}
 use Rattle.lab_told.specs.declared.told.Told.TheVariants.{Nothing}
-use Rattle.lab_moments.specs.Between.{no_steps, count_of, with_steps, idle_of, between_after, count_data, between_data}
-use Rattle.lab_moments.specs.Values.{list, natural}
+use Rattle.lab_moments.specs.Between.{no_steps, count_of, with_steps, idle_of, between_after, between_data}
 use Rattle.lab_moments.specs.declared.between.StepCount.{StepCount}
-use Rattle.lab_moments.proofs.PlainLemmas.{IsPlain, ArePlain, plain-below, plain-if}
-
-count-plain : (p : ℕ) (c : StepCount) → ArePlain (count_data p c)
-count-plain p c =
-    plain-if ((c.local == 0) && (c.idle == 0)) [] (list (natural p ∷ natural c.local ∷ natural c.idle ∷ []) ∷ []) refl refl
+use Rattle.lab_moments.proofs.PlainLemmas.{IsPlain, plain}
 
 pub between-plain : (b : List StepCount) → IsPlain (between_data b)
 unfolding between_data
-between-plain b = plain-below (length b) (λ p. count_data p (count_of b p)) (λ p. count-plain p (count_of b p))
+between-plain b = search plain
 
 abbrev counts : ℕ → ℕ → StepCount
 counts local idle = record { local = local; idle = idle }

@@ -2,7 +2,7 @@
 use Rattle.std.proofs.Common.{◌≡◌, ℕ, zero, suc, ◌||◌, Bool, true, false, if◌then◌else◌, Option, Some, None, List, [], ◌∷◌, ◌++◌, map, refl, ap, ◌∙◌}
 use Rattle.std.specs.Prelude.{IfSome}
 use Rattle.std.specs.Option.{option_map, option_to_list}
-use Rattle.serde_json.specs.Data.{Data, null}
+use Rattle.serde_json.specs.Data.{Data}
 use Rattle.serde_json.specs.View.{items_of}
 use Rattle.serde_json.specs.Written.{has_float, items_have_float}
 use Rattle.lab_moments.specs.Values.{natural, or_null, all_below}
@@ -38,10 +38,6 @@ unfolding all_below
 plain-below zero f h = refl
 plain-below (suc n) f h = plain-append (all_below n f) (f n) (plain-below n f h) (h n)
 
-pub number-plain : (o : Option ℕ) → IsPlain (or_null (option_map natural o))
-number-plain None = refl
-number-plain (Some n) = refl
-
 pub plain-map : {X : Type 0} (f : X → Data) (xs : List X) → ((x : X) → IsPlain (f x)) → ArePlain (map f xs)
 plain-map f [] h = refl
 plain-map f (x ∷ xs) h = both (has_float (f x)) (items_have_float (items_of (map f xs))) (h x) (plain-map f xs h)
@@ -51,16 +47,25 @@ plain-naturals ns = plain-map natural ns (λ n. refl)
 
 pub plain-some : {X : Type 0} (f : X → Data) (o : Option X) → ((x : X) → IsPlain (f x)) → ArePlain (option_to_list (option_map f o))
 plain-some f None h = refl
-plain-some f (Some x) h = plain-one (f x) (h x)
+plain-some f (Some x) h = both (has_float (f x)) false (h x) refl
+
+pub plain-or_null : {X : Type 0} (f : X → Data) (o : Option X) → ((x : X) → IsPlain (f x)) → IsPlain (or_null (option_map f o))
+plain-or_null f None h = refl
+plain-or_null f (Some x) h = h x
+
+pub number-plain : (o : Option ℕ) → IsPlain (or_null (option_map natural o))
+number-plain o = plain-or_null natural o (λ n. refl)
 
 pub plain-if : (b : Bool) (xs ys : List Data) → ArePlain xs → ArePlain ys → ArePlain (if b then xs else ys)
 plain-if true xs ys x y = x
 plain-if false xs ys x y = y
 
--- a value that is told, else null
-pub value-if : (b : Bool) (d : Data) → IsPlain d → IsPlain (if b then d else null)
-value-if true d h = h
-value-if false d h = refl
+pub value-if : (b : Bool) (d e : Data) → IsPlain d → IsPlain e → IsPlain (if b then d else e)
+value-if true d e x y = x
+value-if false d e x y = y
+
+-- for a value that is made of parts
+pub ruleset plain = (both, plain-append, plain-below, plain-map, plain-some, plain-or_null, plain-if, value-if)
 
 -- a value that is kept, where there is one
 pub plain-back : {X : Type 0} (f : X → Data) (o : Option X) (ds : List Data) → option_to_list (option_map f o) ≡ ds → ArePlain ds → IfSome o (λ x. IsPlain (f x))

@@ -1,8 +1,15 @@
 -- Lists of what stands for each number below another.
-use Rattle.std.proofs.Common.{◌≡◌, ℕ, ◌+◌, [], List, ◌++◌, refl, add-one}
+use Rattle.std.proofs.Common.{◌≡◌, ℕ, ◌+◌, [], List, ◌++◌, map, refl, add-one}
 use Rattle.std.proofs.lemmas.Grind.{common_steps}
 use Rattle.std.proofs.lemmas.Option.{slice_get-map}
+use Rattle.serde_json.specs.Data.{Data}
+use Rattle.serde_json.specs.View.{view}
+use Rattle.serde_json.specs.declared.value.Value.{Value}
 use Rattle.lab_moments.specs.Values.{all_below}
+
+-- values are what stands for each number below n
+abbrev pub AreBelow : List Value → ℕ → (ℕ → List Data) → Type 0
+AreBelow values n f = map view values ≡ all_below n f
 
 -- at first there is none
 pub all_below_none : {X : Type 0} (f : ℕ → List X) → all_below 0 f ≡ []

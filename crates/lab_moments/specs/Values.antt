@@ -1,7 +1,8 @@
 -- What the data of a page are made of.
-use Rattle.std.specs.Prelude.{ℕ, zero, suc, Option, Some, None, List, [], ◌++◌, map}
+use Rattle.std.specs.Prelude.{ℕ, zero, suc, Option, Some, None, List, [], ◌∷◌, ◌++◌, map}
 use Rattle.serde_json.specs.Data.{Data, null, number, unsigned, array}
 use Rattle.serde_json.specs.View.{items_of}
+use Rattle.lab_sched.specs.declared.schedule.block.Block.{Block}
 
 -- a list of values
 abbrev pub list : List Data → Data
@@ -24,3 +25,7 @@ or_null (Some d) = d
 unfoldable pub all_below : {X : Type 0} → ℕ → (ℕ → List X) → List X
 all_below zero f = []
 all_below (suc n) f = all_below n f ++ f n
+
+-- so many steps of a process in a row
+abbrev pub block_data : Block → Data
+block_data b = list (natural b.pid ∷ natural b.count ∷ [])

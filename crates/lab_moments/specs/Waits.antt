@@ -1,7 +1,7 @@
 -- Who lets a process wait: who could serve its call, who has taken what it waits for, and the circles of such processes.
 use Rattle.std.specs.Prelude.{ℕ, ◌==◌, ◌&&◌, nat_lt, not, Bool, false, if◌then◌else◌, Option, Some, None, List, [], ◌∷◌, length, zero, suc, take, position, slice_get}
 use Rattle.std.specs.List.{find, list_any}
-use Rattle.std.specs.Option.{option_map, option_and_then, option_map_or}
+use Rattle.std.specs.Option.{option_map, option_and_then, option_map_or, option_to_list}
 use Rattle.serde_json.specs.Data.{Data, null}
 use Rattle.ipc_kernel.specs.Kernel.{KernelState}
 use Rattle.ipc_traps.specs.declared.service.Service.{Service}
@@ -53,11 +53,14 @@ blockers w hs = all_below (length w.processes) (λ p. blocker_in w hs (awaited_a
 abbrev pub blocker : List (Option ℕ) → ℕ → Option ℕ
 blocker bs p = option_and_then (λ b. b) (slice_get bs p)
 
+-- the process that stands n places behind the first, where each waits for what the next has taken
+unfoldable pub behind : List (Option ℕ) → Option ℕ → ℕ → Option ℕ
+behind bs first zero = first
+behind bs first (suc n) = option_and_then (blocker bs) (behind bs first n)
+
 -- at most n processes, of which each waits for what the next has taken
-unfoldable pub followed : List (Option ℕ) → ℕ → Option ℕ → List ℕ
-followed bs zero p = []
-followed bs (suc n) None = []
-followed bs (suc n) (Some p) = p ∷ followed bs n (blocker bs p)
+abbrev pub followed : List (Option ℕ) → ℕ → Option ℕ → List ℕ
+followed bs n first = all_below n (λ i. option_to_list (behind bs first i))
 
 -- process p and those behind it, as far as it comes again, where none of them has a lesser number
 abbrev pub circle_up_to : ℕ → List ℕ → Option ℕ → List Data

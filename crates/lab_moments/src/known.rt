@@ -34,7 +34,6 @@ fn known_with(was: Option<Known>, named: bool, level: u16) -> Known
     }
 }
 
-/// What is known of the object in a place, by what was known of it.
 fn known_of(was: Option<Known>, kernel: &Kernel, place: u8) -> Option<Known>
     ensures known { result ≡ known_of was (place_at kernel.now.places place) }
 {

@@ -3,7 +3,6 @@
 #![tactic(auto)]
 
 mod between;
-mod circles;
 mod event;
 mod holds;
 mod known;
@@ -17,7 +16,6 @@ mod waits;
 mod words;
 
 pub use between::{StepCount, between_value};
-pub use circles::circles_value;
 pub use event::act_value;
 pub use holds::Hold;
 pub use known::Known;
@@ -26,5 +24,5 @@ pub use objects::object_value;
 pub use past::Past;
 pub use state::{states, words_from};
 pub use values::{AsData, list_value, push_some};
-pub use waits::waits_value;
+pub use waits::{circles_value, waits_value};
 pub use words::SeenWords;

@@ -167,7 +167,6 @@ fn message_value(
     json!(in alloc; [priority, list_value(alloc, words)?, origin_value(alloc, origin)?])
 }
 
-/// Message number `index` of a queue, where it is there.
 fn message_at(
     alloc: Global,
     queue: &Queue,

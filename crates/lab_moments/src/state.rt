@@ -49,7 +49,6 @@ fn registers(alloc: Global, process: &Process) -> Result<Vec<Value>, AllocError>
     Ok(registers)
 }
 
-/// The words around the program counter of a process.
 fn words_around(alloc: Global, process: &Process) -> Result<Vec<u16>, AllocError>
     ensures words { IfOk result (λ v. v.items
         ≡ words_around (machine_of (process_view process.now))) }

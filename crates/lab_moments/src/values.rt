@@ -3,9 +3,10 @@ ghost use Rattle.std.specs.Prelude.{◌≡◌, ◌++◌, IfOk, OnOk, map, option
 ghost use Rattle.std.specs.Option.{option_map};
 ghost use Rattle.serde_json.specs.Data.{Data};
 ghost use Rattle.serde_json.specs.View.{view};
-ghost use Rattle.lab_moments.specs.Values.{list, natural};
+ghost use Rattle.lab_moments.specs.Values.{block_data, list, natural};
 
-use serde_json::Value;
+use lab_sched::Block;
+use serde_json::{Value, json};
 use std::alloc::{AllocError, Global};
 
 /// What stands in the data of a page.
@@ -46,6 +47,14 @@ impl AsData for usize {
 
     fn value(&self, _alloc: Global) -> Result<Value, AllocError> {
         Ok(Value::from(*self))
+    }
+}
+
+impl AsData for Block {
+    ghost form = { block_data };
+
+    fn value(&self, alloc: Global) -> Result<Value, AllocError> {
+        json!(in alloc; [self.pid, self.count])
     }
 }
 

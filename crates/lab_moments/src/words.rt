@@ -1,12 +1,10 @@
 //! The words that a page shows, and what they mean.
-ghost use Rattle.std.specs.Prelude.{◌≡◌, true, IfOk, OnOk, option_to_list, slice_set};
-ghost use Rattle.std.specs.Option.{option_map};
+ghost use Rattle.std.specs.Prelude.{◌≡◌, true, IfOk, OnOk, slice_set};
 ghost use Rattle.serde_json.specs.View.{view};
 ghost use Rattle.lab_moments.specs.States.{shown_in};
-ghost use Rattle.lab_moments.specs.Words.{word_data, none_seen, first_seen, seen_with, text_of, texts_data};
+ghost use Rattle.lab_moments.specs.Words.{word_data, none_seen, first_seen, seen_with, texts_data};
 
 use crate::state::{WORDS, shown_in};
-use crate::values::push_some;
 use lab_sched::World;
 use lab_told::service_of_word;
 use lc3_table::text;
@@ -91,17 +89,6 @@ impl SeenWords {
         Ok(())
     }
 
-    /// A word with its text, where it is among them.
-    fn text_of(&self, alloc: Global, word: u16) -> Result<Option<Value>, AllocError>
-        ensures text { IfOk result (λ v. option_to_list (option_map view v)
-            ≡ text_of self.now word) }
-    {
-        match self.flags.get(usize::from(word)) {
-            Some(true) => Ok(Some(word_value(alloc, word)?)),
-            _ => Ok(None),
-        }
-    }
-
     /// Each of the words with its text, in ascending order.
     #[tactic(auto, using(crate::proofs::ValueLemmas::below), unfolding(crate::specs::Words::texts_data))]
     pub fn value(&self, alloc: Global) -> Result<Value, AllocError>
@@ -109,7 +96,9 @@ impl SeenWords {
     {
         let mut values = Vec::new(alloc);
         for word in 0..WORDS {
-            push_some(&mut values, self.text_of(alloc, word as u16)?)?;
+            if let Some(true) = self.flags.get(word) {
+                values.push(word_value(alloc, word as u16)?)?;
+            }
         }
         Ok(Value::Array(values))
     }

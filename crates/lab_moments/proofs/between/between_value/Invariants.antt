@@ -1,9 +1,7 @@
-use Rattle.std.proofs.Common.{◌≡◌, map}
-use Rattle.serde_json.specs.View.{view}
-use Rattle.lab_moments.specs.Values.{all_below}
 use Rattle.lab_moments.specs.Between.{count_of, count_data}
+use Rattle.lab_moments.proofs.ValueLemmas.{AreBelow}
 use Rattle.lab_moments.proofs.between.between_value.Given as goal
 
 -- the counts so far are added
 abbrev pub invariant-loop-pid : goal.invariant-loop-pid
-invariant-loop-pid l = map view l.values.items ≡ all_below l.pid (λ p. count_data p (count_of l.between p))
+invariant-loop-pid l = AreBelow l.values.items l.pid (λ p. count_data p (count_of l.between p))
