@@ -1,6 +1,6 @@
 -- What was asked has no floats.
 use Rattle.std.proofs.Common.{Bool, List, refl}
-use Rattle.lab_moments.proofs.PlainLemmas.{IsPlain, plain-map}
+use Rattle.lab_moments.proofs.PlainLemmas.{IsPlain, plain}
 use Rattle.lab_page.specs.Asked.{asked_data, asked_list, shown_data}
 use Rattle.lab_page.specs.declared.asked.Asked.{Asked}
 use Rattle.lab_page.specs.declared.asked.ShownRun.{ShownRun}
@@ -10,9 +10,6 @@ shown-plain : (r : ShownRun) → IsPlain (shown_data r)
 shown-plain (End n) = refl
 shown-plain (Other n) = refl
 
-one-plain : (complete : Bool) (a : Asked) → IsPlain (asked_data complete a)
-unfolding asked_data
-one-plain complete a = simp (plain-map shown_data a.runs.items shown-plain)
-
 pub asked-plain : (complete : Bool) (all : List Asked) → IsPlain (asked_list complete all)
-asked-plain complete all = plain-map (asked_data complete) all (one-plain complete)
+unfolding asked_data
+asked-plain complete all = search (plain, shown-plain)

@@ -8,33 +8,28 @@ use Rattle.lab_sched.specs.declared.schedule.block.Block.{Block}
 use Rattle.lab_told.specs.Scenes.{Scene, told, next}
 use Rattle.lab_told.specs.Tellings.{AreThere, IsNext, TellsAll}
 use Rattle.lab_told.specs.declared.telling.Taken.{Taken}
-use Rattle.lab_told.specs.declared.told.Event.{Event}
 use Rattle.lab_told.specs.declared.told.Told.{Told}
 use Rattle.lab_told.specs.declared.told.Told.TheVariants.{Nothing, Counted, Shown}
 use Rattle.lab_told.proofs.SceneLemmas.{renumbered, told-still}
 use Rattle.lab_told.proofs.TellingLemmas.{told-stands}
-use Rattle.lab_moments.proofs.PlainLemmas.{IsPlain, ArePlain, plain-one, plain-append}
+use Rattle.lab_moments.proofs.PlainLemmas.{ArePlain, plain}
 use Rattle.lab_moments.proofs.EventLemmas.{act-plain}
 use Rattle.lab_page.specs.Legs.{event_data, told_data, leg_events, leg_data}
 
-event-plain : (n : ℕ) (e : Event) → IsPlain (event_data n e)
-unfolding event_data
-event-plain n e = simp act-plain
-
 told-plain : (n : ℕ) (t : Told) → ArePlain (told_data n t)
+unfolding event_data
 told-plain n Nothing = refl
 told-plain n Counted = refl
-told-plain n (Shown e) = plain-one (event_data n e) (event-plain n e)
+told-plain n (Shown e) = search (plain, act-plain)
 
 events-plain : (s : Scene) (ps : List ℕ) → ArePlain (leg_events s ps)
 unfolding leg_events
 events-plain s [] = refl
-events-plain s (p ∷ ps) =
-    plain-append (told_data s.number (told s p)) (leg_events (next s p) ps) (told-plain s.number (told s p)) (events-plain (next s p) ps)
+events-plain s (p ∷ ps) = let rest = events-plain (next s p) ps in search (plain, told-plain, rest)
 
 pub leg_plain : (w : WorldState) (p n : ℕ) → has_float (leg_data w p n) ≡ false
 unfolding leg_data
-leg_plain w p n = simp events-plain
+leg_plain w p n = search (plain, events-plain)
 
 -- the process of a block alone
 pub there-one : (w : WorldState) (b : Block) → b.pid < length w.processes → AreThere w (b ∷ [])

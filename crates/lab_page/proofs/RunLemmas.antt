@@ -1,9 +1,9 @@
 -- The JSON of a whole run.
-use Rattle.std.proofs.Common.{◌≡◌, ℕ, Bool, Option, Some, None, List, [], ◌∷◌, ◌++◌, codes, length, slice_get, refl, subst}
+use Rattle.std.proofs.Common.{◌≡◌, ℕ, Bool, Option, Some, None, List, [], ◌++◌, codes, length, refl, subst}
 use Rattle.std.specs.Option.{option_map}
 use Rattle.serde_json.specs.Written.{compact_text}
 use Rattle.lab_sched.specs.Schedules.{steps_of}
-use Rattle.lab_sched.specs.Worlds.{Process, WorldState, machine_of}
+use Rattle.lab_sched.specs.Worlds.{Process, WorldState}
 use Rattle.lab_sched.specs.declared.schedule.block.Block.{Block}
 use Rattle.lab_sources.specs.declared.source.Source.{Source}
 use Rattle.lab_told.specs.Scenes.{Scene, first_scene, scene_after}
@@ -17,37 +17,30 @@ use Rattle.lab_page.specs.Ends.{endless_shown}
 use Rattle.lab_page.specs.Faults.{IsFault}
 use Rattle.lab_page.specs.Moments.{moments, past_then}
 use Rattle.lab_page.specs.Private.Json.{more_json, run_end}
-use Rattle.lab_page.specs.Runs.{block_data, schedule_data, output_of, outputs, outcome_at, is_whole, run_from, run_data}
+use Rattle.lab_page.specs.Runs.{schedule_data, output_of, outcome_at, is_whole, run_from, run_data}
 use Rattle.lab_page.specs.declared.ends.Endless.{Endless}
 use Rattle.lab_page.specs.declared.fault.PageFault.{PageFault}
-use Rattle.lab_moments.proofs.PlainLemmas.{IsPlain, number-plain, plain-one, plain-below, plain-map, plain-naturals}
+use Rattle.lab_moments.proofs.PlainLemmas.{IsPlain, plain}
 use Rattle.lab_moments.proofs.BetweenLemmas.{between-plain}
-use Rattle.lab_moments.proofs.EventLemmas.{holds-plain}
 use Rattle.lab_moments.proofs.WaitLemmas.{waits-plain, circles-plain}
 use Rattle.lab_moments.proofs.WordLemmas.{texts-plain}
 use Rattle.lab_page.proofs.JsonLemmas.{run-json}
 use Rattle.lab_page.proofs.FaultLemmas.{fault-longer}
 
 pub schedule_plain : (s : List Block) → IsPlain (schedule_data s)
-schedule_plain s = plain-map block_data s (λ b. refl)
+schedule_plain s = search plain
 
 -- an interleaving that never ends
 pub endless_plain : (o : Option Endless) → IsPlain (or_null (option_map endless_shown o))
-endless_plain None = refl
-endless_plain (Some e) = simp (schedule_plain, number-plain)
+endless_plain o = search plain
 
-output-plain : (o : Option Process) → IsPlain (output_of o)
+pub output-plain : (o : Option Process) → IsPlain (output_of o)
 output-plain None = refl
-output-plain (Some s) = plain-naturals (machine_of s).output
-
-pub outputs-plain : (w : WorldState) → IsPlain (outputs w)
-outputs-plain w =
-    plain-below (length w.processes) (λ p. output_of (slice_get w.processes p) ∷ [])
-    (λ p. plain-one (output_of (slice_get w.processes p)) (output-plain (slice_get w.processes p)))
+output-plain (Some s) = search plain
 
 pub outcome-plain : (v : Form) (s : Scene) (h : Past) → IsPlain (outcome_at v s h)
 unfolding outcome_at
-outcome-plain v s h = simp (outputs-plain, between-plain, holds-plain, plain-naturals, waits-plain, circles-plain, texts-plain)
+outcome-plain v s h = search (plain, output-plain, between-plain, waits-plain, circles-plain, texts-plain)
 
 -- the JSON up to the moment before the first step
 abbrev start : Scene → List ℕ

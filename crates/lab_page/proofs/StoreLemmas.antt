@@ -14,11 +14,11 @@ use Rattle.lab_told.specs.declared.told.Told.TheVariants.{Nothing}
 use Rattle.lab_told.proofs.SceneLemmas.{renumbered, length-step}
 use Rattle.lab_told.proofs.TellingLemmas.{told-stands}
 use Rattle.lab_moments.specs.Values.{all_below}
-use Rattle.lab_moments.proofs.PlainLemmas.{IsPlain, plain-map}
+use Rattle.lab_moments.proofs.PlainLemmas.{IsPlain, plain}
 use Rattle.lab_moments.proofs.ValueLemmas.{all_below_none}
 use Rattle.lab_page.specs.Runs.{is_whole}
 use Rattle.lab_page.specs.Private.Stores.{Stores, all_held, stores_after, AddsStores}
-use Rattle.lab_page.specs.Stores.{source_in, origin_at, held_words, held_at, changed, changed_words, stored_by, stored_data, stores_data, stores_from, stores_of}
+use Rattle.lab_page.specs.Stores.{source_in, origin_at, held_words, held_at, changed, changed_words, stored_by, stores_data, stores_from, stores_of}
 use Rattle.lab_page.specs.declared.source.Source.{Source}
 use Rattle.lab_page.specs.declared.stores.Stored.{Stored}
 
@@ -191,4 +191,4 @@ stores-shown w s ss = by (is_whole s)
 
 -- they have no floats
 pub stores_plain : (ss : List Stored) → IsPlain (stores_data ss)
-stores_plain ss = plain-map stored_data ss (λ s. refl)
+stores_plain ss = search plain

@@ -20,13 +20,9 @@ use Rattle.lab_page.specs.Sources.{Source, programs}
 use Rattle.lab_page.specs.Stores.{stores_data}
 use Rattle.lab_page.specs.declared.stores.Stored.{Stored}
 use Rattle.lab_moments.specs.States.{states}
-use Rattle.lab_moments.specs.Values.{list, natural, naturals, all_below}
+use Rattle.lab_moments.specs.Values.{block_data, list, naturals, all_below}
 use Rattle.lab_moments.specs.Waits.{waits_data, circles_data}
 use Rattle.lab_moments.specs.Words.{texts_data}
-
--- so many steps of a process in a row
-abbrev pub block_data : Block → Data
-block_data b = list (natural b.pid ∷ natural b.count ∷ [])
 
 -- the blocks of a schedule
 abbrev pub schedule_data : List Block → Data

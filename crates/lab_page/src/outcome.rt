@@ -12,18 +12,14 @@ use lab_sched::{Schedule, World};
 use lab_texts::report_text;
 use lab_told::Tally;
 use lab_trace::{Form, stands};
-use serde_json::{Value, json};
+use serde_json::Value;
 use std::alloc::{AllocError, Global};
 
 /// The blocks of a schedule.
 pub fn schedule_value(alloc: Global, schedule: &Schedule) -> Result<Value, AllocError>
     ensures value { IfOk result (λ v. view v ≡ schedule_data schedule.now) }
 {
-    let mut blocks = Vec::new(alloc);
-    for block in schedule.blocks() {
-        blocks.push(json!(in alloc; [block.pid, block.count])?)?;
-    }
-    Ok(Value::Array(blocks))
+    list_value(alloc, schedule.blocks())
 }
 
 fn output_value(alloc: Global, world: &World, pid: usize) -> Result<Value, AllocError>

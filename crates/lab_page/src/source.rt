@@ -94,7 +94,6 @@ fn name_at(alloc: Global, names: &[String], process: usize) -> Result<Value, All
     }
 }
 
-/// Whether there is a source with this text.
 fn has_text(source: &Option<Source>, text: &str) -> bool
     ensures same { result ≡ has_text text.now (option_map source_shown source.now) }
 {
@@ -104,7 +103,6 @@ fn has_text(source: &Option<Source>, text: &str) -> bool
     }
 }
 
-/// The first process whose source has this text.
 fn first_with(sources: &[Option<Source>], text: &str) -> Option<usize>
     ensures process { result
         ≡ position (λ s. has_text text.now (option_map source_shown s)) sources.now }

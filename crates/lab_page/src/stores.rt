@@ -72,7 +72,6 @@ fn held_words(
     }
 }
 
-/// The address of the first word of a process's source.
 fn origin_at(sources: &[Option<Source>], pid: usize) -> u16
     ensures origin { result ≡ origin_at sources.now pid }
 {

@@ -99,7 +99,6 @@ fn place_before(world: &World, pid: usize, process: &Process) -> Option<u8>
     held_place(world.kernel(), pid, service, number)
 }
 
-/// Where process `pid` of a world stands.
 #[tactic(auto, unfolding(crate::specs::Worlds::standing_data))]
 fn standing_value(
     alloc: Global,
@@ -139,7 +138,6 @@ fn standings(alloc: Global, world: &World) -> Result<Vec<Value>, AllocError>
     Ok(standings)
 }
 
-/// Whether no object is in a place.
 fn is_empty(kernel: &Kernel, place: u8) -> bool
     ensures empty { result ≡ is_empty (place_at kernel.now.places place) }
 {

@@ -1,10 +1,9 @@
-use Rattle.std.proofs.Common.{◌≡◌, [], ◌∷◌, map}
+use Rattle.std.proofs.Common.{[], ◌∷◌, map}
 use Rattle.std.specs.Prelude.{string_bytes}
-use Rattle.serde_json.specs.View.{view}
-use Rattle.lab_moments.specs.Values.{all_below}
 use Rattle.lab_page.specs.Sources.{program_at, sources_shown}
+use Rattle.lab_moments.proofs.ValueLemmas.{AreBelow}
 use Rattle.lab_page.proofs.source.programs.Given as goal
 
 -- the processes so far are added
 abbrev pub invariant-loop-process : goal.invariant-loop-process
-invariant-loop-process l = map view l.programs.items ≡ all_below l.process (λ p. program_at (map string_bytes l.names) (sources_shown l.sources) p ∷ [])
+invariant-loop-process l = AreBelow l.programs.items l.process (λ p. program_at (map string_bytes l.names) (sources_shown l.sources) p ∷ [])
