@@ -1,5 +1,5 @@
 -- Moments and what was done have no floats.
-use Rattle.std.proofs.Common.{ℕ, Bool, List, refl}
+use Rattle.std.proofs.Common.{ℕ, Bool, refl}
 use Rattle.lab_sched.specs.Worlds.{WorldState}
 use Rattle.lab_trace.specs.Forms.{Form}
 use Rattle.lab_told.specs.Tallies.{TallyState}
@@ -11,11 +11,9 @@ use Rattle.lab_told.specs.declared.told.Told.{Told}
 use Rattle.lab_told.specs.declared.told.Told.TheVariants.{Nothing, Counted, Shown}
 use Rattle.lab_moments.specs.Changes.{objects_told}
 use Rattle.lab_moments.specs.Events.{outcome_data, called_data, act_data, open_told, event_data}
-use Rattle.lab_moments.specs.Holds.{holds_data}
 use Rattle.lab_moments.specs.Moments.{counted_moment, shown_moment, moment_by}
 use Rattle.lab_moments.specs.Pasts.{Past}
 use Rattle.lab_moments.specs.States.{state_in}
-use Rattle.lab_moments.specs.declared.holds.Hold.{Hold}
 use Rattle.lab_moments.proofs.BetweenLemmas.{between-plain}
 use Rattle.lab_moments.proofs.ObjectLemmas.{object-plain, open-plain}
 use Rattle.lab_moments.proofs.PlainLemmas.{IsPlain, ArePlain, plain}
@@ -31,9 +29,6 @@ unfolding called_data
 act-plain (Calls c) = search (plain, outcome-plain)
 act-plain (Writes bytes) = search plain
 act-plain (Ends how) = refl
-
-pub holds-plain : (hs : List Hold) → IsPlain (holds_data hs)
-holds-plain hs = search plain
 
 -- the moment of a step
 pub moment-plain : (v : Form) (whole : Bool) (n p : ℕ) (told : Told) (w : WorldState) (t : TallyState) (h : Past)

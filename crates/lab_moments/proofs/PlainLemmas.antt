@@ -5,7 +5,7 @@ use Rattle.std.specs.Option.{option_map, option_to_list}
 use Rattle.serde_json.specs.Data.{Data}
 use Rattle.serde_json.specs.View.{items_of}
 use Rattle.serde_json.specs.Written.{has_float, items_have_float}
-use Rattle.lab_moments.specs.Values.{natural, or_null, all_below}
+use Rattle.lab_moments.specs.Values.{or_null, all_below}
 
 -- a value without a float, and a list of such
 abbrev pub IsPlain : Data → Type 0
@@ -24,9 +24,6 @@ apart true b h = absurd (conflict h)
     conflict e = cc
 apart false b h = (refl, h)
 
-pub plain-one : (d : Data) → IsPlain d → ArePlain (d ∷ [])
-plain-one d h = both (has_float d) false h refl
-
 pub plain-append : (xs ys : List Data) → ArePlain xs → ArePlain ys → ArePlain (xs ++ ys)
 plain-append [] ys x y = y
 plain-append (d ∷ ds) ys x y =
@@ -42,9 +39,6 @@ pub plain-map : {X : Type 0} (f : X → Data) (xs : List X) → ((x : X) → IsP
 plain-map f [] h = refl
 plain-map f (x ∷ xs) h = both (has_float (f x)) (items_have_float (items_of (map f xs))) (h x) (plain-map f xs h)
 
-pub plain-naturals : (ns : List ℕ) → ArePlain (map natural ns)
-plain-naturals ns = plain-map natural ns (λ n. refl)
-
 pub plain-some : {X : Type 0} (f : X → Data) (o : Option X) → ((x : X) → IsPlain (f x)) → ArePlain (option_to_list (option_map f o))
 plain-some f None h = refl
 plain-some f (Some x) h = both (has_float (f x)) false (h x) refl
@@ -52,9 +46,6 @@ plain-some f (Some x) h = both (has_float (f x)) false (h x) refl
 pub plain-or_null : {X : Type 0} (f : X → Data) (o : Option X) → ((x : X) → IsPlain (f x)) → IsPlain (or_null (option_map f o))
 plain-or_null f None h = refl
 plain-or_null f (Some x) h = h x
-
-pub number-plain : (o : Option ℕ) → IsPlain (or_null (option_map natural o))
-number-plain o = plain-or_null natural o (λ n. refl)
 
 pub plain-if : (b : Bool) (xs ys : List Data) → ArePlain xs → ArePlain ys → ArePlain (if b then xs else ys)
 plain-if true xs ys x y = x

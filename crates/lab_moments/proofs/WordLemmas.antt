@@ -1,16 +1,11 @@
 -- Words that were seen, and their texts.
-use Rattle.std.proofs.Common.{◌≡◌, ℕ, ◌+◌, Bool, true, Option, Some, None, List, ap, sym, ◌∙◌, refl}
+use Rattle.std.proofs.Common.{◌≡◌, ℕ, ◌+◌, Bool, true, List, ap, sym, ◌∙◌}
 use Rattle.std.specs.Prelude.{slice_set}
 use Rattle.std.proofs.lemmas.List.Sums.{fold-append}
-use Rattle.ipc_traps.specs.declared.service.Service.{Service}
 use Rattle.lab_moments.specs.Values.{all_below}
-use Rattle.lab_moments.specs.Words.{call_names, word_data, seen_with, texts_data}
-use Rattle.lab_moments.proofs.PlainLemmas.{IsPlain, ArePlain, plain}
+use Rattle.lab_moments.specs.Words.{word_data, seen_with, texts_data}
+use Rattle.lab_moments.proofs.PlainLemmas.{IsPlain, plain}
 use Rattle.lab_moments.proofs.ValueLemmas.{all_below_more}
-
-pub names-plain : (s : Option Service) → ArePlain (call_names s)
-names-plain None = refl
-names-plain (Some x) = refl
 
 -- the texts have no floats
 pub texts-plain : (seen : List Bool) → IsPlain (texts_data seen)
