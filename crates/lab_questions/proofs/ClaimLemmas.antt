@@ -1,5 +1,5 @@
 -- What the text says of programs, by what was found of them.
-use Rattle.std.proofs.Common.{ℕ, ◌≡◌, ◌+◌, Bool, true, false, List, [], ◌∷◌, ◌++◌, Option, Some, None, get_or, slice_get, refl, sym, ap, subst, ◌∙◌, append_assoc, append-nil, flat_map, codes, decimal, string_bytes, arith, ◌≤◌}
+use Rattle.std.proofs.Common.{ℕ, ◌≡◌, ◌+◌, Bool, true, false, List, [], ◌∷◌, ◌++◌, Option, Some, None, get_or, refl, sym, ap, subst, ◌∙◌, append_assoc, append-nil, flat_map, codes, decimal, arith, ◌≤◌}
 use Rattle.std.specs.List.Sorted.{IsNonDecreasingBy}
 use Rattle.std.proofs.lemmas.Option.{slice_get-get_or}
 use Rattle.ipc_kernel.specs.Kernel.{KernelState}
@@ -9,91 +9,48 @@ use Rattle.lab_sched.specs.ScheduleTexts.{schedule_text}
 use Rattle.lab_sched.specs.Worlds.{WorldState, run}
 use Rattle.lab_sched.specs.Verdicts.{IsVerdict, verdict_of}
 use Rattle.lab_sched.proofs.VerdictLemmas.{verdict_from}
-use Rattle.lab_conditions.specs.declared.never.Never.{Never}
-use Rattle.lab_conditions.specs.Written.{never_text}
 use Rattle.lab_texts.specs.Verdicts.{verdict_line, verdict_text}
 use Rattle.lab_texts.specs.Reports.{report_text, process_reports}
-use Rattle.lab_worlds.specs.declared.ends.End.{End}
 use Rattle.lab_worlds.specs.declared.lassos.Lasso.{Lasso}
 use Rattle.lab_worlds.specs.declared.exploration.Exploration.{Exploration}
 use Rattle.lab_worlds.specs.Closed.{AreAtRest}
 use Rattle.lab_worlds.proofs.Pushes.{all_at}
 use Rattle.lab_worlds.specs.Ends.{IsEnd, AreEnds, HaveAllEnds, NoneStuck, HaveFewestCalls}
 use Rattle.lab_ways.specs.declared.ways.Ways.{Ways}
-use Rattle.lab_ways.specs.declared.ways.Ways.TheVariants.{Always, Without, Unknown}
 use Rattle.lab_questions.specs.declared.answers.Answer.{Answer}
-use Rattle.lab_questions.specs.declared.called.CallWord.{CallWord}
-use Rattle.lab_questions.specs.Called.{call_head, call_lines, calls_lines}
 use Rattle.lab_questions.specs.declared.asked.Asked.{Asked}
 use Rattle.lab_questions.specs.declared.asked.Show.{Show}
-use Rattle.lab_questions.specs.declared.asked.Word.{Word}
-use Rattle.lab_questions.specs.declared.output.OutputNeed.{OutputNeed}
 use Rattle.lab_questions.specs.Claims.{SaysComplete, SaysEndless, SaysStuck, TellsEveryEnd}
 use Rattle.lab_questions.specs.EndTexts.{text_of, told_ends, schedule_line, end_lines, ends_text, endless_line, lasso_text, extent_line}
 use Rattle.lab_questions.specs.Left.{left_text}
 use Rattle.lab_questions.specs.Lines.{AreLines, StandIn}
 use Rattle.lab_questions.specs.Shown.{outputs_text, outcome_text, head_text, with_left, shown_text}
-use Rattle.lab_questions.specs.Texts.{word_text, schedule_at, first_lines, fault_lines, answer_lines, word_lines, need_lines, needs_lines, judged_lines, condition_lines, reached_lines, answers_text}
-use Rattle.lab_questions.proofs.LineLemmas.{lines-append, lines-feed, lines-onto, lines-below, same_last}
+use Rattle.lab_questions.specs.Texts.{Unmet, unmet_words, unmet_outputs, unmet_calls, unmet_conditions, first_line, unmet_lines, word_lines, judged_lines, answers_text}
+use Rattle.lab_questions.proofs.LineLemmas.{lines-append, lines-feed, lines-onto, same_last}
 use Rattle.lab_questions.proofs.OneText.{same_text}
 use Rattle.lab_questions.proofs.Reports.{report_lines, output_lines, same_verdict}
 use Rattle.lab_questions.proofs.ToldEnds.{told_some, told_all}
 use Rattle.lab_questions.proofs.TextLemmas.{stand_behind, stand_before, stand_within, ends_whole, end_stands, lasso_whole, endless_stands, extent_is_line, extent_tells}
 
--- the lines of answers, and of what was reached, are whole lines
-fault_whole : (ends : List End) (word : Word) (o : Option ℕ) → AreLines (fault_lines ends word o)
+-- the lines of what isn't so are whole lines
+unmet_whole : (us : List Unmet) → AreLines (flat_map unmet_lines us)
 unfolding schedule_line
-fault_whole ends word None = tt
-fault_whole ends word (Some i) = lines-onto (codes "not " ++ word_text word ++ codes "\n" ++ first_lines ends word) (codes "schedule " ++ schedule_text (schedule_at ends i))
+unmet_whole [] = tt
+unmet_whole (u ∷ us) =
+    lines-append (unmet_lines u) (flat_map unmet_lines us)
+    (lines-onto (u.head ++ codes " " ++ u.asked ++ codes "\n" ++ first_line u.first) (codes "schedule " ++ schedule_text u.steps)) (unmet_whole us)
 
-answers_whole : (ends : List End) (answers : List Answer) → AreLines (flat_map (answer_lines ends) answers)
-answers_whole ends [] = tt
-answers_whole ends (a ∷ answers) = lines-append (answer_lines ends a) (flat_map (answer_lines ends) answers) (fault_whole ends a.word a.fault) (answers_whole ends answers)
-
-words_whole : (plain : Bool) (ends : List End) (answers : List Answer) → AreLines (word_lines plain ends answers)
-words_whole true ends answers = tt
-words_whole false ends answers = answers_whole ends answers
-
-need_whole : (ends : List End) (need : Option OutputNeed) (fault : Option (Option ℕ)) → AreLines (need_lines ends need fault)
-unfolding schedule_line
-need_whole ends (Some need) (Some (Some i)) = lines-onto (codes "not " ++ string_bytes need.text ++ codes "\n") (codes "schedule " ++ schedule_text (schedule_at ends i))
-need_whole ends (Some need) (Some None) = tt
-need_whole ends (Some need) None = tt
-need_whole ends None fault = tt
-
-needs_whole : (ends : List End) (needs : List OutputNeed) (faults : List (Option ℕ)) → AreLines (needs_lines ends needs faults)
-unfolding needs_lines
-needs_whole ends needs faults = lines-below _ (λ k. need_lines ends (slice_get needs k) (slice_get faults k)) (λ k. need_whole ends (slice_get needs k) (slice_get faults k))
-
-call_whole : (word : Option CallWord) (ways : Option Ways) → AreLines (call_lines word ways)
-unfolding schedule_line
-call_whole (Some word) (Some (Without s)) = lines-onto (call_head word.never ++ string_bytes word.text ++ codes "\n") (codes "schedule " ++ schedule_text s)
-call_whole (Some word) (Some Always) = tt
-call_whole (Some word) (Some Unknown) = tt
-call_whole (Some word) None = tt
-call_whole None ways = tt
-
-calls_whole : (words : List CallWord) (ways : List Ways) → AreLines (calls_lines words ways)
-unfolding calls_lines
-calls_whole words ways = lines-below _ (λ k. call_lines (slice_get words k) (slice_get ways k)) (λ k. call_whole (slice_get words k) (slice_get ways k))
+words_whole : (plain : Bool) (us : List Unmet) → AreLines (word_lines plain us)
+words_whole true us = tt
+words_whole false us = unmet_whole us
 
 judged_whole : (asked : Asked) (found : Exploration) (answers : List Answer) (faults : List (Option ℕ)) (ways : List Ways) → AreLines (judged_lines asked found answers faults ways)
 judged_whole asked found answers faults ways =
-    lines-append (word_lines asked.plain found.ends.items answers ++ needs_lines found.ends.items asked.outputs.items faults) (calls_lines asked.call_words.items ways)
-    (lines-append (word_lines asked.plain found.ends.items answers) (needs_lines found.ends.items asked.outputs.items faults)
-    (words_whole asked.plain found.ends.items answers) (needs_whole found.ends.items asked.outputs.items faults))
-    (calls_whole asked.call_words.items ways)
-
-condition_whole : (c : Option Never) (s : Option (Option (List Block))) → AreLines (condition_lines c s)
-unfolding schedule_line
-condition_whole (Some c) (Some (Some s)) = lines-onto (codes "reached " ++ never_text c ++ codes "\n") (codes "schedule " ++ schedule_text s)
-condition_whole (Some c) (Some None) = tt
-condition_whole (Some c) None = tt
-condition_whole None s = tt
-
-reached_whole : (never : List Never) (reached : List (Option (List Block))) → AreLines (reached_lines never reached)
-unfolding reached_lines
-reached_whole never reached = lines-below _ (λ i. condition_lines (slice_get never i) (slice_get reached i)) (λ i. condition_whole (slice_get never i) (slice_get reached i))
+    let words = word_lines asked.plain (unmet_words found.ends.items answers) in
+    let outputs = flat_map unmet_lines (unmet_outputs found.ends.items asked.outputs.items faults) in
+    lines-append (words ++ outputs) (flat_map unmet_lines (unmet_calls asked.call_words.items ways))
+    (lines-append words outputs (words_whole asked.plain (unmet_words found.ends.items answers)) (unmet_whole (unmet_outputs found.ends.items asked.outputs.items faults)))
+    (unmet_whole (unmet_calls asked.call_words.items ways))
 
 -- the verdict stands in what is told of a world, behind whole lines
 head_parts : (out : Bool) (w : WorldState) → (front : List ℕ) × AreLines front × (head_text out w ≡ front ++ verdict_text w)
@@ -128,7 +85,7 @@ module _ (asked : Asked) (found : Exploration) (answers : List Answer) (faults :
   words = judged_lines asked found answers faults ways
 
   abbrev reached : List ℕ
-  reached = reached_lines asked.never.items found.reached.items
+  reached = flat_map unmet_lines (unmet_conditions asked.never.items found.reached.items)
 
   abbrev last : List ℕ
   last = extent_line found.complete found.worlds
@@ -143,7 +100,7 @@ module _ (asked : Asked) (found : Exploration) (answers : List Answer) (faults :
   above_whole : AreLines (ends ++ words ++ (reached ++ lasso_text found.lasso))
   above_whole =
       lines-append (ends ++ words) (reached ++ lasso_text found.lasso) front_whole
-      (lines-append reached (lasso_text found.lasso) (reached_whole asked.never.items found.reached.items) (lasso_whole found.lasso))
+      (lines-append reached (lasso_text found.lasso) (unmet_whole (unmet_conditions asked.never.items found.reached.items)) (lasso_whole found.lasso))
 
   -- a text that says `complete` tells an exploration that is
   pub is_complete : SaysComplete text → found.complete ≡ true
@@ -170,7 +127,7 @@ module _ (asked : Asked) (found : Exploration) (answers : List Answer) (faults :
           absurd (quiet (subst (StandIn endless_line) (sym whole)
           (stand_before endless_line (ends ++ words ++ (reached ++ lasso_text found.lasso)) last
           (stand_behind (ends ++ words) endless_line (reached ++ lasso_text found.lasso) front_whole
-          (stand_behind reached endless_line (lasso_text found.lasso) (reached_whole asked.never.items found.reached.items) stands)))))
+          (stand_behind reached endless_line (lasso_text found.lasso) (unmet_whole (unmet_conditions asked.never.items found.reached.items)) stands)))))
 
   -- where all ends were found, by the fewest calls, the text tells each
   pub tells_every_end : (start : WorldState) → AreEnds start found.ends.items

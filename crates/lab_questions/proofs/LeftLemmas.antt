@@ -1,9 +1,9 @@
 -- The messages that are left.
-use Rattle.std.proofs.Common.{ℕ, ◌≡◌, ◌+◌, Bool, true, false, cond, List, [], ◌∷◌, ◌++◌, map, filter, flat_map, take, length, get_or, sum_by, refl, sym, ap, ◌∙◌, inl, inr, append-nil, arith}
+use Rattle.std.proofs.Common.{ℕ, zero, suc, ◌≡◌, ◌+◌, Bool, true, false, cond, List, [], ◌∷◌, ◌++◌, map, filter, flat_map, take, length, get_or, sum_by, refl, subst, sym, ap, ◌∙◌, inl, inr, arith}
 use Rattle.std.proofs.lemmas.Bool.{cases_lt}
-use Rattle.std.proofs.lemmas.List.{take_all, take_more, map_push}
-use Rattle.std.proofs.lemmas.List.Elements.{filter-append}
-use Rattle.std.proofs.lemmas.List.Sums.{sum_by-cons}
+use Rattle.std.proofs.lemmas.List.{take_all}
+use Rattle.std.proofs.Math.Seq.{take-suc}
+use Rattle.std.proofs.lemmas.List.Sums.{sum_by-append, sum_by-cons}
 use Rattle.std.proofs.lemmas.Option.{unwrap_or-slice_get}
 use Rattle.ipc_kernel.specs.declared.place.Place.{Place}
 use Rattle.ipc_kernel.specs.declared.place.Place.TheVariants.{Empty}
@@ -11,50 +11,85 @@ use Rattle.ipc_kernel.specs.Places.{place_at}
 use Rattle.ipc_kernel.specs.Kernel.{KernelState}
 use Rattle.ipc_kernel.specs.Alike.{IsAlike}
 use Rattle.ipc_kernel.proofs.IndexLemmas.{place_at-past}
-use Rattle.lab_questions.specs.Left.{left_lines, is_text, left_texts, left_text}
-use Rattle.lab_questions.proofs.Ordered.{how_often, one_more, same_order}
+use Rattle.lab_questions.specs.Left.{left_lines, is_text, put_place, left_places, left_text}
+use Rattle.lab_questions.specs.Orders.{comes_before}
+use Rattle.lab_questions.proofs.Ordered.{how_often, one_if, one_more, one_order, put_among, put_count, put_rises, Rises}
 use Rattle.lab_questions.proofs.PlaceSums.{sum_alike}
 
--- the text, if there is any
-abbrev one_text : List ℕ → List (List ℕ)
-one_text t = filter is_text (t ∷ [])
+-- what is made of each element, joined
+pub flat-map : {X : Type 0} (f : X → List ℕ) (xs : List X) → flat_map f xs ≡ flat_map (λ l. l) (map f xs)
+flat-map f [] = refl
+flat-map f (x ∷ xs) = ap (λ l. f x ++ l) (flat-map f xs)
 
--- in one place more
-pub left_more : (ps : List Place) (n : ℕ) → filter is_text (map left_lines (take (n + 1) ps)) ≡ filter is_text (map left_lines (take n ps)) ++ one_text (left_lines (place_at ps n))
-left_more ps n = elim (cases_lt n (length ps)) [
-  | inl less ↦
-      ap (λ qs. filter is_text (map left_lines qs)) (take_more ps n Empty less) ∙ ap (filter is_text) (map_push left_lines (take n ps) (get_or ps n Empty))
-      ∙ filter-append is_text (map left_lines (take n ps)) (left_lines (get_or ps n Empty) ∷ [])
-      ∙ ap (λ p. filter is_text (map left_lines (take n ps)) ++ one_text (left_lines p)) (sym (unwrap_or-slice_get ps n Empty))
-  | inr past ↦
-      let more : take (n + 1) ps ≡ ps = take_all (n + 1) ps (omega (arith, past)) in
-      let same : take n ps ≡ ps = take_all n ps past in
-      ap (λ qs. filter is_text (map left_lines qs)) (more ∙ sym same) ∙ sym (append-nil (filter is_text (map left_lines (take n ps))))
-      ∙ ap (λ p. filter is_text (map left_lines (take n ps)) ++ one_text (left_lines p)) (sym (place_at-past ps n past))
-]
+-- the lines of the first n places in which messages are left
+abbrev texts : ℕ → KernelState → List (List ℕ)
+texts n k = map left_lines (left_places n k)
+
+map-put : (p : Place) (ps : List Place) → map left_lines (put_place p ps) ≡ put_among (left_lines p) (map left_lines ps)
+map-put p [] = refl
+map-put p (q ∷ qs) = by (comes_before (left_lines p) (left_lines q)) (map-put p qs)
+  where
+    by : (b : Bool) → map left_lines (put_place p qs) ≡ put_among (left_lines p) (map left_lines qs)
+        → map left_lines (cond b (p ∷ q ∷ qs) (q ∷ put_place p qs)) ≡ cond b (left_lines p ∷ left_lines q ∷ map left_lines qs) (left_lines q ∷ put_among (left_lines p) (map left_lines qs))
+    by true rest = refl
+    by false rest = ap (λ zs. left_lines q ∷ zs) rest
+
+-- they are in order
+rises : (n : ℕ) (k : KernelState) → Rises (texts n k)
+unfolding left_places
+rises zero k = tt
+rises (suc n) k = by (rises n k) (is_text (left_lines (place_at k.places n)))
+  where
+    by : Rises (texts n k) → (b : Bool) → Rises (map left_lines (cond b (put_place (place_at k.places n) (left_places n k)) (left_places n k)))
+    by before true = subst Rises (sym (map-put (place_at k.places n) (left_places n k))) (put_rises (left_lines (place_at k.places n)) (texts n k) before)
+    by before false = before
 
 -- how often a text stands for a place
 abbrev number : List ℕ → Place → ℕ
-number s p = how_often s (one_text (left_lines p))
+number s p = how_often s (filter is_text (left_lines p ∷ []))
 
-counted : (s : List ℕ) (ps : List Place) → how_often s (filter is_text (map left_lines ps)) ≡ sum_by (number s) ps
-counted s [] = refl
-counted s (p ∷ ps) = by (is_text (left_lines p)) refl (counted s ps) ∙ sym (sum_by-cons (number s) p ps)
+-- one place more of some
+sum-next : (s : List ℕ) (ps : List Place) (n : ℕ) → sum_by (number s) (take (suc n) ps) ≡ sum_by (number s) (take n ps) + number s (place_at ps n)
+sum-next s ps n = elim (cases_lt n (length ps)) [
+  | inl less ↦
+      let one = sum_by-append (number s) (take n ps) (get_or ps n Empty ∷ []) in
+      let here : number s (place_at ps n) ≡ number s (get_or ps n Empty) = ap (number s) (unwrap_or-slice_get ps n Empty) in
+      let more : sum_by (number s) (take (suc n) ps) ≡ sum_by (number s) (take n ps ++ get_or ps n Empty ∷ []) = ap (sum_by (number s)) (take-suc ps n Empty less) in
+      let last = sum_by-cons (number s) (get_or ps n Empty) [] in
+      omega (arith, one, here, more, last)
+  | inr past ↦
+      let none : number s (place_at ps n) ≡ number s Empty = ap (number s) (place_at-past ps n past) in
+      let same : sum_by (number s) (take (suc n) ps) ≡ sum_by (number s) (take n ps) =
+      ap (sum_by (number s)) (take_all (suc n) ps (omega (arith, past)) ∙ sym (take_all n ps past)) in
+      omega (arith, none, same)
+]
+
+-- each text stands there as often as it does for all places
+counted : (s : List ℕ) (n : ℕ) (k : KernelState) → how_often s (texts n k) ≡ sum_by (number s) (take n k.places)
+unfolding left_places
+counted s zero k = refl
+counted s (suc n) k = by (counted s n k) (is_text (left_lines p)) refl
   where
-    by : (b : Bool) → is_text (left_lines p) ≡ b → how_often s (filter is_text (map left_lines ps)) ≡ sum_by (number s) ps
-        → how_often s (cond (is_text (left_lines p)) (left_lines p ∷ filter is_text (map left_lines ps)) (filter is_text (map left_lines ps))) ≡ number s p + sum_by (number s) ps
-    by true is rest =
-        let more = one_more s (left_lines p) (filter is_text (map left_lines ps)) in
-        let one = one_more s (left_lines p) [] in
-        rw is (omega (arith, more, one, rest))
-    by false is rest =
-        let none : number s p ≡ 0 = rw is refl in
-        let same : how_often s (cond (is_text (left_lines p)) (left_lines p ∷ filter is_text (map left_lines ps)) (filter is_text (map left_lines ps))) ≡ how_often s (filter is_text (map left_lines ps)) = rw is refl in
-        omega (arith, none, same, rest)
+    p : Place
+    p = place_at k.places n
+
+    by : how_often s (texts n k) ≡ sum_by (number s) (take n k.places) → (b : Bool) → is_text (left_lines p) ≡ b → how_often s (map left_lines (cond b (put_place p (left_places n k)) (left_places n k))) ≡ sum_by (number s) (take (suc n) k.places)
+    by rest true is =
+        let put : how_often s (map left_lines (put_place p (left_places n k))) ≡ how_often s (put_among (left_lines p) (texts n k)) = ap (how_often s) (map-put p (left_places n k)) in
+        let among = put_count s (left_lines p) (texts n k) in
+        let one : number s p ≡ one_if s (left_lines p) + 0 = ap (λ b. how_often s (cond b (left_lines p ∷ []) [])) is ∙ one_more s (left_lines p) [] in
+        let next = sum-next s k.places n in
+        omega (arith, put, among, one, rest, next)
+    by rest false is =
+        let none : number s p ≡ 0 = ap (λ b. how_often s (cond b (left_lines p ∷ []) [])) is in
+        let next = sum-next s k.places n in
+        omega (arith, none, rest, next)
 
 -- in kernels that are alike the same is left
 pub left_alike : (k j : KernelState) → IsAlike k j → left_text j ≡ left_text k
 unfolding left_text
 left_alike k j a =
-    ap (flat_map (λ lines. lines))
-    (same_order (left_texts j) (left_texts k) (λ s. counted s (take 64 j.places) ∙ sum_alike (number s) refl k j a ∙ sym (counted s (take 64 k.places))))
+    flat-map left_lines (left_places 64 j)
+    ∙ ap (flat_map (λ lines. lines)) (one_order (texts 64 j) (texts 64 k) (rises 64 j) (rises 64 k)
+    (λ s. counted s 64 j ∙ sum_alike (number s) refl k j a ∙ sym (counted s 64 k)))
+    ∙ sym (flat-map left_lines (left_places 64 k))

@@ -19,6 +19,7 @@ pub mod ToldLemmas
 mod FailureLemmas
 mod ValueLemmas
 mod LeftOrder
-mod MemberLemmas
+mod UnmetLemmas
 mod ScheduleValues
 mod CallLemmas
+mod LineOfAnswers

@@ -1,14 +1,14 @@
 -- Texts in order are one list, whatever their order was before.
-use Rattle.std.proofs.Common.{ℕ, suc, ◌≡◌, ◌<◌, ◌≤◌, ◌+◌, Bool, true, false, cond, List, [], ◌∷◌, map, length, get_or, sum_by, bytes_eq, refl, sym, ap, subst, ◌∙◌, arith, nat_cmp, is_lt, is_eq, Ordering, Less, Equal, Greater, IsPermutation, IsSorted, string_bytes, string_cmp, String, true≢false}
+use Rattle.std.proofs.Common.{ℕ, ◌≡◌, ◌≤◌, ◌+◌, Bool, true, false, cond, List, [], ◌∷◌, sum_by, bytes_eq, refl, sym, ap, subst, ◌∙◌, arith, nat_cmp, is_lt, is_eq, Ordering, Less, Equal, Greater, true≢false}
 use Rattle.std.specs.Cmp.{IsStrictWeakOrder}
 use Rattle.std.specs.Cmp.Lexicographic.{slice_cmp, texts_ties, same_text}
 use Rattle.std.specs.Ordering.{ordering_reverse}
 use Rattle.std.specs.List.{AllByRecursion}
 use Rattle.std.proofs.lemmas.Cmp.{nat_list_cmp_total}
 use Rattle.std.proofs.lemmas.List.Sums.{sum_by-cons}
-use Rattle.std.proofs.lemmas.List.Sorted.{sum_by-IsPermutation, IsPermutation-map, sorted_far, ranks_by}
+use Rattle.std.proofs.lemmas.List.Sorted.{ranks_by}
 use Rattle.std.proofs.lemmas.Slice.Eq.{bytes_eq-Decides}
-use Rattle.lab_questions.specs.Orders.{comes_before, put_among, in_order}
+use Rattle.lab_questions.specs.Orders.{comes_before}
 
 order : IsStrictWeakOrder comes_before
 order = ranks_by nat_list_cmp_total (λ t. t)
@@ -25,7 +25,7 @@ same t u h k = by (slice_cmp nat_cmp t u) (slice_cmp nat_cmp u t) refl refl (nat
     by Greater Greater at back flip = absurd (true≢false (sym (ap is_lt (flip ∙ ap ordering_reverse back)) ∙ h))
 
 -- no text comes before one that stands before it
-abbrev Rises : List (List ℕ) → Type 0
+abbrev pub Rises : List (List ℕ) → Type 0
 Rises [] = Unit {0}
 Rises (t ∷ ts) = AllByRecursion (λ u. comes_before u t ≡ false) ts × Rises ts
 
@@ -88,8 +88,13 @@ one_order (t ∷ ts) (u ∷ us) a b count =
         differ true so = absurd (true≢false (sym ((bytes_eq-Decides t u).1 (sym ((bytes_eq-Decides u t).0 so))) ∙ is))
         differ false not = ap (λ b. cond b 1 0) not
 
--- one text more, among the others
-put_count : (s t : List ℕ) (us : List (List ℕ)) → how_often s (put_among t us) ≡ one_if s t + how_often s us
+-- the text among others that are in order: before the first that it comes before
+abbrev pub put_among : List ℕ → List (List ℕ) → List (List ℕ)
+put_among t [] = t ∷ []
+put_among t (u ∷ us) = cond (comes_before t u) (t ∷ u ∷ us) (u ∷ put_among t us)
+
+-- how often a text is there then
+pub put_count : (s t : List ℕ) (us : List (List ℕ)) → how_often s (put_among t us) ≡ one_if s t + how_often s us
 put_count s t [] = one_more s t []
 put_count s t (u ∷ us) = by (put_count s t us) (comes_before t u)
   where
@@ -112,7 +117,8 @@ all_weaker : (P Q : List ℕ → Type 0) → ((x : List ℕ) → P x → Q x) �
 all_weaker P Q weaker [] all = tt
 all_weaker P Q weaker (u ∷ us) all = (weaker u all.0, all_weaker P Q weaker us all.1)
 
-put_rises : (t : List ℕ) (us : List (List ℕ)) → Rises us → Rises (put_among t us)
+-- the texts are still in order
+pub put_rises : (t : List ℕ) (us : List (List ℕ)) → Rises us → Rises (put_among t us)
 put_rises t [] h = (tt, tt)
 put_rises t (u ∷ us) h = by (put_rises t us h.1) (comes_before t u) refl
   where
@@ -121,39 +127,3 @@ put_rises t (u ∷ us) h = by (put_rises t us h.1) (comes_before t u) refl
         let behind = order.one_way t u is in
         ((behind, all_weaker (λ x. comes_before x u ≡ false) (λ x. comes_before x t ≡ false) (λ x not. order.chain x u t not behind) us h.0), h)
     by later false is = (put_all (λ x. comes_before x u ≡ false) t us is h.0, later)
-
-order_rises : (ts : List (List ℕ)) → Rises (in_order ts)
-unfolding in_order
-order_rises [] = tt
-order_rises (t ∷ ts) = put_rises t (in_order ts) (order_rises ts)
-
-order_count : (s : List ℕ) (ts : List (List ℕ)) → how_often s (in_order ts) ≡ how_often s ts
-unfolding in_order
-order_count s [] = refl
-order_count s (t ∷ ts) =
-    let put = put_count s t (in_order ts) in
-    let rest = order_count s ts in
-    let more = one_more s t ts in
-    omega (arith, put, rest, more)
-
--- lists with the same texts have one order
-pub same_order : (ts us : List (List ℕ)) → ((s : List ℕ) → how_often s ts ≡ how_often s us) → in_order ts ≡ in_order us
-same_order ts us count = one_order (in_order ts) (in_order us) (order_rises ts) (order_rises us) (λ s. order_count s ts ∙ count s ∙ sym (order_count s us))
-
-module _ {Z : Type 0} where
-  above_of : (x : String Z) (xs : List (String Z)) → ((k : ℕ) → k < length xs → comes_before (string_bytes (get_or xs k x)) (string_bytes x) ≡ false)
-      → AllByRecursion (λ u. comes_before u (string_bytes x) ≡ false) (map string_bytes xs)
-  above_of x [] h = tt
-  above_of x (y ∷ ys) h = (h 0 (omega arith), above_of x ys (λ k p. h (suc k) (omega (arith, p))))
-
-  rises_of : (xs : List (String Z)) → ((i j : ℕ) (d : String Z) → i ≤ j → j < length xs → comes_before (string_bytes (get_or xs j d)) (string_bytes (get_or xs i d)) ≡ false)
-      → Rises (map string_bytes xs)
-  rises_of [] h = tt
-  rises_of (x ∷ xs) h = (above_of x xs (λ k p. h 0 (suc k) x (omega arith) (omega (arith, p))), rises_of xs (λ i j d p q. h (suc i) (suc j) d (omega (arith, p)) (omega (arith, q))))
-
-  -- what a sort makes of texts is their order
-  pub sorted_texts : (xs ys : List (String Z)) → IsPermutation xs ys → IsSorted string_cmp ys → map string_bytes ys ≡ in_order (map string_bytes xs)
-  sorted_texts xs ys moved sorted =
-      one_order (map string_bytes ys) (in_order (map string_bytes xs))
-      (rises_of ys (sorted_far (λ a b. is_lt (string_cmp a b)) (ranks_by nat_list_cmp_total string_bytes) ys sorted)) (order_rises (map string_bytes xs))
-      (λ s. sum_by-IsPermutation (one_if s) (map string_bytes xs) (map string_bytes ys) (IsPermutation-map string_bytes xs ys moved) ∙ sym (order_count s (map string_bytes xs)))

@@ -1,8 +1,5 @@
 -- The text of an exploration, and what stands in it.
-use Rattle.std.proofs.Common.{ℕ, zero, suc, ◌≡◌, ◌<◌, ◌+◌, Bool, true, false, List, [], ◌∷◌, ◌++◌, Option, Some, None, slice_get, get_or, length, refl, sym, ap, ap₂, subst, ◌∙◌, append-nil, append_assoc, codes, decimal, arith}
-use Rattle.std.proofs.lemmas.Option.{slice_get_read}
-use Rattle.lab_texts.specs.Rows.{texts_below}
-use Rattle.lab_texts.proofs.RowLemmas.{texts_below_more}
+use Rattle.std.proofs.Common.{ℕ, zero, suc, ◌≡◌, ◌+◌, Bool, true, false, List, [], ◌∷◌, ◌++◌, Option, Some, None, slice_get, get_or, length, refl, sym, ap, subst, ◌∙◌, append-nil, append_assoc, codes, decimal, arith}
 use Rattle.lab_sched.specs.declared.schedule.block.Block.{Block}
 use Rattle.lab_sched.specs.ScheduleTexts.{schedule_text}
 use Rattle.lab_worlds.specs.declared.ends.End.{End}
@@ -48,15 +45,6 @@ end_told bytes n text blocks = around bytes (codes "end ") (decimal n) (codes "\
   where
     around : (bytes a b c d e f : List ℕ) → bytes ++ (a ++ (b ++ (c ++ (d ++ (e ++ (f ++ c)))))) ≡ bytes ++ (a ++ b ++ c ++ d ++ (e ++ f ++ c))
     around bytes a b c d e f = simp append_assoc
-
--- the lines of what stands beside each other, and the next ones
-pub lines-next : {X Y : Type 0} (lines : Option X → Option Y → List ℕ) (bytes now next : List ℕ) (xs : List X) (ys : List Y) (i : ℕ) (x : X) (y : Y) → i < length xs → i < length ys
-    → x ≡ get_or xs i x → y ≡ get_or ys i y → now ≡ bytes ++ texts_below i (λ k. lines (slice_get xs k) (slice_get ys k)) → next ≡ now ++ lines (Some x) (Some y)
-    → next ≡ bytes ++ texts_below (i + 1) (λ k. lines (slice_get xs k) (slice_get ys k))
-lines-next lines bytes now next xs ys i x y one two is_x is_y before added =
-    let text : ℕ → List ℕ = λ k. lines (slice_get xs k) (slice_get ys k) in
-    added ∙ ap₂ (λ o q. now ++ lines o q) (sym (slice_get_read xs (length xs) i x refl one is_x)) (sym (slice_get_read ys (length ys) i y refl two is_y))
-    ∙ ap (λ b. b ++ text i) before ∙ texts_below_more bytes text i
 
 -- one end more
 pub ends-push : (show : Show) (n : ℕ) (es : List End) (e : End) → ends_text show n (es ++ e ∷ []) ≡ ends_text show n es ++ end_lines (n + length es) (text_of show e) e.schedule

@@ -1,69 +1,99 @@
 -- Values of JSON, one after the other.
-use Rattle.std.proofs.Common.{ℕ, ◌≡◌, ◌<◌, ◌≤◌, ◌+◌, Option, Some, None, String, Global, List, [], ◌∷◌, ◌++◌, filter_map, length, map, min, zip, slice_get, get_or, string_bytes, take, take_all, refl, sym, ap, ap₂, ◌∙◌, append_assoc, arith}
-use Rattle.std.proofs.lemmas.List.{map-append, take_more}
-use Rattle.std.proofs.lemmas.List.FromFn.{length-enumerate_from, get_or-enumerate_from}
-use Rattle.std.proofs.lemmas.Slice.Zip.{get_or-zip, length-zip}
-use Rattle.std.proofs.lemmas.List.Elements.{filter_map-append}
-use Rattle.std.proofs.lemmas.Option.{slice_get_read, slice_get_within, slice_get-get_or, get_or_from_slice_get}
+use Rattle.std.proofs.Common.{ℕ, zero, suc, ◌≡◌, ◌<◌, ◌+◌, true, false, cond, nat_lt, Option, Some, None, List, [], ◌∷◌, ◌++◌, flat_map, length, map, slice_get, take, unwrap_or, refl, sym, ap, ◌∙◌, append_assoc, append-nil, codes, arith}
 use Rattle.std.specs.List.{enumerate_from}
-use Rattle.std.specs.Option.{option_to_list}
+use Rattle.std.specs.Prelude.{option_map}
+use Rattle.std.proofs.lemmas.Bool.Decides.{nat_tests}
+use Rattle.std.proofs.lemmas.List.{length-map}
+use Rattle.std.proofs.lemmas.List.FromFn.{length-enumerate_from}
+use Rattle.std.proofs.lemmas.Option.{slice_get-map, slice_get-get_or}
+use Rattle.lc3_word.specs.Words.{hexadecimal_text}
+use Rattle.lab_sched.specs.Worlds.{machine_of, Process}
+use Rattle.lab_worlds.specs.declared.ends.End.{End}
+use Rattle.lab_questions.specs.declared.asked.Show.{Show}
+use Rattle.lab_questions.specs.Findings.{end_or_null, ends_told}
+use Rattle.lab_questions.specs.Private.Rows.{comma_before}
+use Rattle.lab_questions.specs.ProcessMembers.{process_json, status_word, stop_member}
+use Rattle.lab_questions.specs.Values.{array_json, character_json, further_json, name_json, text_json, values_json}
+use Rattle.lab_questions.proofs.ListLemmas.{flat_map-next}
 
--- the first elements and the next one
-take-next : {X : Type 0} (xs : List X) (i : ℕ) (x : X) → slice_get xs i ≡ Some x → take (i + 1) xs ≡ take i xs ++ x ∷ []
-take-next xs i x at = take_more xs i x (slice_get_within xs i x at) ∙ ap (λ y. take i xs ++ y ∷ []) (get_or_from_slice_get xs i x x at)
+-- the value in a place
+pub value_at : {X : Type 0} (f : X → List ℕ) (xs : List X) (k : ℕ) → slice_get (map f xs) k ≡ option_map f (slice_get xs k)
+value_at f xs k = slice_get-map f xs k
 
--- the values of the first elements, and that of the next one
-pub value-next : {X : Type 0} (f : X → List ℕ) (xs : List X) (i : ℕ) (x : X) (olds news : List (String Global)) (value : String Global) → slice_get xs i ≡ Some x
-    → map string_bytes olds ≡ map f (take i xs) → news ≡ olds ++ value ∷ [] → string_bytes value ≡ f x → map string_bytes news ≡ map f (take (i + 1) xs)
-value-next f xs i x olds news value at before added is =
-    ap (map string_bytes) added
-    ∙ map-append string_bytes olds (value ∷ [])
-    ∙ ap (λ vs. vs ++ string_bytes value ∷ []) before
-    ∙ ap (λ v. map f (take i xs) ++ v ∷ []) is
-    ∙ sym (map-append f (take i xs) (x ∷ []))
-    ∙ ap (map f) (sym (take-next xs i x at))
+-- the same of what is made of something that is made of it
+pub nested_at : {X Y Z : Type 0} (g : Y → Z) (f : X → Y) (xs : List X) (k : ℕ) → slice_get (map g (map f xs)) k ≡ option_map (λ x. g (f x)) (slice_get xs k)
+nested_at g f [] k = refl
+nested_at g f (x ∷ xs) zero = refl
+nested_at g f (x ∷ xs) (suc k) = nested_at g f xs k
 
--- what one element more gives
-one-given : {X : Type 0} (h : X → Option (List ℕ)) (x : X) → filter_map h (x ∷ []) ≡ option_to_list (h x)
-one-given h x = by (h x) refl
+-- one value more
+pub values_next : (vs : List (List ℕ)) (i : ℕ) → i < length vs → values_json (take i vs) ++ (comma_before i ++ unwrap_or (slice_get vs i) []) ≡ values_json (take (i + 1) vs)
+values_next [] i within = absurd (omega (arith, within))
+values_next (v ∷ vs) zero within = sym (append-nil v)
+values_next (v ∷ vs) (suc i) within =
+    let there : slice_get vs i ≡ Some (unwrap_or (slice_get vs i) []) = there_is (slice_get vs i) (slice_get-get_or vs i [] (omega (arith, within))) in
+    let later : nat_lt 0 (suc i) ≡ true = grind (arith, nat_tests) in
+    let next : suc (i + 1) ≡ suc i + 1 = omega arith in
+    ap (λ b. values_json (take (suc i) (v ∷ vs)) ++ (cond b (codes ",") [] ++ unwrap_or (slice_get vs i) [])) later
+    ∙ append_assoc v (further_json (take i vs)) (codes "," ++ unwrap_or (slice_get vs i) [])
+    ∙ ap (λ l. v ++ l) (flat_map-next (λ value. codes "," ++ value) [] vs i (unwrap_or (slice_get vs i) []) there)
+    ∙ ap (λ n. values_json (take n (v ∷ vs))) next
   where
-    by : (o : Option (List ℕ)) → h x ≡ o → filter_map h (x ∷ []) ≡ option_to_list (h x)
-    by None is = rw is refl
-    by (Some v) is = rw is refl
+    there_is : (o : Option (List ℕ)) {x : List ℕ} → o ≡ Some x → o ≡ Some (unwrap_or o [])
+    there_is None is = absurd (cc)
+    there_is (Some v) is = refl
 
--- what the first elements give, and the next one
-pub given-next : {X : Type 0} (h : X → Option (List ℕ)) (xs : List X) (i : ℕ) (x : X) (olds now next : List (List ℕ)) (told : Option (List ℕ)) → slice_get xs i ≡ Some x
-    → now ≡ olds ++ filter_map h (take i xs) → next ≡ now ++ option_to_list told → told ≡ h x → next ≡ olds ++ filter_map h (take (i + 1) xs)
-given-next h xs i x olds now next told at before added is =
-    let front = filter_map h (take i xs) in
-    added
-    ∙ ap (λ vs. vs ++ option_to_list told) before
-    ∙ append_assoc olds front (option_to_list told)
-    ∙ ap (λ o. olds ++ (front ++ option_to_list o)) is
-    ∙ ap (λ vs. olds ++ (front ++ vs)) (sym (one-given h x))
-    ∙ ap (λ vs. olds ++ vs) (sym (filter_map-append h (take i xs) (x ∷ [])) ∙ ap (filter_map h) (sym (take-next xs i x at)))
+numbered : {X : Type 0} (n : ℕ) (xs : List X) (k : ℕ) → slice_get (enumerate_from n xs) k ≡ option_map (λ x. (n + k, x)) (slice_get xs k)
+numbered n [] k = refl
+numbered n (x ∷ xs) zero = let same : n ≡ n + 0 = omega arith in ap (λ m. Some (m, x)) same
+numbered n (x ∷ xs) (suc k) =
+    let same : (n + 1) + k ≡ n + suc k = omega arith in
+    numbered (n + 1) xs k ∙ ap (λ m. option_map (λ y. (m, y)) (slice_get xs k)) same
 
--- what the elements beside each other give, and the next ones
-pub zipped-next : {X Y : Type 0} (h : X × Y → Option (List ℕ)) (xs : List X) (ys : List Y) (i : ℕ) (x : X) (y : Y) (olds now next : List (List ℕ)) (told : Option (List ℕ))
-    → i < length xs → i < length ys → x ≡ get_or xs i x → y ≡ get_or ys i y → now ≡ olds ++ filter_map h (take i (zip xs ys)) → next ≡ now ++ option_to_list told
-    → told ≡ h (x, y) → next ≡ olds ++ filter_map h (take (i + 1) (zip xs ys))
-zipped-next h xs ys i x y olds now next told one two here there =
-    given-next h (zip xs ys) i (x, y) olds now next told
-    (slice_get_read (zip xs ys) (length (zip xs ys)) i (x, y) refl (omega (arith, length-zip xs ys, one, two))
-    (ap₂ (λ a b. (a, b)) here there ∙ sym (get_or-zip xs ys i (x, y) one two)))
+-- as many as there are numbers
+pub ends_count : (show : Show) (ends : List End) (numbers : List ℕ) → length (ends_told show ends numbers) ≡ length numbers
+unfolding ends_told
+ends_count show ends numbers = length-map (enumerate_from 0 numbers) (λ (told : ℕ × ℕ). end_or_null show (told.0 + 1) (slice_get ends told.1)) ∙ length-enumerate_from 0 numbers
 
--- what all elements beside each other give
-pub zipped-all : {X Y : Type 0} (h : X × Y → Option (List ℕ)) (xs : List X) (ys : List Y) (i : ℕ) (olds now : List (List ℕ)) → min (length xs) (length ys) ≤ i
-    → now ≡ olds ++ filter_map h (take i (zip xs ys)) → now ≡ olds ++ filter_map h (zip xs ys)
-zipped-all h xs ys i olds now behind is =
-    is ∙ ap (λ pairs. olds ++ filter_map h pairs) (take_all i (zip xs ys) (omega (arith, length-zip xs ys, behind)))
+-- the end in a place
+pub end_at : (show : Show) (ends : List End) (numbers : List ℕ) (k : ℕ) → slice_get (ends_told show ends numbers) k ≡ option_map (λ n. end_or_null show (k + 1) (slice_get ends n)) (slice_get numbers k)
+unfolding ends_told
+end_at show ends numbers k =
+    let same : 0 + k ≡ k = omega arith in
+    slice_get-map one (enumerate_from 0 numbers) k
+    ∙ ap (option_map one) (numbered 0 numbers k ∙ ap (λ m. option_map (λ n. (m, n)) (slice_get numbers k)) same)
+    ∙ both (slice_get numbers k)
+  where
+    one : ℕ × ℕ → List ℕ
+    one told = end_or_null show (told.0 + 1) (slice_get ends told.1)
 
--- an element with its number
-pub numbered : {X : Type 0} (xs : List X) (i : ℕ) (x : X) → slice_get xs i ≡ Some x → slice_get (enumerate_from 0 xs) i ≡ Some (i, x)
-numbered xs i x at =
-    let within : i < length xs = slice_get_within xs i x at in
-    let same : 0 + i ≡ i = omega arith in
-    slice_get-get_or (enumerate_from 0 xs) i (i, x) (omega (arith, length-enumerate_from 0 xs, within))
-    ∙ ap Some (get_or-enumerate_from 0 xs i (i, x) within)
-    ∙ ap (λ n. Some (n, get_or xs i x)) same
-    ∙ ap (λ y. Some (i, y)) (get_or_from_slice_get xs i x x at)
+    both : (o : Option ℕ) → option_map one (option_map (λ n. (k, n)) o) ≡ option_map (λ n. end_or_null show (k + 1) (slice_get ends n)) o
+    both None = refl
+    both (Some n) = refl
+
+-- arrays of one value and of two
+pub one_listed : (a : List ℕ) → array_json (a ∷ []) ≡ codes "[" ++ (a ++ codes "]")
+one_listed a = simp append-nil
+
+pub two_listed : (a b : List ℕ) → array_json (a ∷ b ∷ []) ≡ codes "[" ++ (a ++ (codes "," ++ (b ++ codes "]")))
+two_listed a b = simp (append_assoc, append-nil)
+
+-- a process, and what it has written alone
+pub process_told : (s : Process) → process_json false s
+    ≡ codes "{\"status\":" ++ (name_json (status_word s) ++ (codes ",\"pc\":" ++ (name_json (hexadecimal_text (machine_of s).pc) ++ (codes "," ++ (stop_member s
+    ++ (codes ",\"out\":" ++ (text_json (machine_of s).output ++ codes "}")))))))
+unfolding process_json
+process_told s = refl
+
+pub output_told : (s : Process) → process_json true s ≡ codes "{\"out\":" ++ (text_json (machine_of s).output ++ codes "}")
+unfolding process_json
+output_told s = refl
+
+-- the texts of objects
+pub semaphore_told : (name : List ℕ) → text_json (codes "sem " ++ name) ≡ codes "\"sem " ++ (flat_map character_json name ++ codes "\"")
+unfolding text_json character_json
+semaphore_told name = refl
+
+pub queue_told : (name : List ℕ) → text_json (codes "mq " ++ name) ≡ codes "\"mq " ++ (flat_map character_json name ++ codes "\"")
+unfolding text_json character_json
+queue_told name = refl

@@ -1,16 +1,13 @@
 -- What is asked of calls on every way, and what is told of a way on which it isn't so.
-use Rattle.std.specs.Prelude.{ℕ, ◌≡◌, ◌⊎◌, ◌++◌, Bool, true, false, Option, Some, List, [], All, codes, length, min, slice_get, string_bytes}
+use Rattle.std.specs.Prelude.{ℕ, ◌≡◌, ◌⊎◌, Bool, Option, Some, List, All, slice_get}
 use Rattle.lab_sched.specs.ScheduleTexts.{schedule_text}
 use Rattle.lab_sched.specs.declared.schedule.block.Block.{Block}
-use Rattle.lab_texts.specs.Rows.{texts_below}
 use Rattle.lab_ways.specs.declared.ways.Ways.{Ways}
 use Rattle.lab_ways.specs.declared.ways.Ways.TheVariants.{Always, Without}
 use Rattle.lab_worlds.specs.declared.exploration.Exploration.{Exploration}
 use Rattle.lab_questions.specs.declared.answers.Answer.{Answer}
-use Rattle.lab_questions.specs.declared.called.CallWord.{CallWord}
 use Rattle.lab_questions.specs.declared.failure.Failure.{Failure}
 use Rattle.lab_questions.specs.declared.failure.Failure.TheVariants.{Not, Output, Reached, Endless, Call, Incomplete}
-use Rattle.lab_questions.specs.EndTexts.{schedule_line}
 use Rattle.lab_questions.specs.Programs.{Passes, IsFailure}
 
 -- all that is asked is so on every way
@@ -35,21 +32,6 @@ IsFailureOfAll plain found answers faults ways (Call k) = NothingElse plain foun
 IsFailureOfAll plain found answers faults ways Incomplete =
     NothingElse plain found answers faults × ((k : ℕ) → IsAgainst ways k → ⊥)
     × (IsFailure plain found answers faults Incomplete ⊎ (AreAlways ways → ⊥))
-
--- how the line begins of what isn't so: of what must never be, or of what must be
-abbrev pub call_head : Bool → List ℕ
-call_head true = codes "reached "
-call_head false = codes "uncalled "
-
--- the lines of what is asked of calls, if a way shows that it isn't so, with the schedule of that way
-abbrev pub call_lines : Option CallWord → Option Ways → List ℕ
-call_lines (Some word) (Some (Without s)) = call_head word.never ++ string_bytes word.text ++ codes "\n" ++ schedule_line s
-call_lines word ways = []
-
--- the lines of all that is asked of calls, in order
-unfoldable pub calls_lines : List CallWord → List Ways → List ℕ
-calls_lines words ways =
-    texts_below (min (length words) (length ways)) (λ k. call_lines (slice_get words k) (slice_get ways k))
 
 -- the text of the schedule of the way that shows number k of what is asked not to be so
 abbrev pub ShowsWay : List Ways → ℕ → List ℕ → Type 0

@@ -1,13 +1,11 @@
--- The last members of the answers.
+-- The values of the last members of the answers.
 use Rattle.std.specs.Prelude.{ℕ, Bool, true, false, List, [], ◌∷◌, Option, Some, None, codes, map}
 use Rattle.lab_worlds.specs.declared.lassos.Lasso.{Lasso}
-use Rattle.lab_questions.specs.declared.answers.Answers.{Answers}
 use Rattle.lab_questions.specs.declared.failure.Failure.{Failure}
 use Rattle.lab_questions.specs.declared.failure.Failure.TheVariants.{Incomplete}
 use Rattle.lab_questions.specs.declared.object.Object.{Object}
 use Rattle.lab_questions.specs.Objects.{object_text}
-use Rattle.lab_questions.specs.Programs.{judges}
-use Rattle.lab_questions.specs.Values.{text_json, schedule_json, truth_json, array_json, member, object_json}
+use Rattle.lab_questions.specs.Values.{text_json, schedule_json, member, object_json}
 
 -- objects, each as a condition names it
 abbrev pub objects_told : List Object → List (List ℕ)
@@ -28,13 +26,3 @@ holds_json false failure = codes "null"
 holds_json true None = codes "true"
 holds_json true (Some Incomplete) = codes "null"
 holds_json true (Some failure) = codes "false"
-
--- the members for the objects that nobody opens, for whether only fair lassos are told, for a
--- lasso, and for whether all is as it has to be
-unfoldable pub last_members : Answers → List (List ℕ)
-last_members answers =
-    member (codes "unopened") (array_json (objects_told answers.unopened.items))
-    ∷ member (codes "fair") (truth_json answers.exploration.fair)
-    ∷ member (codes "endless") (lasso_json answers.exploration.lasso)
-    ∷ member (codes "holds") (holds_json (judges answers.asked) answers.failure)
-    ∷ []

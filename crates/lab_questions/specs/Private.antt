@@ -4,3 +4,4 @@ pub mod Presences
 pub mod Lefts
 pub mod Readings
 pub mod CallFailures
+pub mod Rows

@@ -3,8 +3,7 @@ use Rattle.std.specs.Prelude.{ℕ, Bool, true, false, Option, Some, None, List, 
 use Rattle.std.specs.Fmt.{decimal}
 use Rattle.lc3_word.specs.Words.{hexadecimal_text}
 use Rattle.ipc_objects.specs.declared.queue.Message.{Message}
-use Rattle.ipc_kernel.specs.declared.place.Place.{Place}
-use Rattle.ipc_kernel.specs.declared.place.Place.TheVariants.{Empty, Mq, Sem}
+use Rattle.ipc_objects.specs.Queue.{QueueState}
 use Rattle.lab_sched.specs.Worlds.{machine_of, Process, Running, Waiting, Ended, WorldState}
 use Rattle.lab_texts.specs.Texts.{how_text, place_text}
 use Rattle.lab_questions.specs.Values.{text_json, array_json, member, name_json, object_json}
@@ -56,8 +55,7 @@ message_json name m =
     ∷ member (codes "words") (array_json (map word_json m.words))
     ∷ [])
 
--- the messages in a place, in the order in which they would be received
-abbrev pub messages_in : Place → List (List ℕ)
-messages_in Empty = []
-messages_in (Mq name queue) = map (message_json name) queue.messages
-messages_in (Sem name value) = []
+-- the messages in a queue with its name or none, if there is one, in the order in which they would be received
+abbrev pub messages_in : Option (Option (List ℕ) × QueueState) → List (List ℕ)
+messages_in None = []
+messages_in (Some held) = map (message_json held.0) held.1.messages

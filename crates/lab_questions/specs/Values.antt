@@ -1,5 +1,5 @@
 -- Values of JSON.
-use Rattle.std.specs.Prelude.{ℕ, ◌/◌, ◌%◌, ◌==◌, ◌&&◌, nat_le, if◌then◌else◌, Bool, true, false, List, [], ◌∷◌, ◌++◌, codes, flat_map}
+use Rattle.std.specs.Prelude.{ℕ, ◌/◌, ◌%◌, ◌==◌, ◌&&◌, nat_le, if◌then◌else◌, Bool, false, List, [], ◌∷◌, ◌++◌, codes, flat_map}
 use Rattle.std.specs.Fmt.{digit_glyph}
 use Rattle.lab_sched.specs.declared.schedule.block.Block.{Block}
 use Rattle.lab_sched.specs.ScheduleTexts.{schedule_text}
@@ -26,8 +26,7 @@ schedule_json blocks = text_json (schedule_text blocks)
 
 -- a truth
 abbrev pub truth_json : Bool → List ℕ
-truth_json true = codes "true"
-truth_json false = codes "false"
+truth_json truth = if truth then codes "true" else codes "false"
 
 -- values behind others, each behind a comma
 abbrev pub further_json : List (List ℕ) → List ℕ
@@ -46,9 +45,19 @@ array_json values = codes "[" ++ values_json values ++ codes "]"
 abbrev pub member : List ℕ → List ℕ → List ℕ
 member name value = codes "\"" ++ name ++ codes "\":" ++ value
 
+-- members behind others, and what stands behind them
+abbrev pub further_members : List (List ℕ) → List ℕ → List ℕ
+further_members [] end = end
+further_members (m ∷ ms) end = codes "," ++ (m ++ further_members ms end)
+
+-- members with commas between them, and what stands behind them
+abbrev pub members_json : List (List ℕ) → List ℕ → List ℕ
+members_json [] end = end
+members_json (m ∷ ms) end = m ++ further_members ms end
+
 -- an object of these members
 abbrev pub object_json : List (List ℕ) → List ℕ
-object_json members = codes "{" ++ values_json members ++ codes "}"
+object_json members = codes "{" ++ members_json members (codes "}")
 
 -- a name, none of whose characters stands otherwise in a text, as one
 abbrev pub name_json : List ℕ → List ℕ

@@ -1,5 +1,5 @@
 //! What is asked of calls on every way, and what a way shows not to be so.
-ghost use Rattle.std.specs.Prelude.{◌≡◌, ◌↔◌, ℕ, List, None, Some, false, IfOk, IfSome, IsTrue, slice_get, string_bytes};
+ghost use Rattle.std.specs.Prelude.{◌≡◌, ◌↔◌, ℕ, List, None, Some, IfOk, IfSome, IsTrue, slice_get, string_bytes};
 ghost use Rattle.lab_sched.specs.declared.schedule.block.Block.{Block};
 ghost use Rattle.lab_ways.specs.Ways.{AreAllWays};
 ghost use Rattle.lab_ways.specs.declared.ways.Ways.TheVariants.{Always, Without};
@@ -51,12 +51,7 @@ pub(crate) fn first_against(ways: &[Ways]) -> Option<usize>
 pub(crate) fn are_always(ways: &[Ways]) -> bool
     ensures always { IsTrue result ↔ AreAlways ways.now }
 {
-    for one in ways {
-        let Ways::Always = one else {
-            return false;
-        };
-    }
-    true
+    ways.iter().all(|one| matches!(one, Ways::Always))
 }
 
 /// The text of the schedule of the way that shows number `number` of what is asked of calls, counted from 0, not to be so.

@@ -1,9 +1,9 @@
 //! The answers as one object.
-ghost use Rattle.std.specs.Prelude.{◌≡◌, ◌++◌, IfOk, OnOk, codes, map, string_bytes};
+ghost use Rattle.std.specs.Prelude.{◌≡◌, Some, IfOk, string_bytes};
+ghost use Rattle.std.specs.Fmt.{decimal};
 ghost use Rattle.std.specs.Option.{option_copied};
-ghost use Rattle.lab_questions.specs.Findings.{found_members, answers_line};
-ghost use Rattle.lab_questions.specs.Members.{last_members};
-ghost use Rattle.lab_questions.specs.Values.{array_json, further_json, member};
+ghost use Rattle.lab_questions.specs.Findings.{answers_line, found_part, last_part, unit_text};
+ghost use Rattle.lab_questions.specs.Values.{member};
 
 mod closing;
 mod ends;
@@ -13,65 +13,96 @@ mod limit;
 mod reasons;
 mod values;
 
-use crate::json::closing::{Cycle, holds_name, objects_told};
-use crate::json::ends::ends_told;
-use crate::json::faults::{never_told, required_told};
+use crate::json::closing::{Cycle, Objects, holds_name};
+use crate::json::ends::Ends;
+use crate::json::faults::Unmets;
 use crate::json::limit::Limit;
 use crate::json::reasons::limits_json;
-use crate::json::values::{Array, Quoted, Truth};
+use crate::json::values::{Array, Quoted};
 use crate::lines::extent_of;
+use crate::unmet::{Judged, unmet_told};
 use crate::{Answers, LimitMet, Reach};
+use lab_worlds::Walks;
 use std::alloc::{AllocError, Global};
-use std::fmt::Write;
+use std::fmt;
 
-fn push_array(text: &mut String, name: &str, values: Vec<String>) -> Result<(), AllocError>
-    ensures text { OnOk result (string_bytes text.new ≡ string_bytes text.old
-        ++ (codes "," ++ member name.now (array_json (map string_bytes values.items)))) }
-{
-    let values = Array(&values);
-    match write!(text, ",\"{name}\":{values}") {
-        Ok(()) => Ok(()),
-        Err(error) => Err(error),
+/// The member for how many worlds were visited, or walks taken.
+#[derive(Clone, Copy)]
+struct Visited(Option<Walks>, u32);
+
+impl fmt::Display for Visited {
+    ghost output = { λ v. Some (member (unit_text v.0) (decimal v.1)) };
+
+    fn fmt<W: fmt::Write>(&self, f: &mut fmt::Formatter<W>) -> fmt::Result {
+        let count = self.1;
+        match self.0 {
+            Some(_) => write!(f, "\"walks\":{count}"),
+            None => write!(f, "\"worlds\":{count}"),
+        }
     }
 }
 
-/// Adds the ends, and what isn't as it has to be.
-#[tactic(auto, using(crate::proofs::MemberLemmas::found_told))]
-fn push_found(alloc: Global, text: &mut String, answers: &Answers) -> Result<(), AllocError>
-    ensures text { OnOk result (string_bytes text.new
-        ≡ string_bytes text.old ++ further_json (found_members answers.now)) }
-{
-    let ends = &answers.exploration.ends;
-    push_array(
-        text,
-        "ends",
-        ends_told(alloc, answers.asked.show, ends, &answers.told)?,
-    )?;
-    push_array(text, "not", required_told(alloc, answers)?)?;
-    push_array(text, "reached", never_told(alloc, answers)?)
+/// The last members, and the end of the line.
+#[derive(Clone, Copy)]
+struct Last<'a>(&'a Answers);
+
+impl fmt::Display for Last<'_> {
+    ghost output = { λ l. Some (last_part l.0.now) };
+
+    #[tactic(auto, unfolding(crate::specs::Findings::last_part))]
+    fn fmt<W: fmt::Write>(&self, f: &mut fmt::Formatter<W>) -> fmt::Result {
+        let answers = self.0;
+        let unopened = Array(Objects(&answers.unopened));
+        let fair = answers.exploration.fair;
+        let endless = Cycle(&answers.exploration.lasso);
+        let holds = holds_name(answers.asked.judges(), answers.failure);
+        write!(
+            f,
+            ",\"unopened\":{unopened},\"fair\":{fair},\"endless\":{endless},\"holds\":{holds}}}\n"
+        )
+    }
 }
 
-/// Adds the last members, and the end of the line.
-#[tactic(auto, using(crate::proofs::MemberLemmas::last_told))]
-fn push_last(alloc: Global, text: &mut String, answers: &Answers) -> Result<(), AllocError>
-    ensures text { OnOk result (string_bytes text.new
-        ≡ string_bytes text.old ++ further_json (last_members answers.now) ++ codes "}\n") }
-{
-    let found = &answers.exploration;
-    let unopened = objects_told(alloc, &answers.unopened)?;
-    let unopened = Array(&unopened);
-    let fair = Truth(found.fair);
-    let endless = Cycle(&found.lasso);
-    let holds = holds_name(answers.asked.judges(), answers.failure);
-    write!(
-        text,
-        ",\"unopened\":{unopened},\"fair\":{fair},\"endless\":{endless},\"holds\":{holds}}}\n"
-    )
+/// The ends, and what isn't as it has to be, and what stands behind them.
+#[derive(Clone, Copy)]
+struct Found<'a> {
+    alloc: Global,
+    answers: &'a Answers,
+}
+
+impl fmt::Display for Found<'_> {
+    ghost output = { λ x. Some (found_part x.answers.now) };
+
+    fn fmt<W: fmt::Write>(&self, f: &mut fmt::Formatter<W>) -> fmt::Result {
+        let answers = self.answers;
+        let found = &answers.exploration;
+        let judged = Judged {
+            asked: &answers.asked,
+            found,
+            answers: &answers.answers,
+            faults: &answers.output_faults,
+            ways: &answers.ways,
+        };
+        let required = unmet_told(self.alloc, judged, false)?;
+        let never = unmet_told(self.alloc, judged, true)?;
+        let ends = Array(Ends {
+            alloc: self.alloc,
+            show: answers.asked.show,
+            ends: &found.ends,
+            numbers: &answers.told,
+        });
+        let required = Array(Unmets(&required));
+        let never = Array(Unmets(&never));
+        let last = Last(answers);
+        write!(
+            f,
+            ",\"ends\":{ends},\"not\":{required},\"reached\":{never}{last}"
+        )
+    }
 }
 
 /// The answers as one line, by how far the exploration was to go, with the limit that it met, if
 /// that is known.
-#[tactic(auto, using(crate::proofs::MemberLemmas::line_told))]
 pub fn answers_json(
     alloc: Global,
     answers: &Answers,
@@ -85,15 +116,7 @@ pub fn answers_json(
     let search = Quoted(extent_of(found.complete));
     let limits = limits_json(found, reach);
     let limit = Limit(limit);
-    let unit = match reach.walks {
-        Some(_) => "walks",
-        None => "worlds",
-    };
-    let count = found.worlds;
-    let mut text = format!(in alloc;
-        "{{\"search\":{search},\"limits\":{limits},\"limit\":{limit},\"{unit}\":{count}"
-    )?;
-    push_found(alloc, &mut text, answers)?;
-    push_last(alloc, &mut text, answers)?;
-    Ok(text)
+    let visited = Visited(reach.walks, found.worlds);
+    let rest = Found { alloc, answers };
+    format!(in alloc; "{{\"search\":{search},\"limits\":{limits},\"limit\":{limit},{visited}{rest}")
 }

@@ -1,8 +1,11 @@
 //! The messages that are left in queues.
-ghost use Rattle.std.specs.Prelude.{◌≡◌, ◌++◌, [], ◌∷◌, OnOk, IfOk, filter, flat_map, map, string_bytes};
+ghost use Rattle.std.specs.Prelude.{◌≡◌, ◌++◌, OnOk, IfOk, flat_map, length, position, string_bytes, unwrap_or};
 ghost use Rattle.std.specs.Option.{option_copied};
+ghost use Rattle.ipc_kernel.specs.Limits.{object_places};
 ghost use Rattle.ipc_kernel.specs.Places.{place_at};
-ghost use Rattle.lab_questions.specs.Left.{left_line, left_lines, is_text, left_texts, left_text};
+ghost use Rattle.lab_questions.specs.Left.{left_line, left_lines, left_text};
+ghost use Rattle.lab_questions.specs.Orders.{comes_before};
+ghost use Rattle.lab_questions.specs.Private.Lefts.{AreLeft};
 
 use ipc_kernel::{Kernel, OBJECT_PLACES};
 use ipc_names::Name;
@@ -31,7 +34,7 @@ fn push_messages(text: &mut String, name: Option<&Name>, queue: &Queue) -> Resul
 
 /// The lines of the messages in a place of a kernel, each `left NAME PRIORITY WORDS`, in the order in
 /// which they would be received.
-pub(crate) fn left_lines(alloc: Global, kernel: &Kernel, place: u8) -> Result<String, AllocError>
+fn left_lines(alloc: Global, kernel: &Kernel, place: u8) -> Result<String, AllocError>
     ensures lines { IfOk result (λ text.
         string_bytes text ≡ left_lines (place_at kernel.now.places place)) }
 {
@@ -42,26 +45,39 @@ pub(crate) fn left_lines(alloc: Global, kernel: &Kernel, place: u8) -> Result<St
     Ok(text)
 }
 
-fn push_text(texts: &mut Vec<String>, text: String) -> Result<(), AllocError>
-    ensures texts { OnOk result (map string_bytes texts.new.items
-        ≡ map string_bytes texts.old.items ++ filter is_text (string_bytes text ∷ [])) }
-{
-    if !text.is_empty() {
-        texts.push(text)?;
-    }
-    Ok(())
+/// A place with messages, and their lines.
+#[derive(Drop)]
+pub(crate) struct Left {
+    pub lines: String,
+    pub place: u8,
 }
 
-/// The lines of each queue that holds messages, with a name or without.
-fn left_texts(alloc: Global, kernel: &Kernel) -> Result<Vec<String>, AllocError>
-    ensures texts { IfOk result (λ texts. map string_bytes texts.items ≡ left_texts kernel.now) }
+/// The number of those before the first whose lines these come before.
+fn index_for(lefts: &[Left], lines: &str) -> usize
+    ensures index { result
+        ≡ unwrap_or (position (λ l. comes_before lines.now (string_bytes l.lines)) lefts.now)
+        (length lefts.now) }
 {
-    let mut texts = Vec::new(alloc);
+    lefts
+        .iter()
+        .position(|left| lines < left.lines.as_str())
+        .unwrap_or(lefts.len())
+}
+
+/// The places in which messages are left, in the order of their lines.
+pub(crate) fn lefts_of(alloc: Global, kernel: &Kernel) -> Result<Vec<Left>, AllocError>
+    ensures lefts { IfOk result (λ lefts. AreLeft kernel.now object_places lefts.items) }
+{
+    let mut lefts = Vec::new(alloc);
     for place in 0..OBJECT_PLACES as u8 {
         let lines = left_lines(alloc, kernel, place)?;
-        push_text(&mut texts, lines)?;
+        if lines.is_empty() {
+            continue;
+        }
+        let at = index_for(&lefts, &lines);
+        lefts.insert(at, Left { lines, place })?;
     }
-    Ok(texts)
+    Ok(lefts)
 }
 
 /// Adds the lines of all messages that are left in the queues of a kernel: queues in the order of the bytes of their lines.
@@ -70,10 +86,9 @@ pub(crate) fn push_left(alloc: Global, text: &mut String, kernel: &Kernel) -> Re
     ensures text { OnOk result (string_bytes text.new
         ≡ string_bytes text.old ++ left_text kernel.now) }
 {
-    let mut texts = left_texts(alloc, kernel)?;
-    texts.sort()?;
-    for part in &texts {
-        text.push_str(part)?;
+    let lefts = lefts_of(alloc, kernel)?;
+    for left in &lefts {
+        text.push_str(&left.lines)?;
     }
     Ok(())
 }

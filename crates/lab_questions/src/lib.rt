@@ -24,6 +24,7 @@ mod showing;
 mod shown;
 mod texts;
 mod told;
+mod unmet;
 mod walking;
 
 pub use answers::{Answer, Answers};

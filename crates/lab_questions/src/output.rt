@@ -61,30 +61,28 @@ fn fits(part: &OutputPart, output: &[u8]) -> bool
     }
 }
 
-fn have_outputs(parts: &[OutputPart], world: &World) -> bool
-    ensures written { IsTrue result
-        ↔ All (λ part. HasOutput part (outputs world.now)) parts.now }
+fn has_output(part: &OutputPart, world: &World) -> bool
+    ensures written { IsTrue result ↔ HasOutput part.now (outputs world.now) }
 {
-    for part in parts {
-        let Some(output) = output_of(world, part.process) else {
-            return false;
-        };
-        if !fits(part, output) {
-            return false;
-        }
-    }
-    true
+    let Some(output) = output_of(world, part.process) else {
+        return false;
+    };
+    fits(part, output)
+}
+
+fn have_outputs(alternative: &Alternative, world: &World) -> bool
+    ensures written { IsTrue result
+        ↔ All (λ part. HasOutput part (outputs world.now)) alternative.now.parts.items }
+{
+    alternative.parts.iter().all(|part| has_output(part, world))
 }
 
 fn has_written(need: &OutputNeed, world: &World) -> bool
     ensures written { IsTrue result ↔ HasWritten need.now world.now }
 {
-    for alternative in &need.alternatives {
-        if have_outputs(&alternative.parts, world) {
-            return true;
-        }
-    }
-    false
+    need.alternatives
+        .iter()
+        .any(|alternative| have_outputs(alternative, world))
 }
 
 /// The number of the first end, counted from 0, that hasn't what is needed, if there is one.

@@ -11,12 +11,7 @@ use lc3_machine::How;
 fn may_wait(waiters: &[Waiter], pid: usize, pc: u16) -> bool
     ensures may { IsTrue result ↔ MayWait waiters.now pid pc }
 {
-    for waiter in waiters {
-        if waiter.process == pid && waiter.first <= pc && pc <= waiter.last {
-            return true;
-        }
-    }
-    false
+    waiters.iter().any(|waiter| waiter.process == pid && waiter.first <= pc && pc <= waiter.last)
 }
 
 /// Whether process `pid` has ended, by HALT if that is asked, or waits where it may.

@@ -1,27 +1,55 @@
 //! What stands at the end of the answers.
-ghost use Rattle.std.specs.Prelude.{◌≡◌, Some, IfOk, map, string_bytes};
+ghost use Rattle.std.specs.Prelude.{◌≡◌, Some};
 ghost use Rattle.lab_questions.specs.Members.{objects_told, lasso_json, holds_json};
+ghost use Rattle.lab_questions.specs.Objects.{object_text};
+ghost use Rattle.lab_questions.specs.Values.{text_json};
 
-use crate::json::values::{StepsValue, Text};
+use crate::json::values::{Characters, StepsValue, Values};
 use crate::{Failure, Object};
 use lab_sched::Steps;
 use lab_worlds::Lasso;
-use std::alloc::{AllocError, Global};
 use std::fmt;
+use std::fmt::Display;
+
+/// An object, as a condition names it.
+#[derive(Clone, Copy)]
+struct ObjectValue<'a>(&'a Object);
+
+impl fmt::Display for ObjectValue<'_> {
+    ghost output = { λ o. Some (text_json (object_text o.0.now)) };
+
+    #[tactic(auto, using(crate::proofs::ValueLemmas::semaphore_told, crate::proofs::ValueLemmas::queue_told))]
+    fn fmt<W: fmt::Write>(&self, f: &mut fmt::Formatter<W>) -> fmt::Result {
+        match self.0 {
+            Object::Semaphore(name) => {
+                let name = Characters(name.text().as_bytes());
+                write!(f, "\"sem {name}\"")
+            }
+            Object::Queue(name) => {
+                let name = Characters(name.text().as_bytes());
+                write!(f, "\"mq {name}\"")
+            }
+        }
+    }
+}
 
 /// Objects, each as a condition names it.
-pub(crate) fn objects_told(alloc: Global, objects: &[Object]) -> Result<Vec<String>, AllocError>
-    ensures values { IfOk result (λ values.
-        map string_bytes values.items ≡ objects_told objects.now) }
-{
-    let mut values = Vec::new(alloc);
-    for object in objects {
-        let named = format!(in alloc; "{object}")?;
-        let text = Text(named.as_bytes());
-        let value = format!(in alloc; "{text}")?;
-        values.push(value)?;
+#[derive(Clone, Copy)]
+pub(crate) struct Objects<'a>(pub &'a [Object]);
+
+impl Values for Objects<'_> {
+    ghost values = { λ o. objects_told o.0.now };
+
+    fn count(&self) -> usize {
+        self.0.len()
     }
-    Ok(values)
+
+    fn write<W: fmt::Write>(&self, place: usize, f: &mut fmt::Formatter<W>) -> fmt::Result {
+        match self.0.get(place) {
+            Some(object) => ObjectValue(object).fmt(f),
+            None => Ok(()),
+        }
+    }
 }
 
 /// A lasso, or `null`.
@@ -31,7 +59,7 @@ pub(crate) struct Cycle<'a>(pub &'a Option<Lasso>);
 impl fmt::Display for Cycle<'_> {
     ghost output = { λ r. Some (lasso_json r.0.now) };
 
-    #[tactic(auto, using(crate::proofs::MemberLemmas::cycle_told))]
+    #[tactic(auto, unfolding(crate::specs::Members::cycle_json))]
     fn fmt<W: fmt::Write>(&self, f: &mut fmt::Formatter<W>) -> fmt::Result {
         let Some(lasso) = self.0 else {
             return write!(f, "null");

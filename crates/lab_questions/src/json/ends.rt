@@ -1,19 +1,18 @@
 //! Ends as JSON.
-ghost use Rattle.std.specs.Prelude.{◌≡◌, Some, IfOk, map, slice_get, string_bytes};
+ghost use Rattle.std.specs.Prelude.{Some, map};
 ghost use Rattle.lab_sched.specs.Held.{process_view};
-ghost use Rattle.lab_questions.specs.Findings.{end_json, end_or_null, ends_told};
-ghost use Rattle.lab_questions.specs.LeftMembers.{left_members};
+ghost use Rattle.lab_questions.specs.Findings.{end_json, ends_told};
 ghost use Rattle.lab_questions.specs.ProcessMembers.{process_json, stop_member};
-ghost use Rattle.lab_questions.specs.Values.{further_json};
 
 use crate::Show;
-use crate::json::left::left_json;
-use crate::json::values::{Array, Quoted, StepsValue, Text, WordValue};
+use crate::json::left::LeftMember;
+use crate::json::values::{Array, Quoted, StepsValue, Text, Values, WordValue};
 use lab_sched::{Process, Steps, World};
 use lab_texts::{Standing, how_name};
 use lab_worlds::End;
-use std::alloc::{AllocError, Global};
+use std::alloc::Global;
 use std::fmt;
+use std::fmt::Display;
 
 /// The member for how a process ended, or else for what stands at its program counter.
 #[derive(Clone, Copy)]
@@ -42,7 +41,7 @@ struct ProcessValue<'a> {
 impl fmt::Display for ProcessValue<'_> {
     ghost output = { λ p. Some (process_json p.out (process_view p.process.now)) };
 
-    #[tactic(auto, using(crate::proofs::MemberLemmas::output_told, crate::proofs::MemberLemmas::process_told))]
+    #[tactic(auto, using(crate::proofs::ValueLemmas::output_told, crate::proofs::ValueLemmas::process_told))]
     fn fmt<W: fmt::Write>(&self, f: &mut fmt::Formatter<W>) -> fmt::Result {
         let machine = self.process.machine();
         let output = Text(machine.output());
@@ -64,82 +63,93 @@ impl fmt::Display for ProcessValue<'_> {
 }
 
 /// The processes of a world, or what they have written alone.
-fn processes_of(alloc: Global, world: &World, out: bool) -> Result<Vec<String>, AllocError>
-    ensures values { IfOk result (λ values.
-        map string_bytes values.items ≡ map (process_json out) world.now.processes) }
-{
-    let mut values = Vec::new(alloc);
-    for pid in 0..world.count() {
-        let Some(process) = world.process(pid) else {
-            return Ok(values);
-        };
-        let process = ProcessValue { process, out };
-        let value = format!(in alloc; "{process}")?;
-        values.push(value)?;
-    }
-    Ok(values)
+#[derive(Clone, Copy)]
+struct Processes<'a> {
+    world: &'a World,
+    out: bool,
 }
 
-/// The member for the messages that are left in a world, if these are told, behind others.
-#[tactic(auto, using(crate::proofs::MemberLemmas::left_told))]
-fn left_member(alloc: Global, world: &World, left: bool) -> Result<String, AllocError>
-    ensures member { IfOk result (λ member.
-        string_bytes member ≡ further_json (left_members left world.now.kernel)) }
-{
-    if !left {
-        return Ok(String::new(alloc));
+impl Values for Processes<'_> {
+    ghost values = { λ p. map (process_json p.out) p.world.now.processes };
+
+    fn count(&self) -> usize {
+        self.world.count()
     }
-    let left = left_json(alloc, world.kernel())?;
-    format!(in alloc; ",\"left\":[{left}]")
+
+    #[tactic(auto, using(crate::proofs::ValueLemmas::value_at))]
+    fn write<W: fmt::Write>(&self, place: usize, f: &mut fmt::Formatter<W>) -> fmt::Result {
+        let Some(process) = self.world.process(place) else {
+            return Ok(());
+        };
+        let out = self.out;
+        ProcessValue { process, out }.fmt(f)
+    }
 }
 
 /// An end under a number.
-#[tactic(auto, using(crate::proofs::MemberLemmas::end_told))]
-fn end_json(alloc: Global, show: Show, number: usize, end: &End) -> Result<String, AllocError>
-    ensures value { IfOk result (λ value.
-        string_bytes value ≡ end_json show number end.now) }
-{
-    let processes = processes_of(alloc, &end.world, show.out)?;
-    let left = left_member(alloc, &end.world, show.left)?;
-    let schedule = StepsValue(Steps(end.schedule.blocks()));
-    let processes = Array(&processes);
-    let verdict = Quoted(end.verdict.word());
-    format!(in alloc;
-        "{{\"end\":{number},\"processes\":{processes},\"verdict\":{verdict}{left},\"schedule\":{schedule}}}"
-    )
-}
-
-/// End number `place` of these, counted from 0, under a number, or `null` if it isn't there.
-fn told_json(
+#[derive(Clone, Copy)]
+struct EndValue<'a> {
     alloc: Global,
     show: Show,
     number: usize,
-    ends: &[End],
-    place: usize,
-) -> Result<String, AllocError>
-    ensures value { IfOk result (λ value.
-        string_bytes value ≡ end_or_null show number (slice_get ends.now place)) }
-{
-    match ends.get(place) {
-        Some(end) => end_json(alloc, show, number, end),
-        None => String::from_str(alloc, "null"),
+    end: &'a End,
+}
+
+impl fmt::Display for EndValue<'_> {
+    ghost output = { λ e. Some (end_json e.show e.number e.end.now) };
+
+    #[tactic(auto, unfolding(crate::specs::Findings::end_json))]
+    fn fmt<W: fmt::Write>(&self, f: &mut fmt::Formatter<W>) -> fmt::Result {
+        let end = self.end;
+        let number = self.number;
+        let processes = Array(Processes {
+            world: &end.world,
+            out: self.show.out,
+        });
+        let verdict = Quoted(end.verdict.word());
+        let left = LeftMember {
+            alloc: self.alloc,
+            kernel: end.world.kernel(),
+            left: self.show.left,
+        };
+        let schedule = StepsValue(Steps(end.schedule.blocks()));
+        write!(
+            f,
+            "{{\"end\":{number},\"processes\":{processes},\"verdict\":{verdict}{left},\"schedule\":{schedule}}}"
+        )
     }
 }
 
-/// The ends with these numbers, counted from 0, under the numbers 1, 2 and so on.
-pub(crate) fn ends_told(
-    alloc: Global,
-    show: Show,
-    ends: &[End],
-    numbers: &[usize],
-) -> Result<Vec<String>, AllocError>
-    ensures values { IfOk result (λ values.
-        map string_bytes values.items ≡ ends_told show ends.now numbers.now) }
-{
-    let mut values = Vec::new(alloc);
-    for (at, number) in numbers.iter().enumerate() {
-        let value = told_json(alloc, show, at + 1, ends, *number)?;
-        values.push(value)?;
+/// The ends with these numbers, counted from 0, under the numbers 1, 2 and so on; `null` for one that isn't there.
+#[derive(Clone, Copy)]
+pub(crate) struct Ends<'a> {
+    pub alloc: Global,
+    pub show: Show,
+    pub ends: &'a [End],
+    pub numbers: &'a [usize],
+}
+
+impl Values for Ends<'_> {
+    ghost values = { λ e. ends_told e.show e.ends.now e.numbers.now };
+
+    #[tactic(auto, using(crate::proofs::ValueLemmas::ends_count))]
+    fn count(&self) -> usize {
+        self.numbers.len()
     }
-    Ok(values)
+
+    fn write<W: fmt::Write>(&self, place: usize, f: &mut fmt::Formatter<W>) -> fmt::Result {
+        let Some(number) = self.numbers.get(place) else {
+            return Ok(());
+        };
+        let Some(end) = self.ends.get(*number) else {
+            return write!(f, "null");
+        };
+        EndValue {
+            alloc: self.alloc,
+            show: self.show,
+            number: place + 1,
+            end,
+        }
+        .fmt(f)
+    }
 }

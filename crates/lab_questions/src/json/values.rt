@@ -1,7 +1,9 @@
 //! Values of JSON.
-ghost use Rattle.std.specs.Prelude.{Some, map, string_bytes};
+ghost use Rattle.std.specs.Prelude.{◌≡◌, ℕ, List, [], Some, flat_map, length, slice_get, unwrap_or};
+ghost use Rattle.std.specs.Fmt.{WritesOnOk};
+ghost use Rattle.lab_questions.specs.Private.Rows.{comma_before};
 ghost use Rattle.lab_questions.specs.ProcessMembers.{word_json};
-ghost use Rattle.lab_questions.specs.Values.{number_json, character_json, text_json, schedule_json, truth_json, values_json, array_json, name_json};
+ghost use Rattle.lab_questions.specs.Values.{number_json, character_json, text_json, schedule_json, values_json, array_json, name_json};
 
 use lab_sched::Steps;
 use lc3_word::Hex;
@@ -44,6 +46,22 @@ impl fmt::Display for Character {
     }
 }
 
+/// Characters, by their numbers, as they stand in a text.
+#[derive(Clone, Copy)]
+pub(crate) struct Characters<'a>(pub &'a [u8]);
+
+impl fmt::Display for Characters<'_> {
+    ghost output = { λ c. Some (flat_map character_json c.0.now) };
+
+    fn fmt<W: fmt::Write>(&self, f: &mut fmt::Formatter<W>) -> fmt::Result {
+        for number in self.0 {
+            let character = Character(*number);
+            write!(f, "{character}")?;
+        }
+        Ok(())
+    }
+}
+
 /// The text of characters, by their numbers.
 #[derive(Clone, Copy)]
 pub(crate) struct Text<'a>(pub &'a [u8]);
@@ -53,12 +71,8 @@ impl fmt::Display for Text<'_> {
 
     #[tactic(auto, unfolding(crate::specs::Values::text_json))]
     fn fmt<W: fmt::Write>(&self, f: &mut fmt::Formatter<W>) -> fmt::Result {
-        write!(f, "\"")?;
-        for number in self.0 {
-            let character = Character(*number);
-            write!(f, "{character}")?;
-        }
-        write!(f, "\"")
+        let characters = Characters(self.0);
+        write!(f, "\"{characters}\"")
     }
 }
 
@@ -88,45 +102,51 @@ impl fmt::Display for WordValue {
     }
 }
 
-#[derive(Clone, Copy)]
-pub(crate) struct Truth(pub bool);
+/// Values, each told by its place.
+pub(crate) trait Values {
+    ghost values: { Self → List (List ℕ) };
 
-impl fmt::Display for Truth {
-    ghost output = { λ t. Some (truth_json t.0) };
+    fn count(&self) -> usize
+        ensures count { result ≡ length (values self.now) };
 
-    fn fmt<W: fmt::Write>(&self, f: &mut fmt::Formatter<W>) -> fmt::Result {
-        let truth = self.0;
-        write!(f, "{truth}")
-    }
+    /// Writes the value in a place, if there is one.
+    fn write<W: fmt::Write>(&self, place: usize, f: &mut fmt::Formatter<W>) -> fmt::Result
+    where
+        Self: Sized,
+        ensures value { WritesOnOk W.write_str_gives f.old result
+            (unwrap_or (slice_get (values self.now) place) []) f.new };
+}
+
+/// What stands before the value in a place.
+fn comma_before(place: usize) -> &'static str
+    ensures text { result.now ≡ comma_before place }
+{
+    if place > 0 { "," } else { "" }
 }
 
 /// Values with commas between them.
 #[derive(Clone, Copy)]
-pub(crate) struct Listed<'a>(pub &'a [String]);
+pub(crate) struct Listed<V>(pub V);
 
-impl fmt::Display for Listed<'_> {
-    ghost output = { λ v. Some (values_json (map string_bytes v.0.now)) };
+impl<V: Values> fmt::Display for Listed<V> {
+    ghost output = { λ l. Some (values_json (V.values l.0)) };
 
     fn fmt<W: fmt::Write>(&self, f: &mut fmt::Formatter<W>) -> fmt::Result {
-        match self.0.split_first() {
-            Some((first, rest)) => {
-                write!(f, "{first}")?;
-                for value in rest {
-                    write!(f, ",{value}")?;
-                }
-                Ok(())
-            }
-            None => Ok(()),
+        for place in 0..self.0.count() {
+            let comma = comma_before(place);
+            write!(f, "{comma}")?;
+            self.0.write(place, f)?;
         }
+        Ok(())
     }
 }
 
 /// An array of values.
 #[derive(Clone, Copy)]
-pub(crate) struct Array<'a>(pub &'a [String]);
+pub(crate) struct Array<V>(pub V);
 
-impl fmt::Display for Array<'_> {
-    ghost output = { λ v. Some (array_json (map string_bytes v.0.now)) };
+impl<V: Values + Copy> fmt::Display for Array<V> {
+    ghost output = { λ a. Some (array_json (V.values a.0)) };
 
     fn fmt<W: fmt::Write>(&self, f: &mut fmt::Formatter<W>) -> fmt::Result {
         let values = Listed(self.0);

@@ -1,8 +1,0 @@
-use Rattle.std.proofs.Common.{◌≡◌, ◌++◌, slice_get, string_bytes}
-use Rattle.lab_texts.specs.Rows.{texts_below}
-use Rattle.lab_questions.specs.Texts.{need_lines}
-use Rattle.lab_questions.proofs.texts.push_needs.Given as goal
-
--- the lines so far are added
-abbrev pub invariant-loop-number : goal.invariant-loop-number
-invariant-loop-number l = string_bytes l.text ≡ string_bytes l.initial.text ++ texts_below l.number (λ i. need_lines l.ends (slice_get l.needs i) (slice_get l.faults i))
