@@ -7,15 +7,7 @@ use Rattle.lab_questions.specs.Findings.{told_of, unmet_told}
 use Rattle.lab_questions.specs.Texts.{Unmet, unmet_words, unmet_outputs, unmet_calls, unmet_conditions}
 use Rattle.lab_questions.specs.Values.{name_json}
 
--- the same values give the same members
-pub found_same : (rest : List ℕ) {e e' r r' n n' : List ℕ} → e ≡ e' → r ≡ r' → n ≡ n'
-    → codes ",\"ends\":" ++ (e ++ (codes ",\"not\":" ++ (r ++ (codes ",\"reached\":" ++ (n ++ rest)))))
-    ≡ codes ",\"ends\":" ++ (e' ++ (codes ",\"not\":" ++ (r' ++ (codes ",\"reached\":" ++ (n' ++ rest)))))
-found_same rest {e} {e'} {r} {r'} {n} {n'} ends required never = ap (λ x. row x r n) ends ∙ ap (λ x. row e' x n) required ∙ ap (row e' r') never
-  where
-    row : List ℕ → List ℕ → List ℕ → List ℕ
-    row e r n = codes ",\"ends\":" ++ (e ++ (codes ",\"not\":" ++ (r ++ (codes ",\"reached\":" ++ (n ++ rest)))))
-
+-- the same values give the same line
 pub front_same : (limit visited rest : List ℕ) {s s' l l' : List ℕ} → s ≡ s' → l ≡ l'
     → codes "{\"search\":" ++ (name_json s ++ (codes ",\"limits\":" ++ (l ++ (codes ",\"limit\":" ++ (limit ++ (codes "," ++ (visited ++ rest)))))))
     ≡ codes "{\"search\":" ++ (name_json s' ++ (codes ",\"limits\":" ++ (l' ++ (codes ",\"limit\":" ++ (limit ++ (codes "," ++ (visited ++ rest)))))))

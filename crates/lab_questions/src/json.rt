@@ -15,12 +15,11 @@ mod values;
 
 use crate::json::closing::{Cycle, Objects, holds_name};
 use crate::json::ends::Ends;
-use crate::json::faults::Unmets;
+use crate::json::faults::UnmetArray;
 use crate::json::limit::Limit;
 use crate::json::reasons::limits_json;
 use crate::json::values::{Array, Quoted};
 use crate::lines::extent_of;
-use crate::unmet::{Judged, unmet_told};
 use crate::{Answers, LimitMet, Reach};
 use lab_worlds::Walks;
 use std::alloc::{AllocError, Global};
@@ -76,23 +75,22 @@ impl fmt::Display for Found<'_> {
     fn fmt<W: fmt::Write>(&self, f: &mut fmt::Formatter<W>) -> fmt::Result {
         let answers = self.answers;
         let found = &answers.exploration;
-        let judged = Judged {
-            asked: &answers.asked,
-            found,
-            answers: &answers.answers,
-            faults: &answers.output_faults,
-            ways: &answers.ways,
-        };
-        let required = unmet_told(self.alloc, judged, false)?;
-        let never = unmet_told(self.alloc, judged, true)?;
         let ends = Array(Ends {
             alloc: self.alloc,
             show: answers.asked.show,
             ends: &found.ends,
             numbers: &answers.told,
         });
-        let required = Array(Unmets(&required));
-        let never = Array(Unmets(&never));
+        let required = UnmetArray {
+            alloc: self.alloc,
+            answers,
+            never: false,
+        };
+        let never = UnmetArray {
+            alloc: self.alloc,
+            answers,
+            never: true,
+        };
         let last = Last(answers);
         write!(
             f,

@@ -1,11 +1,14 @@
 //! What isn't as it has to be, as JSON.
 ghost use Rattle.std.specs.Prelude.{Some, map, option_map};
-ghost use Rattle.lab_questions.specs.Findings.{schedules_json, unmet_json};
+ghost use Rattle.lab_questions.specs.Findings.{schedules_json, unmet_json, unmet_told};
 ghost use Rattle.lab_questions.specs.Private.Rows.{unmet_of};
+ghost use Rattle.lab_questions.specs.Values.{array_json};
 
-use crate::json::values::{StepsValue, Text, Values};
-use crate::unmet::Unmet;
+use crate::Answers;
+use crate::json::values::{Array, StepsValue, Text, Values};
+use crate::unmet::{Judged, Unmet, unmet_told};
 use lab_sched::Steps;
+use std::alloc::Global;
 use std::fmt;
 use std::fmt::Display;
 
@@ -51,7 +54,7 @@ impl fmt::Display for UnmetValue<'_> {
 
 /// All of what isn't as it has to be.
 #[derive(Clone, Copy)]
-pub(crate) struct Unmets<'a>(pub &'a [Unmet<'a>]);
+struct Unmets<'a>(&'a [Unmet<'a>]);
 
 impl Values for Unmets<'_> {
     ghost values = { λ u. map unmet_json (map unmet_of u.0.now) };
@@ -65,5 +68,32 @@ impl Values for Unmets<'_> {
             Some(unmet) => UnmetValue(*unmet).fmt(f),
             None => Ok(()),
         }
+    }
+}
+
+/// All that must never be so and is, or all that is required and isn't so, as an array.
+#[derive(Clone, Copy)]
+pub(crate) struct UnmetArray<'a> {
+    pub alloc: Global,
+    pub answers: &'a Answers,
+    pub never: bool,
+}
+
+impl fmt::Display for UnmetArray<'_> {
+    ghost output = { λ u. Some
+        (array_json (map unmet_json (unmet_told u.never u.answers.now))) };
+
+    fn fmt<W: fmt::Write>(&self, f: &mut fmt::Formatter<W>) -> fmt::Result {
+        let answers = self.answers;
+        let judged = Judged {
+            asked: &answers.asked,
+            found: &answers.exploration,
+            answers: &answers.answers,
+            faults: &answers.output_faults,
+            ways: &answers.ways,
+        };
+        let unmet = unmet_told(self.alloc, judged, self.never)?;
+        let values = Array(Unmets(&unmet));
+        write!(f, "{values}")
     }
 }
