@@ -1,7 +1,6 @@
 -- Explorations: what the parts of one say together.
 use Rattle.std.proofs.Common.{ℕ, Bool, true, false, All, arith, count_by, ◌≡◌, ◌≤◌, ◌+◌, ◌++◌, [], ◌∷◌, slice_get, List, Some, refl, sym, ap, subst, ◌∙◌, length}
 use Rattle.ipc_kernel.specs.Alike.{IsConsistent}
-use Rattle.ipc_kernel.specs.Operands.{are_named}
 use Rattle.ipc_store.proofs.CommutingCalls.{own_calls_commute, stay_named, own_alike}
 use Rattle.lab_worlds.specs.Calls.{AreAlike}
 use Rattle.lab_worlds.proofs.AlikeWorlds.{world_then, world_back, one_verdict, consistent_run}
@@ -35,16 +34,12 @@ use Rattle.lab_search.proofs.ReducedEnds.{reaches_end_by_reduction}
 use Rattle.lab_search.proofs.ReducedBounds.{by_reduction_bounded}
 use Rattle.lab_worlds.proofs.HeldAdvances.{asks_run, reaches_end}
 use Rattle.lab_worlds.proofs.WalkedEnds.{verdict_rests}
+use Rattle.lab_explore.proofs.MetWorlds.{IsStart}
 
 -- a search that isn't reduced holds each step
 pub whole_search : (reduced : Bool) (start : WorldState) (t : Store) → reduced ≡ false → IsSearchedIn reduced start t → IsSearched start t
 whole_search false start t e h = h
 whole_search true start t e h = absurd (cc)
-
--- so does one where lassos have to be fair
-pub whole_if_fair : (asked reduced fair : Bool) (start : WorldState) (t : Store) → (asked ≡ false → reduced ≡ false) → (asked ≡ true → fair ≡ false) → fair ≡ true → IsSearchedIn reduced start t → IsSearched start t
-whole_if_fair false reduced fair start t dense unfair is h = whole_search reduced start t (dense refl) h
-whole_if_fair true reduced fair start t dense unfair is h = let no = unfair refl in absurd (cc)
 
 -- a row has the world at rest to which steps lead, but for who waits; its depth, and one for each process that waits, are no more than
 -- the calls among the steps
@@ -52,45 +47,38 @@ abbrev HasRest : WorldState → Store → List ℕ → List ℕ → Type 0
 HasRest start t depths ps =
     (v : WorldState) × (n : ℕ) × AreAtDepth t depths n v × NoneGoesOn v × AreAlike (unwaiting (run start ps)) v × (n + waiting (run start ps) ≤ waiting start + length (entries start ps))
 
-rests_in : (reduced : Bool) (start : WorldState) (t : Store) (depths : List ℕ) → IsConsistent start.kernel → AskAgain start → unwaiting start ≡ start → are_named start.kernel.places ≡ true
-    → IsSearchedIn reduced start t → AreDepths depths t.edges → (ps : List ℕ) → AreAtRest (run start ps) → HasRest start t depths ps
-rests_in false start t depths consistent asks first named searched deep ps rest = reaches_end start (AreAtDepth t depths) consistent asks (all_levels t start depths first searched deep) ps rest
-rests_in true start t depths consistent asks first named searched deep ps rest = reaches_end_by_reduction t start depths own_calls_commute stay_named own_alike consistent asks first named searched deep ps rest
+rests_in : (reduced : Bool) (start : WorldState) (t : Store) (depths : List ℕ) → IsStart start → IsSearchedIn reduced start t → AreDepths depths t.edges → (ps : List ℕ) → AreAtRest (run start ps)
+    → HasRest start t depths ps
+rests_in false start t depths is searched deep ps rest = reaches_end start (AreAtDepth t depths) is.consistent is.asks (all_levels t start depths is.same searched deep) ps rest
+rests_in true start t depths is searched deep ps rest = reaches_end_by_reduction t start depths own_calls_commute stay_named own_alike is.consistent is.asks is.same is.named searched deep ps rest
 
 -- where all edges rise, there is a bound on effective steps
-pub bounded_in : (reduced : Bool) (start : WorldState) (t : Store) → IsConsistent start.kernel → AskAgain start → unwaiting start ≡ start → are_named start.kernel.places ≡ true
-    → IsSearchedIn reduced start t → AreRising t.edges → AreBounded start
-bounded_in false start t consistent asks first named searched rising = searched_bounded t start consistent asks first searched rising
-bounded_in true start t consistent asks first named searched rising = by_reduction_bounded t start own_calls_commute stay_named own_alike consistent asks first named searched rising
+pub bounded_in : (reduced : Bool) (start : WorldState) (t : Store) → IsStart start → IsSearchedIn reduced start t → AreRising t.edges → AreBounded start
+bounded_in false start t is searched rising = searched_bounded t start is.consistent is.asks is.same searched rising
+bounded_in true start t is searched rising = by_reduction_bounded t start own_calls_commute stay_named own_alike is.consistent is.asks is.same is.named searched rising
 
 -- one of the ends is in a world alike, with its verdict, after at most n calls
 abbrev pub IsReachedIn : List End → WorldState → ℕ → Type 0
 IsReachedIn ends w n = (i : ℕ) × (e : End) × (slice_get ends i ≡ Some e) × AreAlike w e.world × IsVerdict w e.verdict × (e.calls ≤ n)
 
 -- so is each world at rest, where each row from whose world no process goes on has its end
-pub all_ends : (reduced : Bool) (fresh start : WorldState) (t : Store) (ends : List End) → fresh ≡ start → IsConsistent start.kernel → AskAgain start → unwaiting start ≡ start
-    → are_named start.kernel.places ≡ true → AreEnds fresh ends → IsSearchedIn reduced start t → HaveRowEnds t ends
-    → (ps : List ℕ) → AreAtRest (run fresh ps) → IsReachedIn ends (run fresh ps) (length (entries fresh ps))
-all_ends reduced fresh start t ends same consistent asks first named each searched all =
-    subst (λ s. (ps : List ℕ) → AreAtRest (run s ps) → IsReachedIn ends (run s ps) (length (entries s ps))) (sym same)
-    (λ ps rest.
+pub all_ends : (reduced : Bool) (start : WorldState) (t : Store) (ends : List End) → IsStart start → AreEnds start ends → IsSearchedIn reduced start t → HaveRowEnds t ends
+    → (ps : List ℕ) → AreAtRest (run start ps) → IsReachedIn ends (run start ps) (length (entries start ps))
+all_ends reduced start t ends is each searched all ps rest =
     let w = run start ps in
-    let held = rests_in reduced start t all.depths consistent asks first named searched all.are ps rest in
+    let held = rests_in reduced start t all.depths is searched all.are ps rest in
     let found = all.each held.2.0 held.0 held.2.1 held.3 in
     let e = found.1 in
-    let end = all_at (IsEnd start) ends found.0 e (subst (λ s. AreEnds s ends) same each) found.2 in
-    let ask : AskAgain e.world = subst AskAgain end.leads (asks_run (steps_of e.schedule) start asks) in
-    let alike = rests_alike w e.world (asks_run ps start asks) ask rest end.rests (world_then (unwaiting w) held.0 (unwaiting e.world) held.4 found.3) in
-    let there = subst (λ (x : WorldState). IsConsistent x.kernel) end.leads (consistent_run (steps_of e.schedule) start consistent) in
-    let none : waiting start ≡ 0 = ap waiting (sym first) ∙ unwaiting_waits start in
+    let end = all_at (IsEnd start) ends found.0 e each found.2 in
+    let ask : AskAgain e.world = subst AskAgain end.leads (asks_run (steps_of e.schedule) start is.asks) in
+    let alike = rests_alike w e.world (asks_run ps start is.asks) ask rest end.rests (world_then (unwaiting w) held.0 (unwaiting e.world) held.4 found.3) in
+    let there = subst (λ (x : WorldState). IsConsistent x.kernel) end.leads (consistent_run (steps_of e.schedule) start is.consistent) in
+    let none : waiting start ≡ 0 = ap waiting (sym is.same) ∙ unwaiting_waits start in
     let waits : waiting e.world ≡ waiting w = ap (count_by is_waiting) alike.processes in
     let few = found.4 in
     let deep = held.2.2 in
     let most = held.5 in
-    (found.0, e, found.2, alike, one_verdict e.world w e.verdict there (world_back w e.world alike) end.verdict, omega (arith, few, deep, most, none, waits)))
-
-pub same_ends : (fresh start : WorldState) (ends : List End) → fresh ≡ start → AreEnds start ends → AreEnds fresh ends
-same_ends fresh start ends same each = subst (λ s. AreEnds s ends) (sym same) each
+    (found.0, e, found.2, alike, one_verdict e.world w e.verdict there (world_back w e.world alike) end.verdict, omega (arith, few, deep, most, none, waits))
 
 -- ends that were found stay found
 pub end_kept : (xs ys : List End) (w : WorldState) (d : ℕ) → Keeps xs ys → HasUnwaitingEnd xs w d → HasUnwaitingEnd ys w d

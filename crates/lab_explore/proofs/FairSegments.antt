@@ -6,10 +6,9 @@ use Rattle.std.proofs.lemmas.Bool.{cases_lt}
 use Rattle.std.proofs.Math.Nat.{mul-le-mul_left}
 use Rattle.std.proofs.lemmas.List.{length-set}
 use Rattle.std.proofs.lemmas.List.Sums.{count_by-le-length}
-use Rattle.ipc_kernel.specs.Alike.{IsConsistent}
-use Rattle.lab_sched.specs.Worlds.{Process, Running, Waiting, Ended, WorldState, StepEffect, nothing, local_step, kernel_step, step_effect, step_effect_in, first_try, step, run, IsEffective}
-use Rattle.ipc_kernel.specs.declared.call.Answer.TheVariants.{Done, Wait}
+use Rattle.lab_sched.specs.Worlds.{Process, Running, Waiting, Ended, WorldState, step_effect, step_effect_in, first_try, step, run, IsEffective}
 use Rattle.lab_sched.specs.Execution.{AreEffective, count}
+use Rattle.lab_sched.specs.LocalRun.{AreLocal}
 use Rattle.lab_sched.specs.Verdicts.{is_running}
 use Rattle.lab_sched.proofs.ListPlaces.{get-set_same, get-set_other, get_past}
 use Rattle.lab_sched.proofs.Runs.{run-one, length-run}
@@ -26,13 +25,7 @@ use Rattle.lab_worlds.proofs.AfterLocalSteps.{same_some}
 use Rattle.lab_worlds.proofs.AlikeWorlds.{effect_alike}
 use Rattle.lab_search.proofs.StandingWorlds.{Place, Stands, GoesNearer, GoesAlong, TakesAt, total, total_set, running, running_goes, running_waits, step_stands, start_stands}
 use Rattle.lab_worlds.proofs.UnwaitingWorlds.{tells, same_step, none_goes, still_unwaiting, goes_unwaiting, asks_on}
-
--- one that goes on has an effective step
-goes_effective : (t : StepEffect) → GoesOn t → IsEffective t
-goes_effective nothing h = h
-goes_effective (local_step n) h = tt
-goes_effective (kernel_step m c (Done r)) h = tt
-goes_effective (kernel_step m c Wait) h = absurd h
+use Rattle.lab_explore.proofs.MetWorlds.{IsStart, goes_effective}
 
 -- so many steps may follow a place, by the process of its rank
 abbrev left_by : Option ℕ → WorldState → Place → ℕ
@@ -122,39 +115,45 @@ module _ (t : Store) (start : WorldState) (ranks : List ℕ) (starved_processes 
   falls x s u p (inr (inl along)) = elim (along_falls s u p along) [ inl less ↦ omega (arith, less) | inr same ↦ let is = same.0 in omega (arith, is) ]
   falls x s u p (inr (inr waits)) = let same = ap (λ (v : Place). rank_of ranks v.at) waits.0 in omega (arith, same)
 
-  -- the process of the rank goes on
-  starved_goes : (x : WorldState) (s : Place) (p : ℕ) → IsIn x s → starved_of starved_processes (rank s) ≡ Some p → GoesOn (step_effect_in x p)
-  starved_goes x s p is starved = elim (tells (step_effect_in x p)) [
-    | inl goes ↦ goes
-    | inr none ↦ absurd (none_goes x p is.asks none goes_there)
-  ]
+  -- the process of the rank stands so many local steps before its state in the advance, where it goes on
+  abbrev IsStarvedAt : WorldState → Place → ℕ → Type 0
+  IsStarvedAt x s p = (k : ℕ) × (c : Process) × (u : Process) × (slice_get s.taken p ≡ Some k) × (slice_get (unwaiting x).processes p ≡ Some c) × AreLocal k c u × GoesOn (step_effect x.kernel p (Some u))
+
+  starved_at : (x : WorldState) (s : Place) (p : ℕ) → IsIn x s → starved_of starved_processes (rank s) ≡ Some p → IsStarvedAt x s p
+  starved_at x s p is starved = by (slice_get s.taken p) (slice_get (unwaiting x).processes p) (slice_get v.processes p) refl refl refl (is.stands.processes p)
     where
       v : WorldState
       v = s.advance
 
-      ahead : GoesOn (step_effect_in v p)
-      ahead = ranked.kept s.at (get_past t.rows s.at is.stands.here.0 is.stands.here.1) p starved v is.stands.here
+      goes : GoesOn (step_effect x.kernel p (slice_get v.processes p))
+      goes = subst GoesOn (effect_alike x.kernel v.kernel p (slice_get v.processes p) is.stands.consistent is.stands.kernel)
+          (ranked.kept s.at (get_past t.rows s.at is.stands.here.0 is.stands.here.1) p starved v is.stands.here)
 
-      same : step_effect v.kernel p (slice_get v.processes p) ≡ step_effect x.kernel p (slice_get v.processes p)
-      same = effect_alike x.kernel v.kernel p (slice_get v.processes p) is.stands.consistent is.stands.kernel
+      by : (a : Option ℕ) (c d : Option Process) → slice_get s.taken p ≡ a → slice_get (unwaiting x).processes p ≡ c → slice_get v.processes p ≡ d → TakesAt a c d → IsStarvedAt x s p
+      by None None None e f g h = absurd (subst (λ o. GoesOn (step_effect x.kernel p o)) g goes)
+      by None None (Some u) e f g h = absurd h
+      by None (Some c) None e f g h = absurd h
+      by None (Some c) (Some u) e f g h = absurd h
+      by (Some k) None None e f g h = absurd h
+      by (Some k) None (Some u) e f g h = absurd h
+      by (Some k) (Some c) None e f g h = absurd h
+      by (Some k) (Some c) (Some u) e f g h = (k, c, u, e, f, h.0, subst (λ o. GoesOn (step_effect x.kernel p o)) g goes)
 
-      by : (a : Option ℕ) (c d : Option Process) → TakesAt a c d → GoesOn (step_effect x.kernel p d) → GoesOn (step_effect x.kernel p c)
-      by None None None h g = g
-      by None None (Some u) h g = absurd h
-      by None (Some c) None h g = absurd h
-      by None (Some c) (Some u) h g = absurd h
-      by (Some k) None None h g = absurd h
-      by (Some k) None (Some u) h g = absurd h
-      by (Some k) (Some c) None h g = absurd h
-      by (Some zero) (Some c) (Some u) h g = subst (λ y. GoesOn (step_effect x.kernel p (Some y))) (sym h.0) g
-      by (Some (suc k)) (Some (Running m)) (Some u) h g =
-          let first = first_local k m u h.0 in
-          subst GoesOn (sym (ap (first_try x.kernel p m) first.1)) tt
-      by (Some (suc k)) (Some (Waiting m c)) (Some u) h g = absurd h.0.1
-      by (Some (suc k)) (Some (Ended e)) (Some u) h g = absurd h.0.1
+  -- so it goes on
+  starved_goes : (x : WorldState) (s : Place) (p : ℕ) → IsIn x s → starved_of starved_processes (rank s) ≡ Some p → GoesOn (step_effect_in x p)
+  starved_goes x s p is starved = elim (tells (step_effect_in x p)) [
+    | inl goes ↦ goes
+    | inr none ↦ absurd (none_goes x p is.asks none (subst (λ o. GoesOn (step_effect x.kernel p o)) (sym at.4) (by at.0 at.1 at.5)))
+  ]
+    where
+      at : IsStarvedAt x s p
+      at = starved_at x s p is starved
 
-      goes_there : GoesOn (step_effect_in (unwaiting x) p)
-      goes_there = by (slice_get s.taken p) (slice_get (unwaiting x).processes p) (slice_get v.processes p) (is.stands.processes p) (subst GoesOn same ahead)
+      by : (k : ℕ) (c : Process) → AreLocal k c at.2 → GoesOn (step_effect x.kernel p (Some c))
+      by zero c h = subst (λ y. GoesOn (step_effect x.kernel p (Some y))) (sym h) at.6
+      by (suc k) (Running m) h = let first = first_local k m at.2 h in subst GoesOn (sym (ap (first_try x.kernel p m) first.1)) tt
+      by (suc k) (Waiting m c) h = absurd h.1
+      by (suc k) (Ended e) h = absurd h.1
 
   -- along steps that keep the rank its process always goes on, and so many of its steps are local
   abbrev IsKeptAlong : WorldState → Place → List ℕ → Place → ℕ → Type 0
@@ -223,30 +222,14 @@ module _ (t : Store) (start : WorldState) (ranks : List ℕ) (starved_processes 
     record {
       is = is;
       low = omega arith;
-      kept = λ p starved same. none p starved (there p starved);
+      kept = λ p starved same. let k = starved_at x s p is starved in (k.0, k.0, k.3, k.3, omega arith, λ qs rs e. first p starved qs rs e);
       free = λ starved same. omega arith;
     },
   )
     where
-      there : (p : ℕ) → starved_of starved_processes (rank s) ≡ Some p → (k : ℕ) × (slice_get s.taken p ≡ Some k)
-      there p starved = by (slice_get s.taken p) (slice_get (unwaiting x).processes p) (slice_get s.advance.processes p) refl refl (is.stands.processes p)
-        where
-          goes : GoesOn (step_effect_in s.advance p)
-          goes = ranked.kept s.at (get_past t.rows s.at is.stands.here.0 is.stands.here.1) p starved s.advance is.stands.here
-
-          by : (a : Option ℕ) (c d : Option Process) → slice_get s.taken p ≡ a → slice_get s.advance.processes p ≡ d → TakesAt a c d → (k : ℕ) × (slice_get s.taken p ≡ Some k)
-          by None None None e f takes = absurd (subst (λ o. GoesOn (step_effect s.advance.kernel p o)) f goes)
-          by None None (Some d) e f takes = absurd takes
-          by None (Some c) None e f takes = absurd takes
-          by None (Some c) (Some d) e f takes = absurd takes
-          by (Some k) c d e f takes = (k, e)
-
-      none : (p : ℕ) → starved_of starved_processes (rank s) ≡ Some p → (k : ℕ) × (slice_get s.taken p ≡ Some k) → IsKeptAlong x s [] s p
-      none p starved k = (k.0, k.0, k.1, k.1, omega arith, λ qs rs e. first qs rs e)
-        where
-          first : (qs rs : List ℕ) → [] ≡ qs ++ rs → IsEffective (step_effect_in (run x qs) p)
-          first [] rs e = goes_effective (step_effect_in x p) (starved_goes x s p is starved)
-          first (q ∷ qs) rs e = absurd (cc)
+      first : (p : ℕ) → starved_of starved_processes (rank s) ≡ Some p → (qs rs : List ℕ) → [] ≡ qs ++ rs → IsEffective (step_effect_in (run x qs) p)
+      first p starved [] rs e = goes_effective (step_effect_in x p) (starved_goes x s p is starved)
+      first p starved (q ∷ qs) rs e = absurd (cc)
   leads (q ∷ ps) x s is h = later (moved x q s is h.0) (λ u at. leads ps (step x q) u at h.1)
     where
       later : (u : Place) × IsIn (step x q) u × Goes x s u q → ((u : Place) → IsIn (step x q) u → (v : Place) × Leads (step x q) u ps v) → (v : Place) × Leads x s (q ∷ ps) v
@@ -368,13 +351,13 @@ module _ (t : Store) (start : WorldState) (ranks : List ℕ) (starved_processes 
   )
 
 -- where the rows are searched and have ranks, no more passes than some number of them can follow each other
-pub ranked_bounded : (t : Store) (start : WorldState) → IsConsistent start.kernel → AskAgain start → unwaiting start ≡ start → IsSearched start t → HaveRanks t → AreFairlyBounded start
-ranked_bounded t start consistent asks same searched ranks =
-    let initial = start_stands t start searched consistent in
+pub ranked_bounded : (t : Store) (start : WorldState) → IsStart start → IsSearched start t → HaveRanks t → AreFairlyBounded start
+ranked_bounded t start is searched ranks =
+    let initial = start_stands t start searched is.consistent in
     let b = total initial.0.taken + 4294967296 in
     fairly_bounded t start ranks.0 ranks.1 (length start.processes) b searched ranks.2 (omega arith) initial.0 (record {
-      asks = asks;
-      stands = subst (λ w. Stands t w initial.0) (sym same) initial.1;
+      asks = is.asks;
+      stands = subst (λ w. Stands t w initial.0) (sym is.same) initial.1;
       processes = refl;
       places = initial.2;
       few = λ q k e. let most = part_most initial.0.taken q k e in omega (arith, most);

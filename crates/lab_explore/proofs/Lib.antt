@@ -1,8 +1,8 @@
+pub mod MetWorlds
 pub mod Explorations
 mod FairSegments
 mod Cycles
 mod KeptConditions
-mod CallSteps
 mod KeptLosses
 pub mod QuietSteps
 mod KeptRefusals

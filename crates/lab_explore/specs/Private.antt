@@ -2,3 +2,4 @@
 pub mod RowEnds
 pub mod Ranked
 pub mod Judged
+pub mod Explored

@@ -1,24 +1,20 @@
 //! Explorations.
-ghost use Rattle.std.specs.Prelude.{◌≡◌, [], IsTrue, false, None, IfOk, IfSome};
+ghost use Rattle.std.specs.Prelude.{◌≡◌, ◌<◌, IsTrue, false, None, IfOk, IfSome, length};
 ghost use Rattle.std.specs.List.Sorted.{IsNonDecreasingBy};
-ghost use Rattle.lab_sched.specs.Starts.{AreStarts, initial_world};
 ghost use Rattle.lab_worlds.specs.Ends.{AreEnds, HaveAllEnds, HaveFewestCalls, NoneStuck, NeverStuck};
 ghost use Rattle.lab_worlds.specs.Reached.{AreReached, AreKept};
-ghost use Rattle.lab_worlds.specs.Calls.{Alongside};
 ghost use Rattle.lab_worlds.specs.Lassos.{IsLasso, CanBeRepeated, AreEndless, AreBounded};
 ghost use Rattle.lab_worlds.specs.Fairness.{IsFairLasso, AreFairlyEndless, AreFairlyBounded};
 ghost use Rattle.lab_states.specs.Rising.{AreRising};
-ghost use Rattle.lab_search.specs.Stored.{IsStore};
-ghost use Rattle.lab_explore.specs.Private.RowEnds.{HaveRowEnds};
-ghost use Rattle.lab_explore.specs.Private.Judged.{UnseenIfNone};
+ghost use Rattle.lab_explore.specs.Visits.{start_of, IsVisited, IsWhole};
+ghost use Rattle.lab_explore.specs.Private.Explored.{IsExplored};
 ghost use Rattle.lab_explore.specs.Private.Ranked.{HaveRanks};
 
 use crate::ends::Collected;
 use crate::fair::Lassos;
 use crate::visited::{Visited, visit};
-use ipc_kernel::Kernel;
 use lab_conditions::Never;
-use lab_sched::{Fresh, Process};
+use lab_sched::Fresh;
 use lab_search::both;
 use lab_worlds::{Exploration, ExploreFault, Limits, Observer, Workers, discard};
 use std::alloc::Global;
@@ -26,8 +22,8 @@ use std::thread::Threads;
 
 /// Whether a search may leave out worlds that no end needs: where nothing is asked of each world.
 fn may_be_reduced(nevers: &[Never], fair: bool) -> bool
-    ensures none { IsTrue result → nevers.now ≡ [] }
-    ensures unfair { IsTrue result → fair ≡ false }
+    ensures asked { 0 < length nevers.now → result ≡ false }
+    ensures fair { IsTrue fair → result ≡ false }
 {
     nevers.is_empty() && !fair
 }
@@ -82,82 +78,54 @@ pub fn explore<O: Observer, R: Threads + Sync>(
     ensures fairly_bounded { IfOk result (λ found. IsTrue fair → IsTrue found.complete
         → found.lasso ≡ None → AreFairlyBounded fresh) }
 {
-    let processes = fresh.processes();
-    let kernel = Kernel::new(alloc, processes.len())?;
     let reduced = may_be_reduced(nevers, fair);
-    let visited = visit(alloc, &processes, &kernel, limits, observer, reduced)?;
+    let visited = visit(alloc, fresh, limits, observer, reduced)?;
     // for ends there is what is left, and where that is little a sixteenth of the limit beyond it
     let left = limits.memory.saturating_sub(visited.store.size());
     let room = left.max(limits.memory / 16);
-    let found = visited.report(alloc, &processes, room, nevers, fair, workers);
+    let found = visited.report(alloc, room, nevers, fair, workers);
     discard(visited);
     Ok(found?)
 }
 
 impl Visited {
     /// A lasso among the worlds that were visited, if there is one; one that is fair, if that is asked.
-    fn lassos(
-        &self,
-        alloc: Global,
-        processes: &[Process],
-        fair: bool,
-    ) -> Result<Lassos, ExploreFault>
-        requires starts { AreStarts processes.now }
-        requires store { IsTrue self.now.complete → IsStore self.now.store }
+    fn lassos(&self, alloc: Global, fair: bool) -> Result<Lassos, ExploreFault>
+        requires visited { IsVisited self.now }
         ensures lasso { IfOk result (λ found.
-            IfSome found.lasso (λ r. IsLasso (initial_world processes.now) r)) }
+            IfSome found.lasso (λ r. IsLasso (start_of self.now) r)) }
         ensures none { IfOk result (λ found.
             fair ≡ false → found.lasso ≡ None → AreRising self.now.store.edges) }
         ensures fair_lasso { IfOk result (λ found. IsTrue fair
-            → IfSome found.lasso (λ r. IsFairLasso (initial_world processes.now) r)) }
+            → IfSome found.lasso (λ r. IsFairLasso (start_of self.now) r)) }
         ensures no_fair_lasso { IfOk result (λ found. IsTrue fair → IsTrue found.shown
             → found.lasso ≡ None → HaveRanks self.now.store) }
     {
         if fair {
-            return self.fair_lassos(alloc, processes);
+            return self.fair_lassos(alloc);
         }
-        let lasso = self.lasso(alloc, processes)?;
+        let lasso = self.lasso(alloc)?;
         Ok(Lassos { lasso, shown: true })
     }
 
     /// What was found, with the ends, as long as they take about so many bytes, steps to what must
     /// never be so, and a lasso, if there is one.
-    pub(crate) fn report<R: Threads + Sync>(
+    fn report<R: Threads + Sync>(
         &self,
         alloc: Global,
-        processes: &[Process],
         room: usize,
         nevers: &[Never],
         fair: bool,
         workers: &Workers<'_, R>,
     ) -> Result<Exploration, ExploreFault>
-        requires starts { AreStarts processes.now }
-        requires store { IsTrue self.now.complete → IsStore self.now.store }
-        ensures ends { IfOk result (λ found.
-            AreEnds (initial_world processes.now) found.ends.items) }
-        ensures all { IfOk result (λ found. IsTrue found.complete
-            → HaveRowEnds self.now.store found.ends.items) }
-        ensures ordered { IfOk result (λ found.
-            IsNonDecreasingBy (λ e. e.calls) found.ends.items) }
-        ensures reached { IfOk result (λ found.
-            AreReached (initial_world processes.now) nevers.now found.reached.items) }
-        ensures unreached { IfOk result (λ found. IsTrue self.now.complete
-            → Alongside (UnseenIfNone (initial_world processes.now) self.now.store)
-            nevers.now found.reached.items) }
-        ensures lasso { IfOk result (λ found.
-            IfSome found.lasso (λ r. IsLasso (initial_world processes.now) r)) }
-        ensures none { IfOk result (λ found.
-            fair ≡ false → found.lasso ≡ None → AreRising self.now.store.edges) }
-        ensures fair { IfOk result (λ found. found.fair ≡ fair) }
-        ensures fair_lasso { IfOk result (λ found. IsTrue fair
-            → IfSome found.lasso (λ r. IsFairLasso (initial_world processes.now) r)) }
-        ensures no_fair_lasso { IfOk result (λ found. IsTrue fair → IsTrue found.complete
-            → found.lasso ≡ None → HaveRanks self.now.store) }
-        ensures complete { IfOk result (λ found. IsTrue found.complete → IsTrue self.now.complete) }
+        requires visited { IsVisited self.now }
+        requires whole_if_asked { 0 < length nevers.now → IsWhole self.now }
+        requires whole_if_fair { IsTrue fair → IsWhole self.now }
+        ensures explored { IfOk result (IsExplored (start_of self.now) nevers.now fair) }
     {
-        let Collected { ends, whole } = self.ends(alloc, processes, room)?;
-        let reached = self.reached(alloc, processes, nevers, workers)?;
-        let Lassos { lasso, shown } = self.lassos(alloc, processes, fair)?;
+        let Collected { ends, whole } = self.ends(alloc, room)?;
+        let reached = self.reached(alloc, nevers, workers)?;
+        let Lassos { lasso, shown } = self.lassos(alloc, fair)?;
         Ok(Exploration {
             ends,
             reached,

@@ -2,16 +2,15 @@
 ghost use Rattle.std.specs.Prelude.{◌≡◌, None, IsTrue, IfOk, IfSome};
 ghost use Rattle.lab_sched.specs.Worlds.{run};
 ghost use Rattle.lab_sched.specs.Schedules.{steps_of};
-ghost use Rattle.lab_sched.specs.Starts.{AreStarts, initial_world};
 ghost use Rattle.lab_worlds.specs.Calls.{AreAlike};
 ghost use Rattle.lab_worlds.specs.Fairness.{IsFairSegment, IsFairLasso};
 ghost use Rattle.lab_worlds.specs.Walked.{IsWalk};
-ghost use Rattle.lab_search.specs.Stored.{IsStore};
+ghost use Rattle.lab_explore.specs.Visits.{start_of, IsVisited};
 ghost use Rattle.lab_explore.specs.Private.Ranked.{HaveRanks};
 
 use crate::closed_walks::closed_walk;
 use crate::visited::Visited;
-use lab_sched::{Process, Schedule, World};
+use lab_sched::{Schedule, World};
 use lab_states::{Sets, place_of};
 use lab_worlds::{ClosedWalk, ExploreFault, FairSegment, Lasso, Walk, are_alike};
 use std::alloc::Global;
@@ -44,34 +43,23 @@ fn segment_from(
 
 impl Visited {
     /// The walk to the row of a closed walk, and along its first part.
-    fn lead(
-        &self,
-        alloc: Global,
-        processes: &[Process],
-        closed_walk: &ClosedWalk,
-    ) -> Result<Walk, ExploreFault>
-        requires starts { AreStarts processes.now }
-        ensures walk { IfOk result (λ w. IsWalk (initial_world processes.now) w) }
+    fn lead(&self, alloc: Global, closed_walk: &ClosedWalk) -> Result<Walk, ExploreFault>
+        requires visited { IsVisited self.now }
+        ensures walk { IfOk result (λ w. IsWalk (start_of self.now) w) }
     {
-        let mut walk = Walk::start(alloc, processes)?;
-        self.go_to(alloc, closed_walk.at, &mut walk)?;
+        let mut walk = self.walk_to(alloc, closed_walk.at)?;
         walk.go_walk_parts(closed_walk.first.as_slice())?;
         Ok(walk)
     }
 
     /// The lasso along a closed walk. The walk along its first part is taken twice: from its end the segment goes
     /// on, which must come to a world alike.
-    fn lasso_along(
-        &self,
-        alloc: Global,
-        processes: &[Process],
-        closed_walk: &ClosedWalk,
-    ) -> Result<Lasso, ExploreFault>
-        requires starts { AreStarts processes.now }
-        ensures lasso { IfOk result (λ r. IsFairLasso (initial_world processes.now) r) }
+    fn lasso_along(&self, alloc: Global, closed_walk: &ClosedWalk) -> Result<Lasso, ExploreFault>
+        requires visited { IsVisited self.now }
+        ensures lasso { IfOk result (λ r. IsFairLasso (start_of self.now) r) }
     {
-        let other = self.lead(alloc, processes, closed_walk)?;
-        let walk = self.lead(alloc, processes, closed_walk)?;
+        let other = self.lead(alloc, closed_walk)?;
+        let walk = self.lead(alloc, closed_walk)?;
         if !are_alike(&other.world, &walk.world) {
             return Err(ExploreFault::Unvouched);
         }
@@ -84,19 +72,18 @@ impl Visited {
     fn fair_lasso(
         &self,
         alloc: Global,
-        processes: &[Process],
         sets: &Sets,
         at: usize,
     ) -> Result<Option<Lasso>, ExploreFault>
-        requires starts { AreStarts processes.now }
+        requires visited { IsVisited self.now }
         ensures lasso { IfOk result (λ lasso.
-            IfSome lasso (λ r. IsFairLasso (initial_world processes.now) r)) }
+            IfSome lasso (λ r. IsFairLasso (start_of self.now) r)) }
     {
-        let count = place_of(processes.len())?;
+        let count = place_of(self.processes.len())?;
         let Some(closed_walk) = closed_walk(sets, alloc, self, at, count)? else {
             return Ok(None);
         };
-        match self.lasso_along(alloc, processes, &closed_walk) {
+        match self.lasso_along(alloc, &closed_walk) {
             Ok(lasso) => Ok(Some(lasso)),
             Err(ExploreFault::Unvouched) => Ok(None),
             Err(fault) => Err(fault),
@@ -105,7 +92,7 @@ impl Visited {
 
     /// Whether the ranks by sets show that there is no fair lasso.
     fn shows_none(&self, alloc: Global, sets: &Sets) -> Result<bool, ExploreFault>
-        requires store { IsTrue self.now.complete → IsStore self.now.store }
+        requires visited { IsVisited self.now }
         ensures ranks { IfOk result (λ shown. IsTrue shown → HaveRanks self.now.store) }
     {
         if !self.complete {
@@ -116,21 +103,16 @@ impl Visited {
     }
 
     /// A fair lasso among the worlds that were visited, if there is one.
-    pub(crate) fn fair_lassos(
-        &self,
-        alloc: Global,
-        processes: &[Process],
-    ) -> Result<Lassos, ExploreFault>
-        requires starts { AreStarts processes.now }
-        requires store { IsTrue self.now.complete → IsStore self.now.store }
+    pub(crate) fn fair_lassos(&self, alloc: Global) -> Result<Lassos, ExploreFault>
+        requires visited { IsVisited self.now }
         ensures lasso { IfOk result (λ found.
-            IfSome found.lasso (λ r. IsFairLasso (initial_world processes.now) r)) }
+            IfSome found.lasso (λ r. IsFairLasso (start_of self.now) r)) }
         ensures none { IfOk result (λ found. IsTrue found.shown → found.lasso ≡ None
             → HaveRanks self.now.store) }
     {
         let sets = Sets::new(alloc, &self.store.edges, self.store.rows.len())?;
         if let Some(at) = sets.first_fair() {
-            let lasso = self.fair_lasso(alloc, processes, &sets, at)?;
+            let lasso = self.fair_lasso(alloc, &sets, at)?;
             let shown = lasso.is_some();
             return Ok(Lassos { lasso, shown });
         }

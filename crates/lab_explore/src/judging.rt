@@ -1,12 +1,11 @@
 //! Invariants: conditions that are judged of the worlds that a search keeps.
-ghost use Rattle.std.specs.Prelude.{◌≡◌, ◌↔◌, ◌<◌, ◌≤◌, ◌⊎◌, false, ℕ, List, Some, Ok, All, Contains, IsTrue, is_ok, map, IfOk, IfSome, OnOk};
-ghost use Rattle.lab_sched.specs.Worlds.{Process as Seen, WorldState};
+ghost use Rattle.std.specs.Prelude.{◌≡◌, ◌↔◌, ◌<◌, ◌≤◌, ℕ, None, Contains, IsTrue, IfOk, IfSome, OnOk};
+ghost use Rattle.lab_sched.specs.Worlds.{WorldState};
 ghost use Rattle.lab_sched.specs.Held.{process_view};
 ghost use Rattle.lab_conditions.specs.Conditions.{Holds};
 ghost use Rattle.lab_worlds.specs.Calls.{Alongside};
-ghost use Rattle.lab_states.specs.CollapsedStates.{silent};
-ghost use Rattle.lab_search.specs.Stored.{IsExactly, IsState, IsAt};
-ghost use Rattle.lab_explore.specs.Private.Judged.{RowHolds, JudgesFor, StandsBefore, FailsBefore, IsFirst};
+ghost use Rattle.lab_search.specs.Stored.{IsExactly, IsAt};
+ghost use Rattle.lab_explore.specs.Private.Judged.{IsSilently, RowHolds, NoRowHolds, JudgesFor, FailsBefore, IsFirst};
 
 use ipc_kernel::Kernel;
 use lab_conditions::Condition;
@@ -30,43 +29,6 @@ struct Whole {
     kernel: Kernel,
 }
 
-/// Whether a row stands before the one that was found, if one was.
-fn stands_before(at: usize, first: Option<usize>) -> bool
-    ensures yes { IsTrue result → StandsBefore first at }
-    ensures no { result ≡ false → StandsBefore first at → ⊥ }
-{
-    first.is_none_or(|found| at < found)
-}
-
-/// That of two rows that stands first, of those that were found.
-fn first_of_both(found: Option<usize>, other: Option<usize>) -> Option<usize>
-    ensures one { (result ≡ found) ⊎ (result ≡ other) }
-    ensures found { (i : ℕ) → StandsBefore result i → StandsBefore found i }
-    ensures other { (i : ℕ) → StandsBefore result i → StandsBefore other i }
-{
-    if let Some(at) = found {
-        if stands_before(at, other) {
-            return found;
-        }
-    }
-    other
-}
-
-/// The row that stands first of those that were found in parts.
-fn first_found(parts: &[Result<Option<usize>, ExploreFault>]) -> Result<Option<usize>, ExploreFault>
-    ensures one { IfOk result (λ first. IfSome first (λ at. Contains parts.now (Ok (Some at)))) }
-    ensures first { IfOk result (λ first. All (λ part. IfOk part (λ found. (i : ℕ)
-        → StandsBefore first i → StandsBefore found i)) parts.now) }
-    ensures whole { IfOk result (λ first. All (λ part. IsTrue (is_ok part)) parts.now) }
-{
-    let mut first = None;
-    for part in parts {
-        let found = (*part)?;
-        first = first_of_both(found, first);
-    }
-    Ok(first)
-}
-
 /// The processes in states that are kept, in order, but for their outputs, of which no condition
 /// speaks.
 fn processes_in<'a>(
@@ -74,9 +36,8 @@ fn processes_in<'a>(
     alloc: Global,
     states: &[u32],
 ) -> Result<Vec<&'a Process>, ExploreFault>
-    ensures processes { IfOk result (λ processes. (ss : List Seen)
-        → Alongside (IsState store.now) states.now ss
-        → map (λ s. silent (process_view s.now)) processes.items ≡ map silent ss) }
+    ensures processes { IfOk result (λ processes.
+        Alongside (λ i s. IsSilently store.now i (process_view s.now)) states.now processes.items) }
 {
     let mut processes = Vec::new(alloc);
     for state in states {
@@ -160,7 +121,6 @@ fn rows_to_judge(
 ) -> Result<Vec<usize>, AllocError>
     ensures all { IfOk result (λ rows. (i : ℕ) → start ≤ i → i < end
         → Contains rows.items i) }
-    ensures within { IfOk result (λ rows. All (λ i. (start ≤ i) × (i < end)) rows.items) }
 {
     let mut rows = Vec::new(alloc);
     for at in start..end {
@@ -173,28 +133,30 @@ fn rows_to_judge(
     Ok(rows)
 }
 
-/// The first row of whose world a condition holds, of some rows. Each kernel is put together once where
-/// the rows over it stand beside one another.
+/// The first row of whose world a condition holds, of some rows before an end; the end where it holds
+/// of the world of none. Each kernel is put together once where the rows over it stand beside one
+/// another.
 fn first_of(
     store: &Store,
     alloc: Global,
     condition: &Condition,
     rows: &[usize],
-) -> Result<Option<usize>, ExploreFault>
-    ensures first { IfOk result (IsFirst store.now condition.now rows.now) }
+    end: usize,
+) -> Result<usize, ExploreFault>
+    ensures first { IfOk result (IsFirst store.now condition.now end rows.now) }
 {
     let Some(one) = rows.first() else {
-        return Ok(None);
+        return Ok(end);
     };
     let mut last = whole_kernel(store, alloc, kernel_of(store, *one))?;
-    let mut first = None;
+    let mut first = end;
     for at in rows {
-        if !stands_before(*at, first) {
+        if *at >= first {
             continue;
         }
         let holds = row_holds(store, alloc, &mut last, *at, condition)?;
         if holds {
-            first = Some(*at);
+            first = *at;
         }
     }
     Ok(first)
@@ -206,19 +168,24 @@ fn first_by_parts<R: Threads + Sync>(
     alloc: Global,
     condition: &Condition,
     rows: &[usize],
+    end: usize,
     workers: &Workers<'_, R>,
-) -> Result<Option<usize>, ExploreFault>
-    ensures first { IfOk result (IsFirst store.now condition.now rows.now) }
+) -> Result<usize, ExploreFault>
+    ensures first { IfOk result (IsFirst store.now condition.now end rows.now) }
 {
     if workers.count < 2 || rows.len() < FEWEST {
-        return first_of(store, alloc, condition, rows);
+        return first_of(store, alloc, condition, rows, end);
     }
-    let judge = |_: usize, part: &[usize]| -> Result<Option<usize>, ExploreFault>
-        ensures { IfOk result (IsFirst store.entry.now condition.entry.now part.now) }
-    { first_of(store, alloc, condition, part) };
+    let judge = |_: usize, part: &[usize]| -> Result<usize, ExploreFault>
+        ensures { IfOk result (IsFirst store.entry.now condition.entry.now end part.now) }
+    { first_of(store, alloc, condition, part, end) };
     let size = rows.len() / workers.count + 1;
     let parts = map_chunks(workers.rt, alloc, rows, size, &judge)?;
-    let first = first_found(parts.as_slice())?;
+    let mut first = end;
+    for part in parts.as_slice() {
+        let found = (*part)?;
+        first = first.min(found);
+    }
     Ok(first)
 }
 
@@ -230,17 +197,18 @@ pub(crate) fn first_where<R: Threads + Sync>(
     workers: &Workers<'_, R>,
 ) -> Result<Option<usize>, ExploreFault>
     ensures some { IfOk result (λ first. IfSome first (RowHolds store.now condition.now)) }
-    ensures first { IfOk result (λ first. (i : ℕ)
-        → FailsBefore store.now condition.now first i) }
+    ensures first { IfOk result (λ first. IfSome first (λ at. (i : ℕ)
+        → FailsBefore store.now condition.now at i)) }
+    ensures none { IfOk result (λ first. first ≡ None → NoRowHolds store.now condition.now) }
 {
     let count = store.rows.len();
     let mut start = 0;
     while start < count {
         let end = start.saturating_add(start.max(TOGETHER)).min(count);
         let rows = rows_to_judge(store, alloc, condition, start, end)?;
-        let found = first_by_parts(store, alloc, condition, rows.as_slice(), workers)?;
-        if found.is_some() {
-            return Ok(found);
+        let first = first_by_parts(store, alloc, condition, rows.as_slice(), end, workers)?;
+        if first < end {
+            return Ok(Some(first));
         }
         start = end;
     }

@@ -1,14 +1,13 @@
 //! Lassos: steps that lead from a world to one alike, so that some interleaving never ends.
 ghost use Rattle.std.specs.Prelude.{◌≡◌, ◌≤◌, length, None, IfOk, IfSome, OnOk};
 ghost use Rattle.lab_sched.specs.Schedules.{steps_of};
-ghost use Rattle.lab_sched.specs.Starts.{AreStarts, initial_world};
 ghost use Rattle.lab_worlds.specs.Walked.{KeepsStart};
 ghost use Rattle.lab_worlds.specs.Lassos.{IsLasso};
 ghost use Rattle.lab_states.specs.Rising.{AreRising};
 ghost use Rattle.lab_search.specs.Stored.{IsLike};
+ghost use Rattle.lab_explore.specs.Visits.{start_of, IsVisited};
 
 use crate::visited::Visited;
-use lab_sched::Process;
 use lab_states::{Cycle, cycle_of, is_order, is_order_by_number, order_of};
 use lab_worlds::{ExploreFault, Lasso, Walk};
 use std::alloc::Global;
@@ -32,17 +31,11 @@ impl Visited {
     }
 
     /// The lasso by a cycle of edges, run from the start: to the world of its row, and along its edges.
-    fn lasso_of(
-        &self,
-        alloc: Global,
-        processes: &[Process],
-        cycle: &Cycle,
-    ) -> Result<Lasso, ExploreFault>
-        requires starts { AreStarts processes.now }
-        ensures lasso { IfOk result (λ r. IsLasso (initial_world processes.now) r) }
+    fn lasso_of(&self, alloc: Global, cycle: &Cycle) -> Result<Lasso, ExploreFault>
+        requires visited { IsVisited self.now }
+        ensures lasso { IfOk result (λ r. IsLasso (start_of self.now) r) }
     {
-        let mut walk = Walk::start(alloc, processes)?;
-        self.go_to(alloc, cycle.at, &mut walk)?;
+        let walk = self.walk_to(alloc, cycle.at)?;
         let schedule = walk.schedule;
         let mut round = Walk::at(alloc, walk.world);
         self.go_lasso(alloc, cycle, &mut round)?;
@@ -51,14 +44,9 @@ impl Visited {
     }
 
     /// A lasso among the worlds that were visited, if there is one.
-    pub(crate) fn lasso(
-        &self,
-        alloc: Global,
-        processes: &[Process],
-    ) -> Result<Option<Lasso>, ExploreFault>
-        requires starts { AreStarts processes.now }
-        ensures lasso { IfOk result (λ lasso.
-            IfSome lasso (λ r. IsLasso (initial_world processes.now) r)) }
+    pub(crate) fn lasso(&self, alloc: Global) -> Result<Option<Lasso>, ExploreFault>
+        requires visited { IsVisited self.now }
+        ensures lasso { IfOk result (λ lasso. IfSome lasso (λ r. IsLasso (start_of self.now) r)) }
         ensures none { IfOk result (λ lasso. lasso ≡ None → AreRising self.now.store.edges) }
     {
         let edges = &self.store.edges;
@@ -70,7 +58,7 @@ impl Visited {
             return Ok(None);
         }
         let cycle = cycle_of(alloc, edges, order)?.ok_or(ExploreFault::Unvouched)?;
-        let lasso = self.lasso_of(alloc, processes, &cycle)?;
+        let lasso = self.lasso_of(alloc, &cycle)?;
         Ok(Some(lasso))
     }
 }

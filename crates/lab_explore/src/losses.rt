@@ -45,6 +45,7 @@ fn receiving(store: &Store, alloc: Global) -> Result<Vec<bool>, ExploreFault>
 }
 
 /// How many messages are in the queues of the world of a row.
+#[tactic(auto, using(crate::proofs::LossesOfRows::counted_at))]
 fn messages_at(store: &Store, counts: &[usize], at: u32) -> Result<usize, ExploreFault>
     requires counts { counts.now ≡ map messages store.now.kernels.kernels }
     ensures count { IfOk result (λ count. (w : WorldState) → IsAt store.now at w
@@ -60,6 +61,7 @@ fn messages_at(store: &Store, counts: &[usize], at: u32) -> Result<usize, Explor
 }
 
 /// Whether process `pid` is about to receive a message in the world of a row.
+#[tactic(auto, using(crate::proofs::LossesOfRows::received_at))]
 fn receives_at(store: &Store, receiving: &[bool], at: u32, pid: u32) -> Result<bool, ExploreFault>
     requires receiving { receiving.now
         ≡ map (λ s. is_receiving (process_view s)) store.now.states.processes }

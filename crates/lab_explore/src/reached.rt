@@ -1,20 +1,16 @@
 //! Counterexamples of safety: what must never be so and is found by a search, each with steps from the start.
-ghost use Rattle.std.specs.Prelude.{◌≡◌, None, IfOk, IfSome, IsTrue, OnOk};
-ghost use Rattle.lab_sched.specs.Worlds.{WorldState, run};
-ghost use Rattle.lab_sched.specs.Execution.{AreEffective};
-ghost use Rattle.lab_sched.specs.Schedules.{steps_of};
-ghost use Rattle.lab_sched.specs.Starts.{AreStarts, initial_world};
-ghost use Rattle.lab_worlds.specs.Walked.{IsWalk, KeepsStart};
-ghost use Rattle.lab_worlds.specs.Calls.{Alongside};
-ghost use Rattle.lab_worlds.specs.Reached.{LeadsTo, LeadsToStep, Violates, AreReached};
+ghost use Rattle.std.specs.Prelude.{◌≡◌, ◌<◌, None, IfOk, IfSome, IsTrue, length};
+ghost use Rattle.lab_worlds.specs.Walked.{IsWalk};
+ghost use Rattle.lab_worlds.specs.Reached.{LeadsTo, LeadsToStep, Violates, IsKept, AreReached, AreKept};
 ghost use Rattle.lab_search.specs.Stored.{IsLike};
-ghost use Rattle.lab_explore.specs.Private.Judged.{NoRowHolds, NoneBreaks, IsUnseen, UnseenIfNone};
+ghost use Rattle.lab_explore.specs.Visits.{start_of, IsVisited, IsWhole};
+ghost use Rattle.lab_explore.specs.Private.Judged.{NoRowHolds};
 
 use crate::judging::first_where;
 use crate::losses::first_loss;
 use crate::visited::Visited;
 use lab_conditions::{Condition, Never};
-use lab_sched::{Process, Schedule};
+use lab_sched::Schedule;
 use lab_worlds::{ExploreFault, Walk, Workers};
 use std::alloc::Global;
 use std::thread::Threads;
@@ -28,110 +24,58 @@ pub(crate) struct Turn {
 }
 
 impl Visited {
-    /// The steps that lead from the start to the world of a row.
-    fn schedule_to(
-        &self,
-        alloc: Global,
-        processes: &[Process],
-        at: usize,
-    ) -> Result<Schedule, ExploreFault>
-        requires starts { AreStarts processes.now }
-        ensures effective { IfOk result (λ s.
-            AreEffective (initial_world processes.now) (steps_of s)) }
-        ensures row { IfOk result (λ s.
-            IsLike self.now.store at (run (initial_world processes.now) (steps_of s))) }
-    {
-        let mut walk = Walk::start(alloc, processes)?;
-        self.go_to(alloc, at, &mut walk)?;
-        Ok(walk.schedule)
-    }
-
     /// The steps that lead from the start to the first world that was found of which a condition
     /// holds, if there is one.
     fn reach_condition<R: Threads + Sync>(
         &self,
         alloc: Global,
-        processes: &[Process],
         condition: &Condition,
         workers: &Workers<'_, R>,
     ) -> Result<Option<Schedule>, ExploreFault>
-        requires starts { AreStarts processes.now }
+        requires visited { IsVisited self.now }
         ensures reached { IfOk result (λ found. IfSome found (λ s.
-            LeadsTo (initial_world processes.now) condition.now s)) }
+            LeadsTo (start_of self.now) condition.now s)) }
         ensures none { IfOk result (λ found. found ≡ None
             → NoRowHolds self.now.store condition.now) }
     {
         let Some(at) = first_where(&self.store, alloc, condition, workers)? else {
             return Ok(None);
         };
-        let schedule = self.schedule_to(alloc, processes, at)?;
-        Ok(Some(schedule))
+        let walk = self.walk_to(alloc, at)?;
+        Ok(Some(walk.schedule))
     }
 
-    /// Goes the way to a row, or stays at the start.
-    fn go_to_some(
-        &self,
-        alloc: Global,
-        row: Option<usize>,
-        walk: &mut Walk,
-    ) -> Result<(), ExploreFault>
-        ensures walk { OnOk result (KeepsStart walk.old walk.new) }
+    /// The walk to a row, or the one that stays at the start.
+    fn walk_to_some(&self, alloc: Global, row: Option<usize>) -> Result<Walk, ExploreFault>
+        requires visited { IsVisited self.now }
+        ensures walk { IfOk result (λ w. IsWalk (start_of self.now) w) }
     {
         match row {
-            Some(row) => self.go_to(alloc, row, walk),
-            None => Ok(()),
+            Some(row) => self.walk_to(alloc, row),
+            None => self.stay(alloc),
         }
     }
 
-    /// Goes to a step that was found, and takes it: it must be what never must happen.
-    fn go_against(
+    /// The steps that lead from the start to the one that was found, if one was, which must be what
+    /// never must happen.
+    fn schedule_against(
         &self,
         alloc: Global,
         never: &Never,
-        turn: Turn,
-        walk: &mut Walk,
-    ) -> Result<(), ExploreFault>
-        ensures breaks { OnOk result ((start : WorldState) → IsWalk start walk.old
-            → LeadsToStep start never.now walk.new.schedule) }
+        turn: Option<Turn>,
+    ) -> Result<Option<Schedule>, ExploreFault>
+        requires visited { IsVisited self.now }
+        ensures breaks { IfOk result (λ found. IfSome found (λ s.
+            LeadsToStep (start_of self.now) never.now s)) }
+        ensures none { IfOk result (λ found. found ≡ None → turn ≡ None) }
     {
-        self.go_to_some(alloc, turn.row, walk)?;
+        let Some(turn) = turn else {
+            return Ok(None);
+        };
+        let mut walk = self.walk_to_some(alloc, turn.row)?;
         walk.go_on(turn.pid, turn.before)?;
         walk.go_against(alloc, never, turn.pid)?;
-        Ok(())
-    }
-
-    /// The steps that lead from the start to one that was found, which must be what never must happen.
-    fn schedule_to_step(
-        &self,
-        alloc: Global,
-        processes: &[Process],
-        never: &Never,
-        turn: Turn,
-    ) -> Result<Schedule, ExploreFault>
-        requires starts { AreStarts processes.now }
-        ensures breaks { IfOk result (λ s.
-            LeadsToStep (initial_world processes.now) never.now s) }
-    {
-        let mut walk = Walk::start(alloc, processes)?;
-        self.go_against(alloc, never, turn, &mut walk)?;
-        Ok(walk.schedule)
-    }
-
-    /// The first step that was found which never must happen, if there is one.
-    fn first_step(
-        &self,
-        alloc: Global,
-        processes: &[Process],
-        never: &Never,
-    ) -> Result<Option<Turn>, ExploreFault>
-        ensures none { IfOk result (λ turn. turn ≡ None → IsTrue self.now.complete
-            → NoneBreaks (initial_world processes.now) self.now.store never.now) }
-    {
-        match never {
-            Never::Holds(_) => Ok(None),
-            Never::Lost => first_loss(&self.store, alloc),
-            Never::Refused(refusal) => self.first_refusal(alloc, processes, refusal),
-        }
+        Ok(Some(walk.schedule))
     }
 
     /// The steps that lead from the start to what must never be so, where it was found first, if it
@@ -139,25 +83,26 @@ impl Visited {
     fn reach<R: Threads + Sync>(
         &self,
         alloc: Global,
-        processes: &[Process],
         never: &Never,
         workers: &Workers<'_, R>,
     ) -> Result<Option<Schedule>, ExploreFault>
-        requires starts { AreStarts processes.now }
+        requires whole { IsWhole self.now }
         ensures reached { IfOk result (λ found. IfSome found (λ s.
-            Violates (initial_world processes.now) never.now s)) }
+            Violates (start_of self.now) never.now s)) }
         ensures none { IfOk result (λ found. found ≡ None → IsTrue self.now.complete
-            → IsUnseen (initial_world processes.now) self.now.store never.now) }
+            → IsKept (start_of self.now) never.now) }
     {
-        if let Never::Holds(condition) = never {
-            let found = self.reach_condition(alloc, processes, condition, workers)?;
-            return Ok(found);
+        match never {
+            Never::Holds(condition) => self.reach_condition(alloc, condition, workers),
+            Never::Lost => {
+                let turn = first_loss(&self.store, alloc)?;
+                self.schedule_against(alloc, never, turn)
+            }
+            Never::Refused(refusal) => {
+                let turn = self.first_refusal(alloc, refusal)?;
+                self.schedule_against(alloc, never, turn)
+            }
         }
-        let Some(turn) = self.first_step(alloc, processes, never)? else {
-            return Ok(None);
-        };
-        let schedule = self.schedule_to_step(alloc, processes, never, turn)?;
-        Ok(Some(schedule))
     }
 
     /// For each thing that must never be so, in order, the steps that lead to it from the start, where
@@ -165,19 +110,18 @@ impl Visited {
     pub(crate) fn reached<R: Threads + Sync>(
         &self,
         alloc: Global,
-        processes: &[Process],
         nevers: &[Never],
         workers: &Workers<'_, R>,
     ) -> Result<Vec<Option<Schedule>>, ExploreFault>
-        requires starts { AreStarts processes.now }
+        requires whole { 0 < length nevers.now → IsWhole self.now }
         ensures reached { IfOk result (λ found.
-            AreReached (initial_world processes.now) nevers.now found.items) }
-        ensures none { IfOk result (λ found. IsTrue self.now.complete → Alongside
-            (UnseenIfNone (initial_world processes.now) self.now.store) nevers.now found.items) }
+            AreReached (start_of self.now) nevers.now found.items) }
+        ensures none { IfOk result (λ found. IsTrue self.now.complete
+            → AreKept (start_of self.now) nevers.now found.items) }
     {
         let mut found = Vec::with_capacity(alloc, nevers.len())?;
         for never in nevers {
-            let schedule = self.reach(alloc, processes, never, workers)?;
+            let schedule = self.reach(alloc, never, workers)?;
             found.push(schedule)?;
         }
         Ok(found)

@@ -2,8 +2,8 @@
 ghost use Rattle.std.specs.Prelude.{◌≡◌, ◌<◌, ℕ, Some, None, IfOk, IsTrue, length, slice_get};
 ghost use Rattle.lab_sched.specs.Worlds.{Process as Seen, WorldState};
 ghost use Rattle.lab_sched.specs.Held.{process_view, IsHeld};
-ghost use Rattle.lab_sched.specs.Starts.{initial_world};
 ghost use Rattle.lab_search.specs.Stored.{IsAt};
+ghost use Rattle.lab_explore.specs.Visits.{start_of};
 ghost use Rattle.lab_explore.specs.declared.alone.Found.TheVariants.{Calm};
 ghost use Rattle.lab_explore.specs.Private.Judged.{IsCalmAt, BeginsQuietly, NoneRefuses};
 
@@ -12,7 +12,6 @@ use crate::reached::Turn;
 use crate::visited::Visited;
 use ipc_kernel::Kernel;
 use lab_conditions::Refusal;
-use lab_sched::Process;
 use lab_search::Store;
 use lab_worlds::ExploreFault;
 use std::alloc::Global;
@@ -91,9 +90,8 @@ impl Visited {
             return Err(ExploreFault::Unvouched);
         };
         for pid in 0..count {
-            let turn = self.refusal_of(alloc, refusal, at, pid)?;
-            if turn.is_some() {
-                return Ok(turn);
+            if let Some(turn) = self.refusal_of(alloc, refusal, at, pid)? {
+                return Ok(Some(turn));
             }
         }
         Ok(None)
@@ -109,9 +107,8 @@ impl Visited {
             → (i p : ℕ) → IsCalmAt refusal.now self.now.store i p) }
     {
         for at in 0..self.store.rows.len() {
-            let turn = self.refusal_at(alloc, refusal, at)?;
-            if turn.is_some() {
-                return Ok(turn);
+            if let Some(turn) = self.refusal_at(alloc, refusal, at)? {
+                return Ok(Some(turn));
             }
         }
         Ok(None)
@@ -121,17 +118,16 @@ impl Visited {
     fn first_of_process(
         &self,
         alloc: Global,
-        processes: &[Process],
         refusal: &Refusal,
         pid: usize,
     ) -> Result<Option<Turn>, ExploreFault>
         ensures quiet { IfOk result (λ turn. turn ≡ None → IsTrue self.now.complete
-            → BeginsQuietly refusal.now (initial_world processes.now) pid) }
+            → BeginsQuietly refusal.now (start_of self.now) pid) }
     {
         if !refusal.is_process(pid) {
             return Ok(None);
         }
-        let Some(process) = processes.get(pid) else {
+        let Some(process) = self.processes.get(pid) else {
             return Ok(None);
         };
         let most = self.firsts.get(pid).copied().unwrap_or(0);
@@ -142,19 +138,13 @@ impl Visited {
     }
 
     /// The first refused call of a process before its first call of the kernel.
-    fn refusal_first(
-        &self,
-        alloc: Global,
-        processes: &[Process],
-        refusal: &Refusal,
-    ) -> Result<Option<Turn>, ExploreFault>
+    fn refusal_first(&self, alloc: Global, refusal: &Refusal) -> Result<Option<Turn>, ExploreFault>
         ensures quiet { IfOk result (λ turn. turn ≡ None → IsTrue self.now.complete
-            → (p : ℕ) → BeginsQuietly refusal.now (initial_world processes.now) p) }
+            → (p : ℕ) → BeginsQuietly refusal.now (start_of self.now) p) }
     {
-        for pid in 0..processes.len() {
-            let turn = self.first_of_process(alloc, processes, refusal, pid)?;
-            if turn.is_some() {
-                return Ok(turn);
+        for pid in 0..self.processes.len() {
+            if let Some(turn) = self.first_of_process(alloc, refusal, pid)? {
+                return Ok(Some(turn));
             }
         }
         Ok(None)
@@ -164,15 +154,13 @@ impl Visited {
     pub(crate) fn first_refusal(
         &self,
         alloc: Global,
-        processes: &[Process],
         refusal: &Refusal,
     ) -> Result<Option<Turn>, ExploreFault>
         ensures none { IfOk result (λ turn. turn ≡ None → IsTrue self.now.complete
-            → NoneRefuses refusal.now (initial_world processes.now) self.now.store) }
+            → NoneRefuses refusal.now (start_of self.now) self.now.store) }
     {
-        let first = self.refusal_first(alloc, processes, refusal)?;
-        if first.is_some() {
-            return Ok(first);
+        if let Some(first) = self.refusal_first(alloc, refusal)? {
+            return Ok(Some(first));
         }
         let turn = self.refusal_in_rows(alloc, refusal)?;
         Ok(turn)

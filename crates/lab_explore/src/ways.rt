@@ -1,8 +1,8 @@
 //! Ways to the rows of a search, which are walked again.
-ghost use Rattle.std.specs.Prelude.{◌≤◌, ◌+◌, OnOk};
-ghost use Rattle.lab_worlds.specs.Unwaiting.{unwaiting};
-ghost use Rattle.lab_worlds.specs.Walked.{waiting, KeepsStart};
+ghost use Rattle.std.specs.Prelude.{IfOk, OnOk};
+ghost use Rattle.lab_worlds.specs.Walked.{IsWalk, KeepsStart};
 ghost use Rattle.lab_search.specs.Stored.{IsLike};
+ghost use Rattle.lab_explore.specs.Visits.{start_of, IsVisited};
 
 use crate::visited::Visited;
 use lab_worlds::{ExploreFault, Walk, WayCall};
@@ -40,10 +40,23 @@ impl Visited {
         Ok(way)
     }
 
+    /// The walk that stays at the start.
+    pub fn stay(&self, alloc: Global) -> Result<Walk, ExploreFault>
+        requires visited { IsVisited self.now }
+        ensures walk { IfOk result (λ w. IsWalk (start_of self.now) w) }
+    {
+        Walk::start(alloc, self.processes.as_slice())
+    }
+
     /// Goes the way to a row, up to its last call: the local steps of a process are taken just before
     /// its next call, and so are its opens of what is there, where worlds are left out. With the steps
     /// that are left of each process.
-    fn go_calls(&self, alloc: Global, at: usize, walk: &mut Walk) -> Result<Vec<u32>, ExploreFault>
+    pub(crate) fn go_calls(
+        &self,
+        alloc: Global,
+        at: usize,
+        walk: &mut Walk,
+    ) -> Result<Vec<u32>, ExploreFault>
         ensures walk { OnOk result (KeepsStart walk.old walk.new) }
     {
         let way = self.way(alloc, at)?;
@@ -54,38 +67,18 @@ impl Visited {
         Ok(local)
     }
 
-    /// Goes the way to a row, to whose world it must lead.
-    pub fn go_to(&self, alloc: Global, at: usize, walk: &mut Walk) -> Result<(), ExploreFault>
-        ensures walk { OnOk result (KeepsStart walk.old walk.new) }
-        ensures row { OnOk result (IsLike self.now.store at walk.new.world) }
+    /// The walk to a row, to whose world it must lead.
+    pub fn walk_to(&self, alloc: Global, at: usize) -> Result<Walk, ExploreFault>
+        requires visited { IsVisited self.now }
+        ensures walk { IfOk result (λ w. IsWalk (start_of self.now) w) }
+        ensures row { IfOk result (λ w. IsLike self.now.store at w.world) }
     {
-        let local = self.go_calls(alloc, at, walk)?;
+        let mut walk = self.stay(alloc)?;
+        let local = self.go_calls(alloc, at, &mut walk)?;
         walk.go_local(local.as_slice())?;
         if !self.store.is_row(alloc, at, &walk.world)? {
             return Err(ExploreFault::Unvouched);
         }
-        Ok(())
-    }
-
-    /// Goes the way to a row of this depth from whose world no process goes on, and lets each begin to
-    /// wait that hasn't ended. It must lead to the world of the row but for who waits, by no more calls
-    /// than the depth and one for each process that waits.
-    pub(crate) fn go_to_end(
-        &self,
-        alloc: Global,
-        at: usize,
-        depth: u32,
-        walk: &mut Walk,
-    ) -> Result<(), ExploreFault>
-        ensures walk { OnOk result (KeepsStart walk.old walk.new) }
-        ensures row { OnOk result (IsLike self.now.store at (unwaiting walk.new.world)) }
-        ensures few { OnOk result (walk.new.calls ≤ depth + waiting walk.new.world) }
-    {
-        let local = self.go_calls(alloc, at, walk)?;
-        walk.go_to_rest(local.as_slice())?;
-        if !walk.is_within(depth) || !self.store.is_unwaiting_row(alloc, at, &walk.world)? {
-            return Err(ExploreFault::Unvouched);
-        }
-        Ok(())
+        Ok(walk)
     }
 }

@@ -1,11 +1,12 @@
 -- Pictures: nodes of rows, and arrows of edges.
-use Rattle.std.proofs.Common.{ℕ, zero, suc, ◌≡◌, ◌<◌, ◌+◌, ◌++◌, All, IfSome, List, [], ◌∷◌, Option, Some, None, refl, sym, ap, subst, ◌∙◌, slice_get, get_or, length, map, arith}
+use Rattle.std.proofs.Common.{ℕ, zero, suc, ◌≡◌, ◌<◌, ◌≤◌, ◌+◌, ◌++◌, All, IfSome, List, [], ◌∷◌, Option, Some, None, refl, sym, ap, subst, ◌∙◌, slice_get, get_or, length, map, arith}
 use Rattle.std.specs.Option.{option_map}
 use Rattle.std.proofs.lemmas.List.{length-append}
+use Rattle.std.proofs.lemmas.List.Elements.{All-map}
 use Rattle.std.proofs.lemmas.Option.{slice_get-map, slice_get-get_or}
 use Rattle.ipc_kernel.specs.Alike.{IsConsistent}
 use Rattle.ipc_store.proofs.Alikes.{alike_then}
-use Rattle.lab_sched.specs.Worlds.{WorldState, step_effect_in, step, run, entries}
+use Rattle.lab_sched.specs.Worlds.{WorldState, step_effect_in, step}
 use Rattle.lab_sched.proofs.ListPlaces.{get_past}
 use Rattle.lab_worlds.specs.declared.ends.End.{End}
 use Rattle.lab_pictures.specs.declared.picture.Node.{Node}
@@ -15,7 +16,6 @@ use Rattle.lab_states.specs.declared.edges.Edge.{Edge}
 use Rattle.lab_states.specs.Rows.{Row}
 use Rattle.lab_search.specs.declared.store.Store.{Store}
 use Rattle.lab_worlds.specs.declared.walking.Walk.{Walk}
-use Rattle.lab_sched.specs.Execution.{AreEffective}
 use Rattle.lab_sched.specs.Schedules.{steps_of}
 use Rattle.lab_worlds.specs.Calls.{IsAtCall, IsAhead, Both, Alongside, AreAlike, IsAdvance}
 use Rattle.lab_worlds.specs.Closed.{HasAdvance}
@@ -24,13 +24,14 @@ use Rattle.lab_worlds.specs.Unwaiting.{GoesOn, NoneGoesOn, unwaiting}
 use Rattle.lab_pictures.specs.Pictures.{AreAtCalls, IsNode, IsStep, HaveAllSteps, BeginsAt, IsNearer, HaveFewestNodeCalls}
 use Rattle.lab_states.specs.Depths.{depth_of, IsNear, AreDepths}
 use Rattle.lab_pictures.specs.Private.Drawn.{IsNodeOfRow, AreNodesOfRows, arrow_of, IsPictureOf}
-use Rattle.lab_search.specs.Stored.{IsState, IsRow, IsAt, IsLike, LeadsTo, IsStore, AreExpanded}
+use Rattle.lab_search.specs.Stored.{IsState, IsRow, IsAt, IsLike, LeadsTo, IsStore, AreExpanded, IsSearched}
 use Rattle.lab_worlds.specs.Stepped.{IsReady}
 use Rattle.lab_worlds.specs.Walked.{IsWalk}
 use Rattle.lab_worlds.proofs.AlikeWorlds.{world_then, world_back, same_effect, step_alike, consistent_run}
 use Rattle.lab_search.proofs.FirstWorlds.{at_unique, reached_advance}
 use Rattle.lab_search.proofs.Growths.{state_kept}
 use Rattle.lab_worlds.proofs.Pushes.{all_at}
+use Rattle.lab_explore.proofs.MetWorlds.{edge_from}
 
 some_at : {A : Type 0} (xs : List A) (i : ℕ) → i < length xs → (x : A) × (slice_get xs i ≡ Some x)
 some_at [] i within = absurd (omega (arith, within))
@@ -68,26 +69,18 @@ end_of_node start t i w None like end row = tt
 end_of_node start t i w (Some e) like end row = (end, both_like t i w (unwaiting e.world) like row)
 
 -- the node that a walk to a row came to
-pub node_made : (start : WorldState) (t : Store) (depth i : ℕ) (walk : Walk) (n : Node) → IsConsistent start.kernel → IsStore t → IsWalk start walk → IsLike t i walk.world → walk.calls ≡ depth
-    → n.world ≡ walk.world → n.schedule ≡ walk.schedule → n.calls ≡ walk.calls → IfSome n.end (λ e. IsEnd start e) → IfSome n.end (λ e. IsLike t i (unwaiting e.world))
-    → (n.end ≡ None → (w : WorldState) → IsAt t i w → NoneGoesOn w → ⊥) → IsNodeOfRow start t depth i n
-node_made start t depth i walk n consistent is h like deep world same calls end row none =
-    let steps = ap steps_of same in
-    let leads = ap (run start) steps ∙ h.leads ∙ sym world in
-    let here : IsLike t i n.world = subst (IsLike t i) (sym world) like in
-    let held : IsConsistent n.world.kernel = subst (λ (w : WorldState). IsConsistent w.kernel) leads (consistent_run (steps_of n.schedule) start consistent) in
+pub node_made : (start : WorldState) (t : Store) (depth i : ℕ) (walk : Walk) (end : Option End) → IsConsistent start.kernel → IsStore t → IsWalk start walk → IsLike t i walk.world → walk.calls ≡ depth
+    → IfSome end (λ e. IsEnd start e) → IfSome end (λ e. IsLike t i (unwaiting e.world)) → (end ≡ None → (w : WorldState) → IsAt t i w → NoneGoesOn w → ⊥)
+    → IsNodeOfRow start t depth i (record { world = walk.world; schedule = walk.schedule; calls = walk.calls; end = end })
+node_made start t depth i walk end consistent is h here deep ends row none =
+    let held : IsConsistent walk.world.kernel = subst (λ (w : WorldState). IsConsistent w.kernel) h.leads (consistent_run (steps_of walk.schedule) start consistent) in
     record {
-      node = record {
-        effective = subst (AreEffective start) (sym steps) h.effective;
-        leads = leads;
-        calls = ap (λ (ps : List ℕ). length (entries start ps)) steps ∙ h.calls ∙ sym calls;
-        at_calls = like_at_calls t i n.world is here;
-      };
+      node = record { effective = h.effective; leads = h.leads; calls = h.calls; at_calls = like_at_calls t i walk.world is here };
       row = here;
-      calls = calls ∙ deep;
-      end = end_of_node start t i n.world n.end here end row;
+      calls = deep;
+      end = end_of_node start t i walk.world end here ends row;
       at_rest = λ empty rests.
-          none empty here.0 here.1 (λ p goes. rests p (subst GoesOn (same_effect n.world here.0 p held (world_back here.0 n.world here.2)) goes));
+          none empty here.0 here.1 (λ p goes. rests p (subst GoesOn (same_effect walk.world here.0 p held (world_back here.0 walk.world here.2)) goes));
     }
 
 node_consistent : (start : WorldState) (n : Node) → IsConsistent start.kernel → IsNode start n → IsConsistent n.world.kernel
@@ -152,33 +145,14 @@ all_steps start t depths ns arrows consistent nodes same expanded i p w here goe
     let is = nodes.each i n here.1 in
     let v = is.row.0 in
     let held = node_consistent start n consistent is.node in
-    let done = expanded i (get_past t.rows i is.row.1.0 is.row.1.1) in
-    let world : v ≡ done.0 = at_unique t i v done.0 is.row.1 done.1 in
     let first : GoesOn (step_effect_in n.world p) = subst (λ x. GoesOn (step_effect_in x p)) (sym here.2) goes in
-    let second : GoesOn (step_effect_in v p) = subst GoesOn (sym (same_effect n.world v p held (world_back v n.world is.row.2))) first in
-    let edge = done.2 p (subst (λ x. GoesOn (step_effect_in x p)) world second) in
+    let edge = edge_from t i p v expanded is.row.1 (subst GoesOn (sym (same_effect n.world v p held (world_back v n.world is.row.2))) first) in
     (edge.0, arrow_of edge.1, ap (λ xs. slice_get xs edge.0) same ∙ slice_get-map arrow_of t.edges edge.0 ∙ ap (option_map arrow_of) edge.3, edge.4, edge.7)
 
-begins_at : (start : WorldState) (t : Store) (depths : List ℕ) (ns : List Node) → AreNodesOfRows start t depths ns → (w : WorldState) → HasAdvance (IsAt t 0) w → BeginsAt w ns
-begins_at start t depths ns nodes w h =
+begins_at : (start : WorldState) (t : Store) (depths : List ℕ) (ns : List Node) → AreNodesOfRows start t depths ns → HasAdvance (IsAt t 0) start → BeginsAt start ns
+begins_at start t depths ns nodes h =
     let n = node_at start t depths ns 0 h.0 nodes h.1 in
-    (n.0.world, (n.0, n.1, refl), advance_then w h.0 n.0.world h.2 n.3)
-
--- what holds of the arrow of each edge holds of each arrow
-all_arrows : (P : Arrow → Type 0) (es : List Edge) → All (λ e. P (arrow_of e)) es → All P (map arrow_of es)
-all_arrows P es h k d below = by (some_at (map arrow_of es) k below)
-  where
-    of : (o : Option Edge) (a : Arrow) → slice_get es k ≡ o → option_map arrow_of o ≡ Some a → P a
-    of None a there e = absurd (cc)
-    of (Some x) a there e =
-        let is : Some (arrow_of x) ≡ Some a = e in
-        let same : arrow_of x ≡ a = cc in
-        subst P same (all_at (λ e. P (arrow_of e)) es k x h there)
-
-    by : (a : Arrow) × (slice_get (map arrow_of es) k ≡ Some a) → P (get_or (map arrow_of es) k d)
-    by found =
-        let read : slice_get (map arrow_of es) k ≡ Some (get_or (map arrow_of es) k d) = slice_get-get_or (map arrow_of es) k d below in
-        of (slice_get es k) (get_or (map arrow_of es) k d) refl (sym (slice_get-map arrow_of es k) ∙ read)
+    (n.0.world, (n.0, n.1, refl), advance_then start h.0 n.0.world h.2 n.3)
 
 nearer : (start : WorldState) (t : Store) (depths : List ℕ) (ns : List Node) (e : Edge) → AreNodesOfRows start t depths ns → IsNear depths e → IsNearer ns (arrow_of e)
 nearer start t depths ns e nodes near m n from to =
@@ -192,29 +166,25 @@ fewest start t depths ns arrows nodes same deep = record {
   first = λ n at. (nodes.each 0 n at).calls ∙ deep.first;
   nearer =
       subst (λ xs. All (IsNearer ns) xs) (sym same)
-      (all_arrows (IsNearer ns) t.edges (λ k d below. nearer start t depths ns (get_or t.edges k d) nodes (deep.near k d below)));
+      (All-map (IsNearer ns) arrow_of t.edges (λ k d below. nearer start t depths ns (get_or t.edges k d) nodes (deep.near k d below)));
 }
 
 -- the picture of a search in which each step was tried
 pub drawn : (start : WorldState) (t : Store) (depths : List ℕ) (x : Picture) → IsConsistent start.kernel → IsStore t → AreNodesOfRows start t depths x.nodes.items → x.arrows.items ≡ map arrow_of t.edges
-    → AreDepths depths t.edges → AreExpanded t → IsPictureOf start t x
-drawn start t depths x consistent is nodes same deep expanded =
+    → AreDepths depths t.edges → IsSearched start t → length t.rows ≤ 2000 → IsPictureOf start x
+drawn start t depths x consistent is nodes same deep searched few =
     let ns = x.nodes.items in
+    let count = nodes.count in
     let each : (k : ℕ) (d : Node) → k < length ns → IsNodeOfRow start t (depth_of depths k) k (get_or ns k d) = λ k d below. nodes.each k (get_or ns k d) (slice_get-get_or ns k d below) in
     record {
       nodes = λ k d below. (each k d below).node;
       arrows =
           subst (λ xs. All (IsStep ns) xs) (sym same)
-          (all_arrows (IsStep ns) t.edges (λ k d below. step_of_row start t depths ns (arrow_of (get_or t.edges k d)) consistent nodes (is.edges k d below)));
-      begins = begins_at start t depths ns nodes;
-      steps = all_steps start t depths ns x.arrows.items consistent nodes same expanded;
+          (All-map (IsStep ns) arrow_of t.edges (λ k d below. step_of_row start t depths ns (arrow_of (get_or t.edges k d)) consistent nodes (is.edges k d below)));
+      begins = begins_at start t depths ns nodes searched.begins;
+      steps = all_steps start t depths ns x.arrows.items consistent nodes same searched.expanded;
       fewest = fewest start t depths ns x.arrows.items nodes same deep;
       ends = λ k d below. (each k d below).end;
       at_rest = λ k d below. (each k d below).at_rest;
-      count = nodes.count;
+      few = omega (arith, count, few);
     }
-
--- what follows from two things of a value, if there is one
-pub some_both : {A : Type 0} {P Q R : A → Type 0} (o : Option A) → IfSome o P → IfSome o Q → ((x : A) → P x → Q x → R x) → IfSome o R
-some_both None p q f = tt
-some_both (Some x) p q f = f x p q

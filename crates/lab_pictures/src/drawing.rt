@@ -1,58 +1,28 @@
 //! The picture of the worlds of a search, read off its rows and its edges.
-ghost use Rattle.std.specs.Prelude.{◌≡◌, ◌≤◌, IsTrue, None, IfOk, IfSome, length, map};
+ghost use Rattle.std.specs.Prelude.{◌≡◌, None, IfOk, IfSome, map};
 ghost use Rattle.lab_sched.specs.Worlds.{WorldState};
-ghost use Rattle.lab_sched.specs.Starts.{AreStarts, initial_world};
 ghost use Rattle.lab_worlds.specs.Ends.{IsEnd};
 ghost use Rattle.lab_worlds.specs.Unwaiting.{unwaiting, NoneGoesOn};
-ghost use Rattle.lab_worlds.specs.Walked.{IsWalk};
-ghost use Rattle.lab_search.specs.Stored.{IsAt, IsLike, IsStore, AreExpanded};
+ghost use Rattle.lab_search.specs.Stored.{IsAt, IsLike, IsStore};
+ghost use Rattle.lab_explore.specs.Visits.{start_of, IsVisited, IsWhole};
 ghost use Rattle.lab_pictures.specs.Private.Drawn.{IsNodeOfRow, AreNodesOfRows, arrow_of, IsPictureOf};
 
 use crate::picture::{Arrow, MOST_DRAWN, Node, Picture};
 use lab_explore::{Visited, depths_of};
-use lab_sched::Process;
-use lab_states::{Edge, depth_of};
-use lab_worlds::{End, ExploreFault, Walk};
+use lab_states::depth_of;
+use lab_worlds::{End, ExploreFault};
 use std::alloc::Global;
-
-fn arrow_of(edge: &Edge) -> Arrow
-    ensures arrow { result ≡ arrow_of edge.now }
-{
-    Arrow {
-        from: edge.from,
-        to: edge.to,
-        process: edge.pid as u32,
-    }
-}
-
-/// The walk to the world of a row.
-fn walk_to(
-    visited: &Visited,
-    alloc: Global,
-    processes: &[Process],
-    at: usize,
-) -> Result<Walk, ExploreFault>
-    requires starts { AreStarts processes.now }
-    ensures walk { IfOk result (λ w. IsWalk (initial_world processes.now) w) }
-    ensures row { IfOk result (λ w. IsLike visited.now.store at w.world) }
-{
-    let mut walk = Walk::start(alloc, processes)?;
-    visited.go_to(alloc, at, &mut walk)?;
-    Ok(walk)
-}
 
 /// The end of a row of this depth, if no process goes on from its world.
 fn end_at(
     visited: &Visited,
     alloc: Global,
-    processes: &[Process],
     at: usize,
     depth: u32,
 ) -> Result<Option<End>, ExploreFault>
-    requires starts { AreStarts processes.now }
+    requires visited { IsVisited visited.now }
     requires store { IsStore visited.now.store }
-    ensures end { IfOk result (λ end. IfSome end (λ e.
-        IsEnd (initial_world processes.now) e)) }
+    ensures end { IfOk result (λ end. IfSome end (λ e. IsEnd (start_of visited.now) e)) }
     ensures row { IfOk result (λ end. IfSome end (λ e.
         IsLike visited.now.store at (unwaiting e.world))) }
     ensures none { IfOk result (λ end. end ≡ None → (w : WorldState)
@@ -61,28 +31,22 @@ fn end_at(
     if !visited.may_rest(at) {
         return Ok(None);
     }
-    let end = visited.row_end(alloc, processes, at, depth)?;
+    let end = visited.row_end(alloc, at, depth)?;
     Ok(Some(end))
 }
 
 /// The node of a row of this depth.
-fn node(
-    visited: &Visited,
-    alloc: Global,
-    processes: &[Process],
-    at: usize,
-    depth: u32,
-) -> Result<Node, ExploreFault>
-    requires starts { AreStarts processes.now }
+fn node(visited: &Visited, alloc: Global, at: usize, depth: u32) -> Result<Node, ExploreFault>
+    requires visited { IsVisited visited.now }
     requires store { IsStore visited.now.store }
     ensures node { IfOk result (λ n.
-        IsNodeOfRow (initial_world processes.now) visited.now.store depth at n) }
+        IsNodeOfRow (start_of visited.now) visited.now.store depth at n) }
 {
-    let walk = walk_to(visited, alloc, processes, at)?;
+    let walk = visited.walk_to(alloc, at)?;
     if !walk.has_calls(depth) {
         return Err(ExploreFault::Unvouched);
     }
-    let end = end_at(visited, alloc, processes, at, depth)?;
+    let end = end_at(visited, alloc, at, depth)?;
     Ok(Node {
         world: walk.world,
         schedule: walk.schedule,
@@ -91,21 +55,15 @@ fn node(
     })
 }
 
-fn nodes(
-    visited: &Visited,
-    alloc: Global,
-    processes: &[Process],
-    depths: &[u32],
-) -> Result<Vec<Node>, ExploreFault>
-    requires starts { AreStarts processes.now }
+fn nodes(visited: &Visited, alloc: Global, depths: &[u32]) -> Result<Vec<Node>, ExploreFault>
+    requires visited { IsVisited visited.now }
     requires store { IsStore visited.now.store }
     ensures nodes { IfOk result (λ nodes.
-        AreNodesOfRows (initial_world processes.now) visited.now.store depths.now nodes.items) }
+        AreNodesOfRows (start_of visited.now) visited.now.store depths.now nodes.items) }
 {
     let mut nodes = Vec::new(alloc);
     for at in 0..visited.store.rows.len() {
-        let depth = depth_of(depths, at);
-        let node = node(visited, alloc, processes, at, depth)?;
+        let node = node(visited, alloc, at, depth_of(depths, at))?;
         nodes.push(node)?;
     }
     Ok(nodes)
@@ -121,46 +79,26 @@ fn arrows(visited: &Visited, alloc: Global) -> Result<Vec<Arrow>, ExploreFault>
         let Some(edge) = visited.store.edges.get_after(at, row) else {
             return Err(ExploreFault::Unvouched);
         };
-        arrows.push(arrow_of(&edge))?;
+        arrows.push(Arrow {
+            from: edge.from,
+            to: edge.to,
+            process: edge.pid as u32,
+        })?;
         row = edge.from as usize;
     }
     Ok(arrows)
 }
 
-fn whole_picture(
-    visited: &Visited,
-    alloc: Global,
-    processes: &[Process],
-) -> Result<Picture, ExploreFault>
-    requires starts { AreStarts processes.now }
-    requires store { IsStore visited.now.store }
-    requires expanded { AreExpanded visited.now.store }
-    ensures picture { IfOk result (λ x.
-        IsPictureOf (initial_world processes.now) visited.now.store x) }
-{
-    let depths = depths_of(&visited.store, alloc)?;
-    let nodes = nodes(visited, alloc, processes, depths.as_slice())?;
-    let arrows = arrows(visited, alloc)?;
-    Ok(Picture { nodes, arrows })
-}
-
 /// The picture of all rows, if they are all worlds, and no more than are drawn.
-pub(crate) fn picture_of(
-    visited: &Visited,
-    alloc: Global,
-    processes: &[Process],
-) -> Result<Option<Picture>, ExploreFault>
-    requires starts { AreStarts processes.now }
-    requires store { IsTrue visited.now.complete → IsStore visited.now.store }
-    requires expanded { IsTrue visited.now.complete → AreExpanded visited.now.store }
-    ensures complete { IfOk result (λ d. IfSome d (λ x. IsTrue visited.now.complete)) }
-    ensures picture { IfOk result (λ d. IfSome d (λ x.
-        IsPictureOf (initial_world processes.now) visited.now.store x)) }
-    ensures few { IfOk result (λ d. IfSome d (λ x. length x.nodes.items ≤ 2000)) }
+pub(crate) fn picture_of(visited: &Visited, alloc: Global) -> Result<Option<Picture>, ExploreFault>
+    requires whole { IsWhole visited.now }
+    ensures picture { IfOk result (λ d. IfSome d (IsPictureOf (start_of visited.now))) }
 {
     if !visited.complete || visited.store.rows.len() > MOST_DRAWN as usize {
         return Ok(None);
     }
-    let picture = whole_picture(visited, alloc, processes)?;
-    Ok(Some(picture))
+    let depths = depths_of(&visited.store, alloc)?;
+    let nodes = nodes(visited, alloc, depths.as_slice())?;
+    let arrows = arrows(visited, alloc)?;
+    Ok(Some(Picture { nodes, arrows }))
 }

@@ -3,7 +3,6 @@ ghost use Rattle.std.specs.Prelude.{◌≤◌, All, IfOk, IfSome, length};
 ghost use Rattle.lab_pictures.specs.Pictures.{IsNode, IsEndOfNode, HasEndAtRest, IsStep, HaveAllSteps, BeginsAt, HaveFewestNodeCalls};
 
 use crate::drawing::picture_of;
-use ipc_kernel::Kernel;
 use lab_explore::visit;
 use lab_sched::{Fresh, Schedule, World};
 use lab_worlds::{End, ExploreFault, Limits, Observer, discard};
@@ -63,15 +62,13 @@ pub fn draw(alloc: Global, fresh: Fresh, limits: Limits) -> Result<Option<Pictur
     ensures at_rest { IfOk result (λ d. IfSome d (λ x. All HasEndAtRest x.nodes.items)) }
     ensures few { IfOk result (λ d. IfSome d (λ x. length x.nodes.items ≤ 2000)) }
 {
-    let processes = fresh.processes();
-    let kernel = Kernel::new(alloc, processes.len())?;
     let limits = Limits {
         worlds: limits.worlds.min(MOST_DRAWN),
         ..limits
     };
     let mut nobody = Nobody;
-    let visited = visit(alloc, &processes, &kernel, limits, &mut nobody, false)?;
-    let picture = picture_of(&visited, alloc, &processes);
+    let visited = visit(alloc, fresh, limits, &mut nobody, false)?;
+    let picture = picture_of(&visited, alloc);
     discard(visited);
     Ok(picture?)
 }

@@ -1,29 +1,26 @@
 -- Where pairs of rows and states are marked so, what is asked is so on every way.
-use Rattle.std.proofs.Common.{ℕ, ◌≡◌, ◌<◌, inl, inr, Bool, IsTrue, List, [], ◌∷◌, Option, Some, None, refl, sym, ap, subst, ◌∙◌, slice_get}
+use Rattle.std.proofs.Common.{ℕ, ◌≡◌, ◌<◌, inl, inr, List, [], ◌∷◌, Option, Some, None, refl, sym, ap, subst, ◌∙◌, slice_get}
 use Rattle.lc3_machine.specs.Process.{Process as Machine}
 use Rattle.ipc_kernel.specs.Alike.{IsConsistent}
 use Rattle.lab_sched.specs.Worlds.{Process, Running, Waiting, Ended, WorldState, NextAction, moves, calls, next_action, step_effect_in, step, run}
-use Rattle.lab_sched.proofs.ListPlaces.{get_past}
 use Rattle.lab_sched.proofs.Executions.{effect_local}
-use Rattle.lab_worlds.specs.Calls.{IsAhead, Both, Alongside, IsAdvance}
+use Rattle.lab_worlds.specs.Calls.{IsAhead, Both, IsAdvance}
 use Rattle.lab_worlds.specs.Unwaiting.{GoesOn, unwaiting, AskAgain}
 use Rattle.lab_worlds.specs.Closed.{HasAdvance}
 use Rattle.lab_worlds.proofs.AlikeWorlds.{consistent_after, consistent_run}
 use Rattle.lab_worlds.proofs.AfterLocalSteps.{stays, same_some}
 use Rattle.lab_worlds.proofs.HeldAdvances.{same_in_advance, stays_or_steps, asks_run}
 use Rattle.lab_worlds.proofs.UnwaitingWorlds.{effect_at, tells, same_step, none_goes, still_unwaiting, goes_unwaiting, asks_on}
-use Rattle.lab_worlds.proofs.Pushes.{both_weaker}
 use Rattle.lab_states.specs.declared.edges.Edge.{Edge}
 use Rattle.lab_search.specs.declared.store.Store.{Store}
-use Rattle.lab_search.specs.Stored.{IsAt, HasEdge, IsSearched}
-use Rattle.lab_search.proofs.FirstWorlds.{at_unique, reached_advance}
+use Rattle.lab_search.specs.Stored.{IsAt, IsSearched}
+use Rattle.lab_search.proofs.FirstWorlds.{reached_advance}
 use Rattle.lab_ways.specs.declared.wanted.Wanted.{Wanted}
 use Rattle.lab_ways.specs.declared.marking.Marks.{Marks}
-use Rattle.lab_ways.specs.declared.ways.Ways.{Ways}
-use Rattle.lab_ways.specs.declared.ways.Ways.TheVariants.{Always, Without, Unknown}
 use Rattle.lab_ways.specs.Wanted.{next_state, next_in}
-use Rattle.lab_ways.specs.Ways.{state_from, state_after, IsEveryWay, AreWays, AreAllWays}
-use Rattle.lab_ways.specs.Private.Marked.{IsMarked, KeepsMarks, KeepsMarksAt, AreShown, IsFound}
+use Rattle.lab_ways.specs.Ways.{state_from, state_after, IsEveryWay}
+use Rattle.lab_ways.specs.Private.Marked.{IsMarked, KeepsMarks, KeepsMarksAt, AreShown}
+use Rattle.lab_explore.proofs.MetWorlds.{IsStart, edge_from}
 use Rattle.lab_ways.proofs.NextStates.{next_alike, no_step}
 
 -- a process that doesn't go on doesn't in the advance, either
@@ -58,9 +55,7 @@ marked_on x start t m s searched shown w p consistent goes has =
     elim (stays_or_steps w v p consistent has.2 goes) [
       | inl still ↦ (v, subst (λ n. IsMarkedRow t m n v) (sym (ap (next_state x s w.kernel p) still.1)) has.1, still.2)
       | inr moved ↦
-          let done = searched.expanded i (get_past t.rows i has.1.1.0 has.1.1.1) in
-          let world : v ≡ done.0 = at_unique t i v done.0 has.1.1 done.1 in
-          let edge : HasEdge t i v p = subst (λ y. HasEdge t i y p) (sym world) (done.2 p (subst (λ y. GoesOn (step_effect_in y p)) world (subst GoesOn (sym moved.1) goes))) in
+          let edge = edge_from t i p v searched.expanded has.1.1 (subst GoesOn (sym moved.1) goes) in
           let at : IsAt t edge.1.from v = subst (λ n. IsAt t n v) (sym edge.4) has.1.1 in
           let kept = shown.edges edge.0 edge.1 edge.3 s has.1.3 (subst (λ n. IsMarked m n s) (sym edge.4) has.1.2) v at in
           let same : next_in x s v p ≡ next_in x s w p = ap (next_state x s v.kernel p) moved.1 ∙ next_alike x s w.kernel v.kernel p (step_effect_in w p) has.2.kernel in
@@ -94,23 +89,11 @@ pub marks_kept : (x : Wanted) (t : Store) (m : Marks) (k : ℕ) (e : Edge) → s
 marks_kept x t m k e there keeps f read = subst (KeepsMarks x t m) (same_some e f (slice_get t.edges k) there read) keeps
 
 -- so what is asked is so on every way
-every_way : (x : Wanted) (start : WorldState) (t : Store) (m : Marks) → IsConsistent start.kernel → AskAgain start → unwaiting start ≡ start → IsSearched start t → AreShown x t m → IsEveryWay x start
-every_way x start t m consistent asks first searched shown ps =
+pub every_way : (x : Wanted) (start : WorldState) (t : Store) (m : Marks) → IsStart start → IsSearched start t → AreShown x t m → IsEveryWay x start
+every_way x start t m is searched shown ps =
     let w = run start ps in
     let begins = searched.begins in
-    let has = marked_run x start t m searched shown ps 0 start consistent asks
-    (subst (HasAdvance (IsMarkedRow t m 0)) (sym first) (begins.0, (0, begins.1, shown.first, shown.some), begins.2)) in
+    let has = marked_run x start t m searched shown ps 0 start is.consistent is.asks
+    (subst (HasAdvance (IsMarkedRow t m 0)) (sym is.same) (begins.0, (0, begins.1, shown.first, shown.some), begins.2)) in
     let right = shown.rows has.1.0 (state_after x start ps) has.1.3 has.1.2 has.0 has.1.1 in
-    (right.0, λ rests. right.1 (λ p. still_ahead (unwaiting w) has.0 p (consistent_run ps start consistent) has.2 (none_goes w p (asks_run ps start asks) (rests p))))
-
-found_of : (whole : Bool) (fresh start : WorldState) (t : Store) (x : Wanted) (found : Ways) → fresh ≡ start → IsConsistent start.kernel → AskAgain start → unwaiting start ≡ start
-    → (IsTrue whole → IsSearched start t) → IsFound whole fresh t x found → AreWays fresh x found
-found_of whole fresh start t x Always same consistent asks first searched h = subst (IsEveryWay x) (sym same) (every_way x start t h.1 consistent asks first (searched h.0) h.2)
-found_of whole fresh start t x (Without s) same consistent asks first searched h = h
-found_of whole fresh start t x Unknown same consistent asks first searched h = tt
-
--- what a search shows of all that is asked is so
-pub all_found : (whole : Bool) (fresh start : WorldState) (t : Store) (xs : List Wanted) (found : List Ways) → fresh ≡ start → IsConsistent start.kernel → AskAgain start → unwaiting start ≡ start
-    → (IsTrue whole → IsSearched start t) → Alongside (IsFound whole fresh t) xs found → AreAllWays fresh xs found
-all_found whole fresh start t xs found same consistent asks first searched h p =
-    both_weaker (IsFound whole fresh t) (AreWays fresh) (λ x f. found_of whole fresh start t x f same consistent asks first searched) (slice_get xs p) (slice_get found p) (h p)
+    (right.0, λ rests. right.1 (λ p. still_ahead (unwaiting w) has.0 p (consistent_run ps start is.consistent) has.2 (none_goes w p (asks_run ps start is.asks) (rests p))))

@@ -29,28 +29,23 @@ use Rattle.lab_ways.specs.declared.wanted.Wanted.{Wanted}
 use Rattle.lab_ways.specs.Calls.{object_name, queue_behind, semaphore_behind, name_called, is_called, is_on, is_of, is_of_any, is_exit, is_success}
 use Rattle.lab_ways.specs.Wanted.{is_of_next, next_turn, next_held, next_units, are_held, next_by, next_answered, next_state}
 
--- the object behind a descriptor has its name in both kernels
+-- the object behind a descriptor, or a slot, has its name in both kernels
+renamed_then : {H : Type 0} (f g : H → Option (List ℕ)) (renamed : H → H) → ((h : H) → f (renamed h) ≡ g h) → (o : Option H) → option_and_then f (option_map renamed o) ≡ option_and_then g o
+renamed_then f g renamed same None = refl
+renamed_then f g renamed same (Some h) = same h
+
 queue_alike : (f g : ℕ → ℕ) (k j : KernelState) → IsRenaming f g k j → (p d : ℕ) → queue_behind j p d ≡ queue_behind k p d
 queue_alike f g k j r p d =
     ap (λ ps. option_and_then (λ held. object_name (place_at j.places held.place)) (descriptor_of ps p d)) r.processes
     ∙ ap (option_and_then (λ held. object_name (place_at j.places held.place))) (descriptor_of-renamed f k.processes p d)
-    ∙ by (descriptor_of k.processes p d)
-  where
-    by : (o : Option Descriptor) → option_and_then (λ held. object_name (place_at j.places held.place)) (option_map (renamed_descriptor f) o)
-        ≡ option_and_then (λ held. object_name (place_at k.places held.place)) o
-    by None = refl
-    by (Some held) = ap object_name (r.places held.place)
+    ∙ renamed_then (λ (held : Descriptor). object_name (place_at j.places held.place)) (λ held. object_name (place_at k.places held.place)) (renamed_descriptor f) (λ held. ap object_name (r.places held.place))
+    (descriptor_of k.processes p d)
 
 semaphore_alike : (f g : ℕ → ℕ) (k j : KernelState) → IsRenaming f g k j → (p s : ℕ) → semaphore_behind j p s ≡ semaphore_behind k p s
 semaphore_alike f g k j r p s =
     ap (λ ps. option_and_then (λ held. object_name (place_at j.places held.place)) (slot_of ps p s)) r.processes
     ∙ ap (option_and_then (λ held. object_name (place_at j.places held.place))) (slot_of-renamed f k.processes p s)
-    ∙ by (slot_of k.processes p s)
-  where
-    by : (o : Option Slot) → option_and_then (λ held. object_name (place_at j.places held.place)) (option_map (renamed_slot f) o)
-        ≡ option_and_then (λ held. object_name (place_at k.places held.place)) o
-    by None = refl
-    by (Some held) = ap object_name (r.places held.place)
+    ∙ renamed_then (λ (held : Slot). object_name (place_at j.places held.place)) (λ held. object_name (place_at k.places held.place)) (renamed_slot f) (λ held. ap object_name (r.places held.place)) (slot_of k.processes p s)
 
 -- so has the object of a call
 name_alike : (k j : KernelState) (p : ℕ) (c : Call) → IsAlike k j → name_called j p c ≡ name_called k p c

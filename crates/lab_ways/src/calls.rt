@@ -69,10 +69,9 @@ fn is_queue_behind(kernel: &Kernel, pid: usize, mqd: u16, name: &Name) -> bool
     requires process { pid < length kernel.now.processes }
     ensures same { result ≡ is_name name.now (queue_behind kernel.now pid mqd) }
 {
-    match kernel.mqd(pid, mqd) {
-        Some(held) => is_named(kernel, held.place, name),
-        None => false,
-    }
+    kernel
+        .mqd(pid, mqd)
+        .is_some_and(|held| is_named(kernel, held.place, name))
 }
 
 /// Whether the semaphore behind a slot has this name.
@@ -80,10 +79,9 @@ fn is_semaphore_behind(kernel: &Kernel, pid: usize, slot: u16, name: &Name) -> b
     requires process { pid < length kernel.now.processes }
     ensures same { result ≡ is_name name.now (semaphore_behind kernel.now pid slot) }
 {
-    match kernel.slot(pid, slot) {
-        Some(held) => is_named(kernel, held.place, name),
-        None => false,
-    }
+    kernel
+        .slot(pid, slot)
+        .is_some_and(|held| is_named(kernel, held.place, name))
 }
 
 /// Whether a call is on the object of this name.

@@ -1,6 +1,7 @@
 //! Whether marks show that what is asked is so on every way: it is checked that no more pairs can be reached.
 ghost use Rattle.std.specs.Prelude.{ℕ, ◌<◌, IsTrue, IfOk};
 ghost use Rattle.lab_search.specs.Stored.{IsStore};
+ghost use Rattle.lab_explore.specs.Visits.{IsVisited};
 ghost use Rattle.lab_ways.specs.Private.Marked.{IsMarked, KeepsMark, KeepsMarks, KeepsMarksAt, IsRight, AreRightAt, AreShown};
 
 use crate::judging::state_along;
@@ -125,7 +126,7 @@ pub(crate) fn are_shown(
     wanted: &Wanted,
     marks: &Marks,
 ) -> Result<bool, ExploreFault>
-    requires store { IsTrue visited.now.complete → IsStore visited.now.store }
+    requires visited { IsVisited visited.now }
     ensures complete { IfOk result (λ is. IsTrue is → IsTrue visited.now.complete) }
     ensures shown { IfOk result (λ is. IsTrue is
         → AreShown wanted.now visited.now.store marks.now) }

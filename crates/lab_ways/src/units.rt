@@ -1,7 +1,7 @@
 //! Units of semaphores that are held, as the binary digits of a number.
-ghost use Rattle.std.specs.Prelude.{◌≡◌, ◌+◌, ◌*◌, ◌<◌, ◌&&◌, ◌||◌, Some, length, IfOk};
+ghost use Rattle.std.specs.Prelude.{◌≡◌, ◌+◌, ◌*◌, ◌<◌, ◌||◌, length, IfOk};
 ghost use Rattle.ipc_traps.specs.declared.service.Service.TheVariants.{SemWait, SemTrywait, SemPost};
-ghost use Rattle.lab_ways.specs.Calls.{is_called, is_on};
+ghost use Rattle.lab_ways.specs.Calls.{is_called};
 ghost use Rattle.lab_ways.specs.Wanted.{next_held, next_units, are_held};
 
 use crate::calls::{calls_name, is_called};
@@ -10,23 +10,18 @@ use ipc_names::Name;
 use ipc_traps::Service;
 use lab_worlds::ExploreFault;
 
-/// Whether a call takes a unit of the semaphore of this name.
-fn takes(name: &Name, kernel: &Kernel, pid: usize, call: &Call) -> bool
-    requires process { pid < length kernel.now.processes }
-    ensures value { result ≡ ((is_called SemWait call.now || is_called SemTrywait call.now)
-        && is_on (Some name.now) kernel.now pid call.now) }
+/// Whether a call takes a unit of a semaphore, by its name.
+fn takes(call: &Call) -> bool
+    ensures value { result ≡ (is_called SemWait call.now || is_called SemTrywait call.now) }
 {
-    (is_called(Service::SemWait, call) || is_called(Service::SemTrywait, call))
-        && calls_name(kernel, pid, call, name)
+    is_called(Service::SemWait, call) || is_called(Service::SemTrywait, call)
 }
 
 /// Whether it gives one back.
-fn gives(name: &Name, kernel: &Kernel, pid: usize, call: &Call) -> bool
-    requires process { pid < length kernel.now.processes }
-    ensures value { result ≡ (is_called SemPost call.now
-        && is_on (Some name.now) kernel.now pid call.now) }
+fn gives(call: &Call) -> bool
+    ensures value { result ≡ is_called SemPost call.now }
 {
-    is_called(Service::SemPost, call) && calls_name(kernel, pid, call, name)
+    is_called(Service::SemPost, call)
 }
 
 /// Whether a call takes or gives back a unit, by its name.
@@ -44,14 +39,13 @@ fn next_held(name: &Name, held: u32, kernel: &Kernel, pid: usize, call: &Call) -
     requires process { pid < length kernel.now.processes }
     ensures value { result ≡ next_held name.now held kernel.now pid call.now }
 {
-    if takes(name, kernel, pid, call) {
+    if takes(call) && calls_name(kernel, pid, call, name) {
         return 1;
     }
-    if gives(name, kernel, pid, call) {
-        0
-    } else {
-        held
+    if gives(call) && calls_name(kernel, pid, call, name) {
+        return 0;
     }
+    held
 }
 
 /// The number behind a lowest digit.

@@ -1,6 +1,6 @@
 //! Ways on which what is asked isn't so: the steps along edges are taken again.
 ghost use Rattle.std.specs.Prelude.{IfOk, OnOk};
-ghost use Rattle.lab_sched.specs.Starts.{AreStarts, initial_world};
+ghost use Rattle.lab_explore.specs.Visits.{start_of, IsVisited};
 ghost use Rattle.lab_ways.specs.declared.wanted.Wanted.{Wanted as Asked};
 ghost use Rattle.lab_ways.specs.Ways.{IsWayWithout};
 ghost use Rattle.lab_ways.specs.Private.Marked.{KeepsWatched, ComesToEnd};
@@ -8,7 +8,7 @@ ghost use Rattle.lab_ways.specs.Private.Marked.{KeepsWatched, ComesToEnd};
 use crate::wanted::Wanted;
 use crate::watching::WatchedWalk;
 use lab_explore::Visited;
-use lab_sched::{Process, Schedule};
+use lab_sched::Schedule;
 use lab_states::{Edge, number_at, put};
 use lab_worlds::ExploreFault;
 use std::alloc::Global;
@@ -124,15 +124,14 @@ fn go_to_end(
 /// The way along edges to a state that isn't allowed, or to rest.
 pub(crate) fn way_along(
     visited: &Visited,
-    processes: &[Process],
     wanted: &Wanted,
     path: &[Edge],
     breaks: bool,
 ) -> Result<Schedule, ExploreFault>
-    requires starts { AreStarts processes.now }
-    ensures way { IfOk result (λ s. IsWayWithout wanted.now (initial_world processes.now) s) }
+    requires visited { IsVisited visited.now }
+    ensures way { IfOk result (λ s. IsWayWithout wanted.now (start_of visited.now) s) }
 {
-    let mut walk = WatchedWalk::start(*visited.firsts.allocator(), processes)?;
+    let mut walk = WatchedWalk::start(visited)?;
     go_to_end(visited, wanted, path, breaks, &mut walk)?;
     Ok(walk.walk.schedule)
 }

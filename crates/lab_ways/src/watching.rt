@@ -1,13 +1,14 @@
 //! Walks, and the state of what is asked after their steps.
 ghost use Rattle.std.specs.Prelude.{◌≡◌, ◌++◌, [], ◌∷◌, IsTrue, IfOk, OnOk};
 ghost use Rattle.lab_sched.specs.Schedules.{steps_of};
-ghost use Rattle.lab_sched.specs.Starts.{AreStarts, initial_world};
+ghost use Rattle.lab_explore.specs.Visits.{start_of, IsVisited};
 ghost use Rattle.lab_ways.specs.declared.wanted.Wanted.{Wanted as Asked};
 ghost use Rattle.lab_ways.specs.Wanted.{next_in};
 ghost use Rattle.lab_ways.specs.Private.Marked.{IsWatched, KeepsWatched, ComesToEnd};
 
 use crate::wanted::Wanted;
 use lab_conditions::call_of;
+use lab_explore::Visited;
 use lab_sched::{Process, Verdict};
 use lab_worlds::{ExploreFault, Walk};
 use std::alloc::Global;
@@ -21,12 +22,11 @@ pub(crate) struct WatchedWalk {
 
 impl WatchedWalk {
     /// The walk that stays at the start.
-    pub fn start(alloc: Global, processes: &[Process]) -> Result<WatchedWalk, ExploreFault>
-        requires starts { AreStarts processes.now }
-        ensures walk { IfOk result (λ w. (x : Asked)
-            → IsWatched x (initial_world processes.now) w) }
+    pub fn start(visited: &Visited) -> Result<WatchedWalk, ExploreFault>
+        requires visited { IsVisited visited.now }
+        ensures walk { IfOk result (λ w. (x : Asked) → IsWatched x (start_of visited.now) w) }
     {
-        let walk = Walk::start(alloc, processes)?;
+        let walk = visited.stay(*visited.firsts.allocator())?;
         if !walk.has_calls(0) {
             return Err(ExploreFault::Unvouched);
         }

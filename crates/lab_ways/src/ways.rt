@@ -1,18 +1,14 @@
 //! Whether what is asked of calls is so on every way.
-ghost use Rattle.std.specs.Prelude.{IsTrue, IfOk};
-ghost use Rattle.lab_sched.specs.Starts.{AreStarts, initial_world};
-ghost use Rattle.lab_worlds.specs.Calls.{Alongside};
-ghost use Rattle.lab_search.specs.Stored.{IsStore};
-ghost use Rattle.lab_ways.specs.Ways.{AreAllWays};
-ghost use Rattle.lab_ways.specs.Private.Marked.{IsFound};
+ghost use Rattle.std.specs.Prelude.{IfOk};
+ghost use Rattle.lab_explore.specs.Visits.{start_of, IsVisited, IsWhole};
+ghost use Rattle.lab_ways.specs.Ways.{AreWays, AreAllWays};
 
 use crate::checking::{are_shown, first_against};
 use crate::marking::{Marks, mark};
 use crate::walking::way_along;
 use crate::wanted::Wanted;
-use ipc_kernel::Kernel;
 use lab_explore::{Visited, visit};
-use lab_sched::{Fresh, Process, Schedule};
+use lab_sched::{Fresh, Schedule};
 use lab_worlds::{ExploreFault, Limits, Observer, discard};
 use std::alloc::Global;
 
@@ -31,13 +27,11 @@ pub enum Ways {
 fn way_against(
     visited: &Visited,
     alloc: Global,
-    processes: &[Process],
     wanted: &Wanted,
     marks: &Marks,
 ) -> Result<Ways, ExploreFault>
-    requires starts { AreStarts processes.now }
-    ensures found { IfOk result (λ found.
-        IsFound visited.now.complete (initial_world processes.now) visited.now.store wanted.now found) }
+    requires visited { IsVisited visited.now }
+    ensures found { IfOk result (AreWays (start_of visited.now) wanted.now) }
 {
     let Some(place) = first_against(visited, wanted, marks) else {
         return Ok(Ways::Unknown);
@@ -47,45 +41,31 @@ fn way_against(
     };
     let path = marks.path_to(alloc, &visited.store.edges, place)?;
     let breaks = !wanted.pattern.allows(pair.state);
-    let schedule = way_along(visited, processes, wanted, path.as_slice(), breaks)?;
+    let schedule = way_along(visited, wanted, path.as_slice(), breaks)?;
     Ok(Ways::Without(schedule))
 }
 
 /// What a search shows of what is asked.
-fn ways_of(
-    visited: &Visited,
-    alloc: Global,
-    processes: &[Process],
-    wanted: &Wanted,
-) -> Result<Ways, ExploreFault>
-    requires starts { AreStarts processes.now }
-    requires store { IsTrue visited.now.complete → IsStore visited.now.store }
-    ensures found { IfOk result (λ found.
-        IsFound visited.now.complete (initial_world processes.now) visited.now.store wanted.now found) }
+fn ways_of(visited: &Visited, alloc: Global, wanted: &Wanted) -> Result<Ways, ExploreFault>
+    requires whole { IsWhole visited.now }
+    ensures found { IfOk result (AreWays (start_of visited.now) wanted.now) }
 {
     let marks = mark(&visited.store, alloc, wanted)?;
     if are_shown(visited, wanted, &marks)? {
         return Ok(Ways::Always);
     }
-    way_against(visited, alloc, processes, wanted, &marks)
+    way_against(visited, alloc, wanted, &marks)
 }
 
 /// What a search shows of all that is asked, in order.
-fn all_ways(
-    visited: &Visited,
-    alloc: Global,
-    processes: &[Process],
-    wanted: &[Wanted],
-) -> Result<Vec<Ways>, ExploreFault>
-    requires starts { AreStarts processes.now }
-    requires store { IsTrue visited.now.complete → IsStore visited.now.store }
-    ensures found { IfOk result (λ found. Alongside
-        (IsFound visited.now.complete (initial_world processes.now) visited.now.store)
-        wanted.now found.items) }
+fn all_ways(visited: &Visited, alloc: Global, wanted: &[Wanted]) -> Result<Vec<Ways>, ExploreFault>
+    requires whole { IsWhole visited.now }
+    ensures found { IfOk result (λ found.
+        AreAllWays (start_of visited.now) wanted.now found.items) }
 {
     let mut found = Vec::with_capacity(alloc, wanted.len())?;
     for one in wanted {
-        let ways = ways_of(visited, alloc, processes, one)?;
+        let ways = ways_of(visited, alloc, one)?;
         found.push(ways)?;
     }
     Ok(found)
@@ -106,10 +86,8 @@ pub fn ask_ways<O: Observer>(
 ) -> Result<Vec<Ways>, ExploreFault>
     ensures ways { IfOk result (λ found. AreAllWays fresh wanted.now found.items) }
 {
-    let processes = fresh.processes();
-    let kernel = Kernel::new(alloc, processes.len())?;
-    let visited = visit(alloc, &processes, &kernel, limits, observer, false)?;
-    let found = all_ways(&visited, alloc, &processes, wanted);
+    let visited = visit(alloc, fresh, limits, observer, false)?;
+    let found = all_ways(&visited, alloc, wanted);
     discard(visited);
     Ok(found?)
 }

@@ -1,20 +1,22 @@
 -- What is judged of the rows and edges of a search.
-use Rattle.std.specs.Prelude.{ℕ, ◌≡◌, ◌↔◌, ◌<◌, false, List, Option, Some, None, All, Contains, IfSome, IsTrue, slice_get}
+use Rattle.std.specs.Prelude.{ℕ, ◌≡◌, ◌↔◌, ◌<◌, ◌≤◌, false, List, Some, All, IsTrue, slice_get}
 use Rattle.ipc_kernel.specs.Kernel.{KernelState}
 use Rattle.lab_sched.specs.Worlds.{Process, WorldState}
 use Rattle.lab_sched.specs.Held.{asked_by, local_told, step_of}
 use Rattle.lab_sched.specs.LocalRun.{IsLocalStep, AreLocal}
-use Rattle.lab_sched.specs.declared.schedule.block.Block.{Block}
 use Rattle.lab_conditions.specs.declared.condition.Condition.{Condition}
-use Rattle.lab_conditions.specs.declared.never.Never.{Never}
-use Rattle.lab_conditions.specs.declared.never.Never.TheVariants as never
 use Rattle.lab_conditions.specs.Conditions.{Holds, world_of}
 use Rattle.lab_conditions.specs.Losses.{messages, is_receiving}
 use Rattle.lab_conditions.specs.Refusals.{is_process, is_refused}
 use Rattle.lab_conditions.specs.declared.refusals.Refusal.{Refusal}
+use Rattle.lab_states.specs.CollapsedStates.{IsButForOutput}
 use Rattle.lab_states.specs.declared.edges.Edge.{Edge}
 use Rattle.lab_search.specs.declared.store.Store.{Store}
-use Rattle.lab_search.specs.Stored.{IsExactly, IsAt}
+use Rattle.lab_search.specs.Stored.{IsExactly, IsState, IsAt}
+
+-- the state at a place is that of the process, but for its output
+abbrev pub IsSilently : Store → ℕ → Process → Type 0
+IsSilently t i s = (u : Process) × IsState t i u × IsButForOutput s u
 
 -- the condition holds of the world of row number i
 abbrev pub RowHolds : Store → Condition → ℕ → Type 0
@@ -28,19 +30,14 @@ RowFails t c i = (w : WorldState) → IsAt t i w → Holds c w → ⊥
 abbrev pub JudgesFor : Store → Condition → ℕ → KernelState → Type 0
 JudgesFor t c i k = (j : KernelState) (ps : List Process) → IsExactly t i j → Holds c (world_of k ps) ↔ Holds c (world_of j ps)
 
--- the row with a number stands before the one that was found, if one was
-abbrev pub StandsBefore : Option ℕ → ℕ → Type 0
-StandsBefore None i = Unit {0}
-StandsBefore (Some j) i = i < j
+-- the condition doesn't hold of the world of row number i, if that stands before another
+abbrev pub FailsBefore : Store → Condition → ℕ → ℕ → Type 0
+FailsBefore t c first i = i < first → RowFails t c i
 
--- the condition doesn't hold of the world of row number i, if that stands before the one that was found
-abbrev pub FailsBefore : Store → Condition → Option ℕ → ℕ → Type 0
-FailsBefore t c first i = StandsBefore first i → RowFails t c i
-
--- of some rows, the first of whose world the condition holds; none where it holds of the world of none
-pub record IsFirst (t : Store) (c : Condition) (rows : List ℕ) (first : Option ℕ) : Type 0 where
-  pub holds : IfSome first (RowHolds t c)
-  pub among : IfSome first (Contains rows)
+-- of some rows, the first of whose world the condition holds; the end where it holds of the world of none
+pub record IsFirst (t : Store) (c : Condition) (end : ℕ) (rows : List ℕ) (first : ℕ) : Type 0 where
+  pub within : first ≤ end
+  pub holds : first < end → RowHolds t c first
   pub before : All (FailsBefore t c first) rows
 
 -- it holds of the world of no row
@@ -84,20 +81,3 @@ BeginsQuietly r start p = IsTrue (is_process r.process p) → (s : Process) → 
 pub record NoneRefuses (r : Refusal) (start : WorldState) (t : Store) : Type 0 where
   pub begins : (p : ℕ) → BeginsQuietly r start p
   pub rows : (i p : ℕ) → IsCalmAt r t i p
-
--- no step that was found is what never must happen; a condition is none that a step breaks
-abbrev pub NoneBreaks : WorldState → Store → Never → Type 0
-NoneBreaks start t (never.Holds c) = Unit {0}
-NoneBreaks start t never.Lost = NoEdgeLoses t
-NoneBreaks start t (never.Refused r) = NoneRefuses r start t
-
--- no row, and no step, shows what must never be so
-abbrev pub IsUnseen : WorldState → Store → Never → Type 0
-IsUnseen start t (never.Holds c) = NoRowHolds t c
-IsUnseen start t never.Lost = NoEdgeLoses t
-IsUnseen start t (never.Refused r) = NoneRefuses r start t
-
--- where there is no schedule, none does
-abbrev pub UnseenIfNone : WorldState → Store → Never → Option (List Block) → Type 0
-UnseenIfNone start t n None = IsUnseen start t n
-UnseenIfNone start t n (Some s) = Unit {0}

@@ -1,11 +1,10 @@
 -- Nodes and arrows of a picture, as rows and edges of a search have them.
-use Rattle.std.specs.Prelude.{ℕ, ◌≡◌, List, Some, All, length, slice_get}
+use Rattle.std.specs.Prelude.{ℕ, ◌≡◌, ◌≤◌, List, Some, All, length, slice_get}
 use Rattle.lab_sched.specs.Worlds.{WorldState}
-use Rattle.lab_worlds.specs.Closed.{HasAdvance}
 use Rattle.lab_states.specs.declared.edges.Edge.{Edge}
 use Rattle.lab_states.specs.Depths.{depth_of}
 use Rattle.lab_search.specs.declared.store.Store.{Store}
-use Rattle.lab_search.specs.Stored.{IsAt, IsLike}
+use Rattle.lab_search.specs.Stored.{IsLike}
 use Rattle.lab_pictures.specs.declared.picture.Node.{Node}
 use Rattle.lab_pictures.specs.declared.picture.Arrow.{Arrow}
 use Rattle.lab_pictures.specs.declared.picture.Picture.{Picture}
@@ -28,13 +27,13 @@ pub record AreNodesOfRows (start : WorldState) (t : Store) (depths : List ℕ) (
 abbrev pub arrow_of : Edge → Arrow
 arrow_of e = record { from = e.from; to = e.to; process = e.pid }
 
--- the picture shows the rows and the edges of a search in which each step was tried
-pub record IsPictureOf (start : WorldState) (t : Store) (x : Picture) : Type 0 where
+-- the picture shows all worlds to which steps lead from the start
+pub record IsPictureOf (start : WorldState) (x : Picture) : Type 0 where
   pub nodes : All (IsNode start) x.nodes.items
   pub arrows : All (IsStep x.nodes.items) x.arrows.items
-  pub begins : (w : WorldState) → HasAdvance (IsAt t 0) w → BeginsAt w x.nodes.items
+  pub begins : BeginsAt start x.nodes.items
   pub steps : HaveAllSteps x.nodes.items x.arrows.items
   pub fewest : HaveFewestNodeCalls x.nodes.items x.arrows.items
   pub ends : All (IsEndOfNode start) x.nodes.items
   pub at_rest : All HasEndAtRest x.nodes.items
-  pub count : length x.nodes.items ≡ length t.rows
+  pub few : length x.nodes.items ≤ 2000

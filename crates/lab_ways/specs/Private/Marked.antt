@@ -1,5 +1,5 @@
 -- Pairs of a row and a state that ways reach, as marks that are checked.
-use Rattle.std.specs.Prelude.{ℕ, ◌≡◌, ◌≤◌, ◌<◌, ◌+◌, ◌*◌, ◌⊎◌, Bool, Some, IsTrue, slice_get, unwrap_or}
+use Rattle.std.specs.Prelude.{ℕ, ◌≡◌, ◌≤◌, ◌<◌, ◌+◌, ◌*◌, ◌⊎◌, Some, IsTrue, slice_get, unwrap_or}
 use Rattle.lab_sched.specs.Worlds.{WorldState}
 use Rattle.lab_sched.specs.Schedules.{steps_of}
 use Rattle.lab_worlds.specs.Unwaiting.{NoneGoesOn}
@@ -10,10 +10,8 @@ use Rattle.lab_search.specs.Stored.{IsAt}
 use Rattle.lab_ways.specs.declared.wanted.Wanted.{Wanted}
 use Rattle.lab_ways.specs.declared.marking.Marks.{Marks}
 use Rattle.lab_ways.specs.declared.watching.WatchedWalk.{WatchedWalk}
-use Rattle.lab_ways.specs.declared.ways.Ways.{Ways}
-use Rattle.lab_ways.specs.declared.ways.Ways.TheVariants.{Always, Without, Unknown}
 use Rattle.lab_ways.specs.Wanted.{next_in, is_allowed, is_accepted}
-use Rattle.lab_ways.specs.Ways.{state_after, BreaksAtLast, RestsUnaccepted, IsWayWithout}
+use Rattle.lab_ways.specs.Ways.{state_after, BreaksAtLast, RestsUnaccepted}
 
 -- row number i is marked with state s
 abbrev pub IsMarked : Marks → ℕ → ℕ → Type 0
@@ -66,9 +64,3 @@ EndsAgainst x start w = BreaksAtLast x start (steps_of w.walk.schedule) ⊎ Rest
 -- the second is such a one, and ends so, where the first is
 abbrev pub ComesToEnd : Wanted → WatchedWalk → WatchedWalk → Type 0
 ComesToEnd x w v = (start : WorldState) → IsWatched x start w → IsWatched x start v × EndsAgainst x start v
-
--- what a search, which is whole or isn't, shows of what is asked
-abbrev pub IsFound : Bool → WorldState → Store → Wanted → Ways → Type 0
-IsFound whole start t x Always = IsTrue whole × (m : Marks) × AreShown x t m
-IsFound whole start t x (Without s) = IsWayWithout x start s
-IsFound whole start t x Unknown = Unit {0}

@@ -1,26 +1,16 @@
-use Rattle.std.proofs.Common.{◌∙◌, ◌∷◌, [], ap, arith, map, get_or}
-use Rattle.std.proofs.lemmas.List.{map-append}
-use Rattle.std.proofs.lemmas.Option.{slice_get-get_or}
+use Rattle.std.proofs.Common.{ap, get_or, option_map}
+use Rattle.std.proofs.lemmas.List.{get_or_default}
 use Rattle.lab_sched.specs.Held.{process_view}
-use Rattle.lab_states.specs.CollapsedStates.{silent}
-use Rattle.lab_explore.proofs.JudgedRows.{states_more, states_all}
+use Rattle.lab_explore.specs.Private.Judged.{IsSilently}
+use Rattle.lab_explore.proofs.JudgedRows.{next_along}
 use Rattle.lab_explore.proofs.judging.processes_in.Goals as goal
 
 pub loop-state-preserved : goal.loop-state-preserved
-loop-state-preserved c ss along =
+loop-state-preserved c =
     let states = c.args.states.now in
     let n = c.loop-state.state-index in
     let state = get_or states n 0 in
-    let seen = c.loop-state.processes.items in
-    let process = c.in-Some.process in
+    let within = c.loop-state-test.true in
     let kept = c.in-Some.ensures.state in
-    states_more c.args.store.now states ss (map (λ s. silent (process_view s.now)) seen) (map (λ s. silent (process_view s.now)) c.push.new.self.items) n state kept.0 (process_view process.now)
-    along (slice_get-get_or states n 0 c.loop-state-test.true) kept.1 kept.2 (c.loop-state.invariant ss along)
-    (ap (map (λ s. silent (process_view s.now))) (c.in_ok-push.ensures.items) ∙ map-append (λ s. silent (process_view s.now)) seen (process ∷ []))
-
-pub returns : goal.returns
-returns c = record {
-  processes = λ ss along.
-      states_all c.args.store.now c.args.states.now ss (map (λ s. silent (process_view s.now)) c.loop-state.processes.items) c.loop-state.state-index along
-      (omega (arith, c.loop-state-test.false)) (c.loop-state.invariant ss along);
-}
+    next_along (λ i s. IsSilently c.args.store.now i (process_view s.now)) states c.loop-state.processes.items c.push.new.self.items n state c.in-Some.process c.loop-state.invariant within (get_or_default states n 0 state within)
+    (process_view kept.0, ap (option_map process_view) kept.1, kept.2) c.in_ok-push.ensures.items

@@ -1,12 +1,12 @@
 use Rattle.std.proofs.Common.{arith}
-use Rattle.lab_sched.specs.Starts.{initial_world}
+use Rattle.lab_explore.specs.Visits.{start_of}
 use Rattle.lab_pictures.proofs.DrawnRows.{nodes_more}
 use Rattle.lab_pictures.proofs.drawing.nodes.Goals as goal
 
 pub loop-at-preserved : goal.loop-at-preserved
 loop-at-preserved c =
-    let more = nodes_more (initial_world c.args.processes.now) c.args.visited.now.store c.args.depths.now c.loop-at.at c.depth_of-depth.result c.loop-at.nodes.items c.push.new.self.items c.in_ok-node.node
-    c.loop-at.invariant.count c.loop-at.invariant.each c.in_ok-node.ensures.node c.depth_of-depth.ensures.depth c.in_ok-push.ensures.items in
+    let more = nodes_more (start_of c.args.visited.now) c.args.visited.now.store c.args.depths.now c.loop-at.at c.depth_of.result c.loop-at.nodes.items c.push.new.self.items c.in_ok-node.node
+    c.loop-at.invariant.count c.loop-at.invariant.each c.in_ok-node.ensures.node c.depth_of.ensures.depth c.in_ok-push.ensures.items in
     let below = c.loop-at-test.true in
     let end = c.len-at-end.ensures in
     record { count = more.0; within = omega (arith, below, end); each = more.1 }

@@ -11,7 +11,5 @@ pub returns : goal.returns
 returns c = record {
   yes = λ is i s under marked w here.
       let below = get_past c.args.visited.now.store.rows i here.0 here.1 in
-      let past = c.loop-row-test.false in
-      let end = c.len-row-end.ensures in
-      c.loop-row.invariant i (omega (arith, below, past, end)) s under marked w here;
+      c.loop-row.invariant i (omega arith) s under marked w here;
 }

@@ -7,9 +7,4 @@ loop-state-preserved c =
     below_more (IsRight c.args.wanted.now c.args.visited.now.store c.args.marks.now c.args.row) _ c.loop-state.invariant (c.is_right.ensures.yes c.if-not-is_right.false)
 
 pub returns : goal.returns
-returns c = record {
-  yes = λ is s below.
-      let past = c.loop-state-test.false in
-      let end = c.in_ok-state-end.ensures.value in
-      c.loop-state.invariant s (omega (arith, below, past, end));
-}
+returns c = record { yes = λ is s below. c.loop-state.invariant s (omega arith) }

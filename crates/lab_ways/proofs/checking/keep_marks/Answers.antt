@@ -15,7 +15,5 @@ pub returns : goal.returns
 returns c = record {
   yes = λ is k e there.
       let below = get_past c.args.store.now.edges k e there in
-      let past = c.loop-at-test.false in
-      let end = c.len-at-end.ensures.count in
-      c.loop-at.invariant k (omega (arith, below, past, end)) e there;
+      c.loop-at.invariant k (omega arith) e there;
 }

@@ -8,12 +8,4 @@ loop-at-preserved c =
     below_more (IsKept c.args.self.now.store c.args.ranks.now c.args.starved_processes.now) _ c.loop-at.invariant kept
 
 pub returns : goal.returns
-returns c =
-    let past = c.loop-at-test.false in
-    let end = c.len-at-end.ensures in
-    record {
-      yes = λ is. record {
-        falls = c.are_falling.ensures.yes c.if-not-are_falling.false;
-        kept = λ i within. c.loop-at.invariant i (omega (arith, within, past, end));
-      };
-    }
+returns c = record { yes = λ is. record { falls = c.are_falling.ensures.yes c.if-not-are_falling.false; kept = λ i within. c.loop-at.invariant i (omega arith) } }

@@ -1,6 +1,6 @@
 use Rattle.std.proofs.Common.{All, below_more, arith, ap, subst, sym, ◌∙◌}
 use Rattle.std.proofs.lemmas.List.Elements.{All-push}
-use Rattle.lab_sched.specs.Starts.{initial_world}
+use Rattle.lab_explore.specs.Visits.{start_of}
 use Rattle.lab_sched.proofs.ListPlaces.{get_past}
 use Rattle.lab_worlds.specs.Ends.{IsEnd}
 use Rattle.lab_worlds.specs.Private.Kept.{Keeps}
@@ -22,7 +22,7 @@ loop-at-preserved c =
     let t = c.args.self.now.store in
     let depths = c.in_ok-depths.depths.items in
     let depth = c.depth_of-depth.ensures.depth ∙ ap (λ xs. depth_of xs c.loop-at.at) c.as_slice.ensures.value in
-    let start = initial_world c.args.processes.now in
+    let start = start_of c.args.self.now in
     let ends = c.loop-at.ends.items in
     let more = c.push.new.self.items in
     let end = c.in_ok-end.end in

@@ -1,6 +1,6 @@
 use Rattle.std.proofs.Common.{rules}
 use Rattle.std.proofs.lemmas.List.Sorted.{All-permutation, IsNonDecreasingBy-from_sort_by_key}
-use Rattle.lab_sched.specs.Starts.{initial_world}
+use Rattle.lab_explore.specs.Visits.{start_of}
 use Rattle.lab_worlds.specs.Ends.{IsEnd}
 use Rattle.lab_states.specs.Depths.{depth_of}
 use Rattle.lab_explore.proofs.Explorations.{end_sorted}
@@ -8,7 +8,7 @@ use Rattle.lab_explore.proofs.visited.Visited.ends.Goals as goal
 
 pub returns-clause-ends : goal.returns-clause-ends
 returns-clause-ends c =
-    let start = initial_world c.args.processes.now in
+    let start = start_of c.args.self.now in
     All-permutation (IsEnd start) c.in_ok-collected.collected.ends.items c.sort_by_key.new.self.items c.in_ok-sort_by_key.ensures.permutation c.in_ok-collected.ensures.ends
 
 pub returns-clause-all : goal.returns-clause-all

@@ -1,5 +1,5 @@
 use Rattle.std.proofs.Common.{refl}
-use Rattle.lab_sched.specs.Starts.{initial_world}
+use Rattle.lab_explore.specs.Visits.{start_of}
 use Rattle.lab_worlds.proofs.FairLassos.{fair_lasso}
 use Rattle.lab_explore.proofs.visited.Visited.lasso_along.Goals as goal
 
@@ -7,6 +7,6 @@ pub returns : goal.returns
 returns c =
     let walk = c.in_ok-walk.walk in
     record {
-      lasso = fair_lasso (initial_world c.args.processes.now) c.in_ok-other.other.world walk (record { schedule = walk.schedule; steps = c.in_ok-steps.steps }) c.in_ok-walk.ensures.walk refl
+      lasso = fair_lasso (start_of c.args.self.now) c.in_ok-other.other.world walk (record { schedule = walk.schedule; steps = c.in_ok-steps.steps }) c.in_ok-walk.ensures.walk refl
           (c.are_alike.ensures.alike c.if-not-are_alike.false) c.in_ok-steps.ensures.segment c.in_ok-steps.ensures.returns;
     }

@@ -1,7 +1,5 @@
-use Rattle.lab_sched.specs.Starts.{initial_world}
+use Rattle.lab_explore.specs.Visits.{start_of}
 use Rattle.lab_explore.proofs.visited.Visited.lead.Goals as goal
 
 pub returns : goal.returns
-returns c =
-    let start = initial_world c.args.processes.now in
-    record { walk = c.in_ok-go_walk_parts.ensures.walk start (c.in_ok-go_to.ensures.walk start c.in_ok-walk.ensures.walk) }
+returns c = record { walk = c.in_ok-go_walk_parts.ensures.walk (start_of c.args.self.now) c.in_ok-walk.ensures.walk }

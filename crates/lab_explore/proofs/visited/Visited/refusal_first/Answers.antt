@@ -1,19 +1,12 @@
-use Rattle.std.proofs.Common.{below_more, refl, sym, ◌∙◌, arith, length}
-use Rattle.lab_sched.specs.Starts.{initial_world}
+use Rattle.std.proofs.Common.{below_more, arith}
+use Rattle.lab_explore.specs.Visits.{start_of}
 use Rattle.lab_explore.specs.Private.Judged.{BeginsQuietly}
-use Rattle.lab_explore.proofs.CalmRows.{none_if, begin_all}
+use Rattle.lab_explore.proofs.CalmRows.{begin_all}
 use Rattle.lab_explore.proofs.visited.Visited.refusal_first.Goals as goal
 
 pub loop-pid-preserved : goal.loop-pid-preserved
 loop-pid-preserved c whole =
-    below_more (BeginsQuietly c.args.refusal.now (initial_world c.args.processes.now)) c.loop-pid.pid (c.loop-pid.invariant whole)
-    (c.in_ok-turn.ensures.quiet (none_if c.in_ok-turn.turn (sym c.is_some.ensures ∙ c.if-is_some.false)) whole)
+    below_more (BeginsQuietly c.args.refusal.now (start_of c.args.self.now)) c.loop-pid.pid (c.loop-pid.invariant whole) (c.in_ok-turn.ensures.quiet c.in_default.is whole)
 
 pub returns : goal.returns
-returns c = record {
-  quiet = λ none whole.
-      begin_all c.args.refusal.now c.args.processes.now (length c.args.processes.now) refl
-      (λ p below.
-      let past = c.loop-pid-test.false in
-      c.loop-pid.invariant whole p (omega (arith, below, past)));
-}
+returns c = record { quiet = λ none whole. begin_all c.args.refusal.now c.args.self.now.processes.items (λ p below. c.loop-pid.invariant whole p (omega arith)) }

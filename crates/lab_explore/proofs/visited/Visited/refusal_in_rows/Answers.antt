@@ -1,19 +1,15 @@
-use Rattle.std.proofs.Common.{ℕ, below_more, refl, sym, ◌∙◌, arith, length}
+use Rattle.std.proofs.Common.{ℕ, below_more, arith}
+use Rattle.lab_sched.proofs.ListPlaces.{get_past}
 use Rattle.lab_explore.specs.Private.Judged.{IsCalmAt}
-use Rattle.lab_explore.proofs.CalmRows.{none_if, calm_rows}
 use Rattle.lab_explore.proofs.visited.Visited.refusal_in_rows.Goals as goal
 
 pub loop-at-preserved : goal.loop-at-preserved
 loop-at-preserved c whole =
-    below_more (λ i. (p : ℕ) → IsCalmAt c.args.refusal.now c.args.self.now.store i p) c.loop-at.at (c.loop-at.invariant whole)
-    (c.in_ok-turn.ensures.calm (none_if c.in_ok-turn.turn (sym c.is_some.ensures ∙ c.if-is_some.false)) whole)
+    below_more (λ i. (p : ℕ) → IsCalmAt c.args.refusal.now c.args.self.now.store i p) c.loop-at.at (c.loop-at.invariant whole) (c.in_ok-turn.ensures.calm c.in_default.is whole)
 
 pub returns : goal.returns
 returns c = record {
-  calm = λ none whole.
-      calm_rows c.args.refusal.now c.args.self.now.store (length c.args.self.now.store.rows) refl
-      (λ i below.
-      let past = c.loop-at-test.false in
-      let end = c.len-at-end.ensures.count in
-      c.loop-at.invariant whole i (omega (arith, below, past, end)));
+  calm = λ none whole i p meant w s here.
+      let within = get_past c.args.self.now.store.rows i here.0 here.1 in
+      c.loop-at.invariant whole i (omega arith) p meant w s here;
 }
