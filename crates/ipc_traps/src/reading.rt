@@ -1,12 +1,12 @@
 //! The call that a process makes.
 
 ghost use Rattle.std.specs.Prelude.{◌≡◌, IfOk, ◌<◌, true, ℕ, Result, Ok, Err};
-ghost use Rattle.lc3_machine.specs.Process.{reg, Stops};
+ghost use Rattle.lc3_machine.specs.Process.{Stops};
 ghost use Rattle.lc3_machine.specs.Effects.{next_step};
 ghost use Rattle.lc3_machine.specs.declared.want.Want.TheVariants.{Trap};
 ghost use Rattle.ipc_kernel.specs.declared.call.Call.TheVariants.{MqUnlink, SemUnlink};
 ghost use Rattle.ipc_traps.specs.Names.{is_in_memory, words_at};
-ghost use Rattle.ipc_traps.specs.Asked.{request_of, next_request, kernel_request, service_request, name_at, request_by_name, has_attributes, attributes, mq_open_request, sem_open_request, mq_send_request, mq_receive_request, mq_getattr_request, mq_setattr_request, sem_getvalue_request};
+ghost use Rattle.ipc_traps.specs.Asked.{request_of, next_request, kernel_request, service_request, request_within, Calls, name_at, request_by_name, has_attributes, mq_open_request, sem_open_request, mq_send_request};
 
 use crate::memory::{is_in_memory, name_length, read_few, read_four, read_words, register};
 use crate::{Asked, Service};
@@ -42,27 +42,48 @@ pub fn read_call(alloc: Global, call: &AtCall) -> Result<Asked, AllocError>
     }
 }
 
+/// A call whose memory ranges must lie below the device registers.
+#[inline(always)]
+fn within(inside: bool, call: Call) -> Asked
+    ensures request { request_of result ≡ request_within inside (Calls call) }
+{
+    if inside {
+        Asked::Kernel(call)
+    } else {
+        Asked::Refused(Errno::Fault)
+    }
+}
+
 #[inline(always)]
 fn read_service(alloc: Global, machine: &Machine, service: Service) -> Result<Asked, AllocError>
     ensures request { IfOk result (λ a. request_of a
         ≡ service_request service machine.now.process) }
 {
-    let first = register(machine, 0);
+    let (first, at) = (register(machine, 0), register(machine, 1));
     match service {
         Service::MqOpen => read_open(alloc, machine),
         Service::MqClose => Ok(Asked::Kernel(Call::MqClose { mqd: first })),
         Service::MqUnlink => read_unlink(alloc, machine),
         Service::MqSend => read_send(alloc, machine),
-        Service::MqReceive => Ok(read_receive(machine)),
-        Service::MqGetattr => Ok(read_getattr(machine)),
-        Service::MqSetattr => Ok(read_setattr(machine)),
+        Service::MqReceive => {
+            let (len, prio_at) = (register(machine, 2), register(machine, 3));
+            let inside = is_in_memory(at, len) && (prio_at == 0 || is_in_memory(prio_at, 1));
+            Ok(within(inside, Call::MqReceive { mqd: first, len }))
+        }
+        Service::MqGetattr => Ok(within(is_in_memory(at, 4), Call::MqGetattr { mqd: first })),
+        Service::MqSetattr => {
+            let old_at = register(machine, 2);
+            let inside = is_in_memory(at, 4) && (old_at == 0 || is_in_memory(old_at, 4));
+            let flags = machine.word(at);
+            Ok(within(inside, Call::MqSetattr { mqd: first, flags }))
+        }
         Service::SemOpen => read_sem_open(alloc, machine),
         Service::SemClose => Ok(Asked::Kernel(Call::SemClose { slot: first })),
         Service::SemUnlink => read_sem_unlink(alloc, machine),
         Service::SemWait => Ok(Asked::Kernel(Call::SemWait { slot: first })),
         Service::SemTrywait => Ok(Asked::Kernel(Call::SemTrywait { slot: first })),
         Service::SemPost => Ok(Asked::Kernel(Call::SemPost { slot: first })),
-        Service::SemGetvalue => Ok(read_getvalue(machine)),
+        Service::SemGetvalue => Ok(within(is_in_memory(at, 1), Call::SemGetvalue { slot: first })),
     }
 }
 
@@ -86,18 +107,6 @@ fn has_attributes(machine: &Machine) -> bool
     register(machine, 1) & O_CREAT != 0 && register(machine, 2) != 0
 }
 
-fn attributes(machine: &Machine) -> Option<[u16; 4]>
-    requires range { has_attributes machine.now.process ≡ true
-        → is_in_memory (reg machine.now.process 2) 4 ≡ true }
-    ensures attributes { result ≡ attributes machine.now.process }
-{
-    if has_attributes(machine) {
-        Some(read_four(machine, register(machine, 2)))
-    } else {
-        None
-    }
-}
-
 fn read_open(alloc: Global, machine: &Machine) -> Result<Asked, AllocError>
     ensures request { IfOk result (λ a. request_of a ≡ mq_open_request machine.now.process) }
 {
@@ -109,7 +118,11 @@ fn read_open(alloc: Global, machine: &Machine) -> Result<Asked, AllocError>
         Ok(name) => Ok(Asked::Kernel(Call::MqOpen {
             name,
             flags: register(machine, 1),
-            attr: attributes(machine),
+            attr: if has_attributes(machine) {
+                Some(read_four(machine, register(machine, 2)))
+            } else {
+                None
+            },
         })),
     }
 }
@@ -171,60 +184,4 @@ fn read_send(alloc: Global, machine: &Machine) -> Result<Asked, AllocError>
         words,
         prio: register(machine, 3),
     }))
-}
-
-fn read_receive(machine: &Machine) -> Asked
-    ensures request { request_of result ≡ mq_receive_request machine.now.process }
-{
-    let len = register(machine, 2);
-    let prio_at = register(machine, 3);
-    if !is_in_memory(register(machine, 1), len) {
-        return Asked::Refused(Errno::Fault);
-    }
-    if prio_at != 0 && !is_in_memory(prio_at, 1) {
-        return Asked::Refused(Errno::Fault);
-    }
-    Asked::Kernel(Call::MqReceive {
-        mqd: register(machine, 0),
-        len,
-    })
-}
-
-fn read_getattr(machine: &Machine) -> Asked
-    ensures request { request_of result ≡ mq_getattr_request machine.now.process }
-{
-    if !is_in_memory(register(machine, 1), 4) {
-        return Asked::Refused(Errno::Fault);
-    }
-    Asked::Kernel(Call::MqGetattr {
-        mqd: register(machine, 0),
-    })
-}
-
-fn read_setattr(machine: &Machine) -> Asked
-    ensures request { request_of result ≡ mq_setattr_request machine.now.process }
-{
-    let new_at = register(machine, 1);
-    let old_at = register(machine, 2);
-    if !is_in_memory(new_at, 4) {
-        return Asked::Refused(Errno::Fault);
-    }
-    if old_at != 0 && !is_in_memory(old_at, 4) {
-        return Asked::Refused(Errno::Fault);
-    }
-    Asked::Kernel(Call::MqSetattr {
-        mqd: register(machine, 0),
-        flags: machine.word(new_at),
-    })
-}
-
-fn read_getvalue(machine: &Machine) -> Asked
-    ensures request { request_of result ≡ sem_getvalue_request machine.now.process }
-{
-    if !is_in_memory(register(machine, 1), 1) {
-        return Asked::Refused(Errno::Fault);
-    }
-    Asked::Kernel(Call::SemGetvalue {
-        slot: register(machine, 0),
-    })
 }
