@@ -27,23 +27,14 @@ impl Kernel {
         })) }
         ensures settled { IfOk result (λ found. IfSome found IsSettled) }
     {
-        match Places::of(alloc, objects)? {
-            Some(places) => Ok(Kernel::of(places, tables)),
-            None => Ok(None),
-        }
-    }
-
-    /// The kernel of these places and of processes with these tables, if there is one.
-    fn of(places: Places, tables: Vec<OpenTables>) -> Option<Kernel>
-        ensures kernel { IfSome result (λ k. k ≡ record {
-          places = places;
-          processes = tables.items;
-        }) }
-        ensures settled { IfSome result IsSettled }
-    {
+        let Some(places) = Places::of(alloc, objects)? else {
+            return Ok(None);
+        };
         match Processes::of(tables) {
-            Some(processes) if places.are_used(&processes) => Some(Kernel { places, processes }),
-            _ => None,
+            Some(processes) if places.are_used(&processes) => {
+                Ok(Some(Kernel { places, processes }))
+            }
+            _ => Ok(None),
         }
     }
 
