@@ -69,7 +69,6 @@ impl OpenTables {
     }
 }
 
-/// Adds the open slots to a digest.
 fn feed_slots(slots: &[Option<Slot>], hasher: &mut FoldHasher) {
     for (i, slot) in slots.iter().enumerate() {
         if let Some(held) = slot {

@@ -107,7 +107,6 @@ impl Model for Processes {
 impl Processes {
     ghost use Rattle.ipc_kernel.specs.Processes.{descriptor_of, slot_of, free_descriptor_of, free_slot_of, slot_for, closed_process};
 
-    /// Processes with nothing open.
     #[tactic(auto, using(crate::proofs::CountLemmas::counts_of_none))]
     pub(crate) fn new(alloc: Global, count: usize) -> Result<Processes, AllocError>
         requires few { count ≤ process_max }
@@ -208,7 +207,6 @@ impl Processes {
         note_slot(&mut self.counts, value);
     }
 
-    /// Closes all descriptors and slots of a process.
     pub(crate) fn close_all(&mut self, pid: usize)
         requires process { pid < length self.old }
         ensures closed { self.new ≡ slice_set self.old pid closed_process }
@@ -222,7 +220,6 @@ impl Processes {
         forget_slots(&mut self.counts, &closing.slots);
     }
 
-    /// Whether a descriptor or slot refers to a place.
     pub(crate) fn is_referred(&self, place: u8) -> bool
         ensures referred { result ≡ is_referred self.now place }
     {

@@ -38,7 +38,6 @@ fn are_sizes(max_messages: u16, message_size: u16) -> bool
         && message_size <= MQ_MSGSIZE_MAX
 }
 
-/// The attributes of an open queue.
 #[inline(always)]
 fn attributes(descriptor: Descriptor, queue: &Queue) -> [u16; 4]
     ensures attributes { result ≡ attributes descriptor queue.now }
@@ -104,7 +103,6 @@ impl Kernel {
         }
     }
 
-    /// Makes a queue with a name that is free.
     #[tactic(auto, using(crate::proofs::PlaceLemmas::first_empty_place))]
     #[inline(always)]
     fn decide_mq_create<'a>(

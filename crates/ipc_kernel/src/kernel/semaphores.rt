@@ -54,7 +54,6 @@ impl Kernel {
         }
     }
 
-    /// Makes a semaphore with a name that is free.
     #[tactic(auto, using(crate::proofs::PlaceLemmas::first_empty_place))]
     #[inline(always)]
     fn decide_sem_create<'a>(&self, pid: usize, name: &'a Name, value: u16) -> Decision<'a>
@@ -80,7 +79,6 @@ impl Kernel {
         Decision::Answered(ShortReply::Plain(slot as u16), Change::MakeSemaphore(new))
     }
 
-    /// Opens the semaphore in a place on a new slot.
     #[inline(always)]
     fn decide_new_slot<'a>(&self, pid: usize, place: u8) -> Decision<'a>
         requires process { pid < length self.now.processes }
@@ -99,7 +97,6 @@ impl Kernel {
         }
     }
 
-    /// Counts one more open of a slot.
     #[inline(always)]
     fn decide_one_more_open<'a>(&self, pid: usize, slot: usize) -> Decision<'a>
         requires process { pid < length self.now.processes }

@@ -8,7 +8,6 @@ use std::alloc::{AllocError, Global};
 use std::hash::{FoldHasher, Hasher};
 use std::mem::size_of;
 
-/// Adds a name to a digest.
 fn feed_name(name: &Option<Name>, hasher: &mut FoldHasher) {
     if let Some(name) = name {
         let text = name.text().as_bytes();
@@ -69,7 +68,6 @@ impl Place {
         size_of::<Place>().saturating_add(held)
     }
 
-    /// Adds what the place holds to a digest.
     fn feed(&self, hasher: &mut FoldHasher) {
         match self {
             Place::Empty => {}

@@ -89,7 +89,6 @@ impl Processes {
         Some(Processes { tables, counts })
     }
 
-    /// The tables of each process.
     pub(crate) fn tables(&self) -> &[OpenTables]
         ensures tables { result.now ≡ self.now }
         ensures range { (i : ℕ) → is_referred self.now i ≡ true → i < object_places }

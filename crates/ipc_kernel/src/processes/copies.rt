@@ -33,7 +33,6 @@ fn feed_process(process: &OpenTables, objects: &[u64], hasher: &mut FoldHasher) 
 }
 
 impl Processes {
-    /// Equal tables.
     pub(crate) fn copy(&self, alloc: Global) -> Result<Processes, AllocError>
         ensures equal { IfOk result (λ copy. copy ≡ self.now) }
     {
@@ -44,14 +43,12 @@ impl Processes {
         })
     }
 
-    /// Whether the tables are the same.
     pub(crate) fn is_same(&self, other: &Processes) -> bool
         ensures same { IsTrue result ↔ (self.now ≡ other.now) }
     {
         self.tables.as_slice() == other.tables.as_slice()
     }
 
-    /// The bytes of the tables.
     pub(crate) fn size(&self) -> usize {
         size_of::<OpenTables>().saturating_mul(self.tables.len())
     }
