@@ -1,5 +1,5 @@
 -- Kernels that are assembled from their parts.
-use Rattle.std.proofs.Common.{◌≡◌, ◌≢◌, ℕ, ◌+◌, ◌-◌, ◌<◌, ◌≤◌, inl, inr, List, [], ◌∷◌, ◌++◌, length, get_or, take, Option, Some, None, sym, ap, ◌∙◌, arith, suc, replicate, Bool, false, is_some}
+use Rattle.std.proofs.Common.{◌≡◌, ◌≢◌, ℕ, ◌+◌, ◌-◌, ◌<◌, ◌≤◌, inl, inr, List, [], ◌∷◌, ◌++◌, length, get_or, take, Option, Some, None, refl, sym, ap, ◌∙◌, arith, suc, replicate, Bool, false, is_some}
 use Rattle.std.specs.FinMap as fin
 use Rattle.std.specs.Ordering.{nat_cmp}
 use Rattle.std.specs.Cmp.Lexicographic.{slice_cmp}
@@ -7,10 +7,12 @@ use Rattle.std.proofs.lemmas.Bool.{cases_eq, cases_lt}
 use Rattle.std.proofs.lemmas.List.{ext_get_or, get_or_default, get_or-take, length-take-le, take_more, append_assoc, append-nil, length-append}
 use Rattle.ipc_names.specs.Table.{NameMap}
 use Rattle.ipc_kernel.specs.declared.place.Place.{Place}
+use Rattle.ipc_kernel.specs.declared.place.Kind.{Kind}
+use Rattle.ipc_kernel.specs.declared.place.Kind.TheVariants.{Queue, Semaphore}
 use Rattle.ipc_kernel.specs.declared.place.Place.TheVariants.{Empty}
 use Rattle.ipc_kernel.specs.declared.process.OpenTables.{OpenTables}
 use Rattle.ipc_kernel.specs.Places.{place_at, place_or_empty, places_or_empty, padded}
-use Rattle.ipc_kernel.specs.Private.Index.{IsIndexOf, name_at}
+use Rattle.ipc_kernel.specs.Private.Index.{IsIndexOf, name_at, name_by}
 use Rattle.ipc_kernel.proofs.PlaceLemmas.{get_or-emptied, length-emptied}
 use Rattle.ipc_kernel.proofs.IndexLemmas.{index_put, index_same, place_at-get_or, place_at-past}
 
@@ -66,6 +68,11 @@ place_here ps i d h = place_at-get_or (take (i + 1) ps) i ∙ get_or-take (i + 1
 
 nothing_here : (ps : List Place) (i : ℕ) → i < length ps → place_at (take i ps) i ≡ Empty
 nothing_here ps i h = place_at-past (take i ps) i (omega (arith, length-take-le i ps (omega arith)))
+
+-- an empty place has no name
+pub nameless : (kind : Kind) → name_by kind Empty ≡ None
+nameless Queue = refl
+nameless Semaphore = refl
 
 -- a place with a name more
 pub named_more : (name_of : Place → Option (List ℕ)) (ps : List Place) (i : ℕ) (n : List ℕ) (t : NameMap) (d : Place) → name_of Empty ≡ None → i < length ps

@@ -51,7 +51,6 @@ impl Model for Kernel {
     ghost invariant = { λ a. IsSettled (record { places = a.places; processes = a.processes }) };
 }
 
-/// The reply of a refused call.
 #[inline(always)]
 fn refusal(errno: Errno) -> Answer
     ensures reply { result ≡ Done (Plain (65536 - number_of errno)) }
@@ -90,7 +89,7 @@ impl Kernel {
         ensures held { option_map (λ r. (option_copied r.0, r.1.now)) result
             ≡ queue_and_name (place_at self.now.places place) }
     {
-        self.places.queue_and_name(place)
+        self.places.get(place)?.queue_and_name()
     }
 
     /// The value of the semaphore in a place, 0 to 32,767, with its name or none.
@@ -98,7 +97,7 @@ impl Kernel {
         ensures held { option_map (λ r. (option_copied r.0, r.1)) result
             ≡ value_and_name (place_at self.now.places place) }
     {
-        self.places.value_and_name(place)
+        self.places.get(place)?.value_and_name()
     }
 
     /// What a descriptor of a process holds, where it is open.
@@ -140,7 +139,6 @@ impl Kernel {
         }
     }
 
-    /// Answers any call, as `call` does.
     #[inline(never)]
     fn call_any(&mut self, pid: usize, call: &Call) -> Result<Answer, AllocError>
         requires process { pid < length self.old.processes }
@@ -226,7 +224,6 @@ impl Kernel {
         self.preview(decision)
     }
 
-    /// What becomes of a call now.
     #[tactic(auto, unfolding(crate::specs::Answer::answer))]
     #[inline(always)]
     fn decide<'a>(&self, pid: usize, call: &'a Call) -> Decision<'a>
@@ -283,7 +280,6 @@ impl Kernel {
         }
     }
 
-    /// An open descriptor, with its queue.
     #[inline(always)]
     fn open_queue(&self, pid: usize, mqd: u16) -> Option<(Descriptor, &Queue)>
         requires process { pid < length self.now.processes }
@@ -294,11 +290,10 @@ impl Kernel {
             queue_in (place_at self.now.places held.0.place) ≡ Some held.1.now) }
     {
         let held = self.processes.descriptor(pid, mqd)?;
-        let queue = self.places.queue(held.place)?;
+        let queue = self.places.get(held.place)?.queue()?;
         Some((held, queue))
     }
 
-    /// An open slot, with the value of its semaphore.
     #[inline(always)]
     fn open_semaphore(&self, pid: usize, slot: u16) -> Option<(Slot, u16)>
         requires process { pid < length self.now.processes }
@@ -308,7 +303,7 @@ impl Kernel {
             semaphore_value (place_at self.now.places held.0.place) ≡ Some held.1) }
     {
         let held = self.processes.slot(pid, slot)?;
-        let value = self.places.semaphore_value(held.place)?;
+        let value = self.places.get(held.place)?.semaphore_value()?;
         Some((held, value))
     }
 }

@@ -26,7 +26,13 @@ pub enum Place {
     },
 }
 
-/// The text of a name, if there is one.
+/// A kind of objects, whose names are apart from those of the other.
+#[derive(Clone, Copy)]
+pub(crate) enum Kind {
+    Queue,
+    Semaphore,
+}
+
 fn text_of(name: &Option<Name>) -> &str {
     match name {
         Some(name) => name.text(),
@@ -36,6 +42,7 @@ fn text_of(name: &Option<Name>) -> &str {
 
 impl Place {
     ghost use Rattle.ipc_kernel.specs.Places.{is_empty, has_name, queue_name, semaphore_name, semaphore_value, with_value, without_name, queue_in, with_queue, queue_and_name, value_and_name};
+    ghost use Rattle.ipc_kernel.specs.Private.Index.{KeepsName, name_by};
     ghost use Rattle.ipc_kernel.specs.Private.Messages.{HasRoomFor, HasMessage};
 
     /// Whether the place holds nothing.
@@ -51,8 +58,7 @@ impl Place {
     {
         match self {
             Place::Empty => false,
-            Place::Mq { name, .. } => name.is_some(),
-            Place::Sem { name, .. } => name.is_some(),
+            Place::Mq { name, .. } | Place::Sem { name, .. } => name.is_some(),
         }
     }
 
@@ -76,7 +82,16 @@ impl Place {
         }
     }
 
-    /// The value of the semaphore.
+    /// The name of the object, if it is of this kind and has a name.
+    pub(crate) fn name(&self, kind: Kind) -> Option<&Name>
+        ensures name { option_copied result ≡ name_by kind self.now }
+    {
+        match kind {
+            Kind::Queue => self.queue_name(),
+            Kind::Semaphore => self.semaphore_name(),
+        }
+    }
+
     #[inline(always)]
     pub(crate) fn semaphore_value(&self) -> Option<u16>
         ensures value { result ≡ semaphore_value self.now }
@@ -88,7 +103,6 @@ impl Place {
         }
     }
 
-    /// The queue.
     #[inline(always)]
     pub(crate) fn queue(&self) -> Option<&Queue>
         ensures queue { option_copied result ≡ queue_in self.now }
@@ -99,7 +113,6 @@ impl Place {
         }
     }
 
-    /// The queue, with its name or none.
     pub(crate) fn queue_and_name(&self) -> Option<(Option<&Name>, &Queue)>
         ensures held { option_map (λ r. (option_copied r.0, r.1.now)) result
             ≡ queue_and_name self.now }
@@ -110,7 +123,6 @@ impl Place {
         }
     }
 
-    /// The value of the semaphore, with its name or none.
     pub(crate) fn value_and_name(&self) -> Option<(Option<&Name>, u16)>
         ensures held { option_map (λ r. (option_copied r.0, r.1)) result ≡ value_and_name self.now }
     {
@@ -120,7 +132,6 @@ impl Place {
         }
     }
 
-    /// Adds a message to the queue.
     #[inline(always)]
     pub(crate) fn send(&mut self, priority: u16, words: Words) -> Result<(), AllocError>
         requires queue { IsSomeAnd (queue_in self.old) (HasRoomFor words) }
@@ -128,6 +139,7 @@ impl Place {
         ensures ok { OnOk result ((q : QueueState) → queue_in self.old ≡ Some q
             → self.new ≡ with_queue (with_message priority words q) self.old) }
         ensures err { OnErr result (self.new ≡ self.old) }
+        ensures named { KeepsName self.old self.new }
     {
         if let Place::Mq { queue, .. } = self {
             if queue.send(priority, words).is_err() {
@@ -137,7 +149,6 @@ impl Place {
         Ok(())
     }
 
-    /// Takes the first message from the queue.
     #[inline(always)]
     pub(crate) fn receive(&mut self) -> (u16, Words)
         requires message { IsSomeAnd (queue_in self.old) HasMessage }
@@ -145,6 +156,7 @@ impl Place {
             → q.messages ≡ record { priority = result.0; words = result.1 } ∷ drop 1 q.messages }
         ensures rest { (q : QueueState) → queue_in self.old ≡ Some q
             → self.new ≡ with_queue (without_first q) self.old }
+        ensures named { KeepsName self.old self.new }
     {
         match self {
             Place::Mq { queue, .. } => queue.receive(),
@@ -152,30 +164,29 @@ impl Place {
         }
     }
 
-    /// Adds one to the value of the semaphore.
     #[inline(always)]
     pub(crate) fn post(&mut self, value: u16)
         requires value { semaphore_value self.old ≡ Some value }
         requires room { value < sem_value_max }
         ensures more { self.new ≡ with_value (value + 1) self.old }
+        ensures named { KeepsName self.old self.new }
     {
         if let Place::Sem { semaphore, .. } = self {
             semaphore.post();
         }
     }
 
-    /// Takes one from the value of the semaphore.
     #[inline(always)]
     pub(crate) fn take(&mut self, value: u16)
         requires value { semaphore_value self.old ≡ Some value }
         ensures less { self.new ≡ with_value (value - 1) self.old }
+        ensures named { KeepsName self.old self.new }
     {
         if let Place::Sem { semaphore, .. } = self {
             let _ = semaphore.try_wait();
         }
     }
 
-    /// Takes the name from the object.
     pub(crate) fn unname(&mut self)
         ensures unnamed { self.new ≡ without_name self.old }
     {
@@ -186,7 +197,6 @@ impl Place {
         }
     }
 
-    /// The kind of the object, and its name.
     fn kind_and_name(&self) -> (u8, &str) {
         match self {
             Place::Empty => (0, ""),

@@ -1,12 +1,12 @@
 //! The object places, with an index of the names of queues and one of the names of semaphores.
-ghost use Rattle.std.specs.Prelude.{◌≡◌, ℕ, ◌+◌, ◌-◌, ◌<◌, ◌≤◌, length, position, replicate, slice_set, Some, None, IfOk, IfSome, IfNone, OnOk, OnErr, ◌∷◌, IsSomeAnd, IsTrue, drop};
+ghost use Rattle.std.specs.Prelude.{◌≡◌, ℕ, ◌+◌, ◌-◌, ◌<◌, ◌≤◌, length, position, replicate, slice_get, slice_set, Some, None, IfOk, IfSome, OnOk, OnErr, ◌∷◌, IsSomeAnd, IsTrue, drop};
 ghost use Rattle.std.specs.FinMap as fin;
-ghost use Rattle.std.specs.Option.{option_map, option_copied};
+ghost use Rattle.std.specs.Option.{option_copied};
 ghost use Rattle.ipc_objects.specs.Queue.{QueueState, empty_queue, with_message, without_first};
 ghost use Rattle.ipc_objects.specs.declared.queue.Message.{Message};
 ghost use Rattle.ipc_objects.specs.Limits.{sem_value_max, mq_prio_max};
 ghost use Rattle.ipc_kernel.specs.Limits.{object_places};
-ghost use Rattle.ipc_kernel.specs.Places.{queue_in, are_sizes, is_empty, semaphore_value, with_queue_in, with_value_in, without_name_in, queue_name, semaphore_name, queue_named, semaphore_named, queue_and_name, value_and_name, place_at, places_or_empty};
+ghost use Rattle.ipc_kernel.specs.Places.{queue_in, are_sizes, is_empty, semaphore_value, with_queue_in, with_value_in, without_name_in, queue_name, semaphore_name, queue_named, semaphore_named, place_at, places_or_empty};
 ghost use Rattle.ipc_kernel.specs.Private.Messages.{HasRoomFor, HasMessage};
 ghost use Rattle.ipc_kernel.specs.declared.place.Place.TheVariants.{Empty, Mq, Sem};
 
@@ -28,115 +28,14 @@ fn index_of_empty(places: &[Place]) -> Option<usize>
     places.iter().position(|place| place.is_empty())
 }
 
-fn empty_unused_in(places: &mut [Place], processes: &Processes)
-    requires few { length places.old ≤ 256 }
-    ensures emptied { places.new ≡ places_or_empty processes.now places.old }
+fn empty_unused_in(places: &mut Vec<Place>, processes: &Processes)
+    requires few { length places.old.items ≤ 256 }
+    ensures emptied { places.new.items ≡ places_or_empty processes.now places.old.items }
 {
     for i in 0..places.len() {
         let referred = processes.is_referred(i as u8);
         places[i].keep_or_empty(referred);
     }
-}
-
-/// Adds a message, whose words are shared, to the queue in a place.
-#[tactic(auto, using(crate::proofs::PlaceLemmas::queue_in_range, crate::proofs::PlaceLemmas::place_at_read))]
-#[inline(always)]
-fn send_at(
-    places: &mut Vec<Place>,
-    place: u8,
-    priority: u16,
-    words: &Words,
-) -> Result<(), AllocError>
-    requires queue { IsSomeAnd (queue_in (place_at places.old.items place)) (HasRoomFor words.now) }
-    requires priority { priority < mq_prio_max }
-    ensures ok { OnOk result ((q : QueueState)
-        → queue_in (place_at places.old.items place) ≡ Some q
-        → places.new.items ≡ with_queue_in places.old.items place
-        (with_message priority words.now q)) }
-    ensures err { OnErr result (places.new.items ≡ places.old.items) }
-{
-    let words = words.clone()?;
-    let place = &mut places[place as usize];
-    place.send(priority, words)
-}
-
-#[tactic(auto, using(crate::proofs::PlaceLemmas::queue_in_range, crate::proofs::PlaceLemmas::place_at_read))]
-#[inline(always)]
-fn receive_at(places: &mut Vec<Place>, place: u8) -> (u16, Words)
-    requires message { IsSomeAnd (queue_in (place_at places.old.items place)) HasMessage }
-    ensures first { (q : QueueState) → queue_in (place_at places.old.items place) ≡ Some q
-        → q.messages ≡ record { priority = result.0; words = result.1 } ∷ drop 1 q.messages }
-    ensures rest { (q : QueueState) → queue_in (place_at places.old.items place) ≡ Some q
-        → places.new.items ≡ with_queue_in places.old.items place (without_first q) }
-{
-    let place = &mut places[place as usize];
-    place.receive()
-}
-
-#[tactic(auto, using(crate::proofs::PlaceLemmas::semaphore_in_range, crate::proofs::PlaceLemmas::place_at_read))]
-#[inline(always)]
-fn post_at(places: &mut Vec<Place>, place: u8, value: u16)
-    requires value { semaphore_value (place_at places.old.items place) ≡ Some value }
-    requires room { value < sem_value_max }
-    ensures more { places.new.items ≡ with_value_in places.old.items place (value + 1) }
-{
-    let place = &mut places[place as usize];
-    place.post(value);
-}
-
-#[tactic(auto, using(crate::proofs::PlaceLemmas::semaphore_in_range, crate::proofs::PlaceLemmas::place_at_read))]
-#[inline(always)]
-fn take_at(places: &mut Vec<Place>, place: u8, value: u16)
-    requires value { semaphore_value (place_at places.old.items place) ≡ Some value }
-    ensures less { places.new.items ≡ with_value_in places.old.items place (value - 1) }
-{
-    let place = &mut places[place as usize];
-    place.take(value);
-}
-
-#[tactic(auto, using(crate::proofs::PlaceLemmas::place_at_read))]
-fn unname_at(places: &mut Vec<Place>, place: u8)
-    requires range { place < length places.old.items }
-    ensures unnamed { places.new.items ≡ without_name_in places.old.items place }
-{
-    let place = &mut places[place as usize];
-    place.unname();
-}
-
-fn put_queue_at(places: &mut Vec<Place>, place: u8, name: Name, queue: Queue)
-    requires range { place < length places.old.items }
-    ensures put { places.new.items ≡ slice_set places.old.items place (Mq (Some name) queue) }
-{
-    places[place as usize] = Place::Mq {
-        name: Some(name),
-        queue,
-    };
-}
-
-fn put_semaphore_at(places: &mut Vec<Place>, place: u8, name: Name, value: u16)
-    requires place { place < length places.old.items }
-    requires value { value ≤ sem_value_max }
-    ensures put { places.new.items ≡ slice_set places.old.items place (Sem (Some name) value) }
-{
-    places[place as usize] = Place::Sem {
-        name: Some(name),
-        semaphore: Semaphore::new(value),
-    };
-}
-
-/// An empty queue of sizes in their ranges.
-fn empty_queue(alloc: Global, max_messages: u16, message_size: u16) -> Result<Queue, AllocError>
-    requires sizes { IsTrue (are_sizes (max_messages, message_size)) }
-    ensures empty { IfOk result (λ q. q ≡ empty_queue (max_messages, message_size)) }
-{
-    Queue::new(alloc, max_messages, message_size)
-}
-
-fn empty_unused_at(places: &mut Vec<Place>, processes: &Processes)
-    requires few { length places.old.items ≤ 256 }
-    ensures emptied { places.new.items ≡ places_or_empty processes.now places.old.items }
-{
-    empty_unused_in(places.as_mut_slice(), processes);
 }
 
 /// The object places.
@@ -161,7 +60,6 @@ impl Model for Places {
 }
 
 impl Places {
-    /// Empty places.
     pub(crate) fn new(alloc: Global) -> Result<Places, AllocError>
         ensures empty { IfOk result (λ ps. ps ≡ replicate object_places Empty) }
     {
@@ -189,6 +87,7 @@ impl Places {
         }
     }
 
+    #[tactic(auto, using(crate::proofs::IndexLemmas::queue_found))]
     pub(crate) fn queue_named(&self, name: &Name) -> Option<u8>
         ensures found { result ≡ queue_named self.now name.now }
         ensures range { IfSome result (λ i. i < object_places) }
@@ -198,6 +97,7 @@ impl Places {
         self.queue_names.find(name)
     }
 
+    #[tactic(auto, using(crate::proofs::IndexLemmas::semaphore_found))]
     pub(crate) fn semaphore_named(&self, name: &Name) -> Option<u8>
         ensures found { result ≡ semaphore_named self.now name.now }
         ensures range { IfSome result (λ i. i < object_places) }
@@ -207,40 +107,15 @@ impl Places {
         self.semaphore_names.find(name)
     }
 
-    /// The value of the semaphore in a place.
     #[inline(always)]
-    pub(crate) fn semaphore_value(&self, place: u8) -> Option<u16>
-        ensures value { result ≡ semaphore_value (place_at self.now place) }
-        ensures bound { IfSome result (λ value. value ≤ sem_value_max) }
+    pub(crate) fn get(&self, place: u8) -> Option<&Place>
+        ensures place { option_copied result ≡ slice_get self.now place }
     {
-        self.places.get(place as usize)?.semaphore_value()
-    }
-
-    /// The queue in a place.
-    #[inline(always)]
-    pub(crate) fn queue(&self, place: u8) -> Option<&Queue>
-        ensures queue { option_copied result ≡ queue_in (place_at self.now place) }
-    {
-        self.places.get(place as usize)?.queue()
-    }
-
-    /// The queue in a place, with its name or none.
-    pub(crate) fn queue_and_name(&self, place: u8) -> Option<(Option<&Name>, &Queue)>
-        ensures held { option_map (λ r. (option_copied r.0, r.1.now)) result
-            ≡ queue_and_name (place_at self.now place) }
-    {
-        self.places.get(place as usize)?.queue_and_name()
-    }
-
-    /// The value of the semaphore in a place, with its name or none.
-    pub(crate) fn value_and_name(&self, place: u8) -> Option<(Option<&Name>, u16)>
-        ensures held { option_map (λ r. (option_copied r.0, r.1)) result
-            ≡ value_and_name (place_at self.now place) }
-    {
-        self.places.get(place as usize)?.value_and_name()
+        self.places.get(place as usize)
     }
 
     /// Adds a message, whose words are shared, to the queue in a place.
+    #[tactic(auto, using(crate::proofs::PlaceLemmas::queue_in_range, crate::proofs::PlaceLemmas::place_at_read))]
     #[inline(always)]
     pub(crate) fn send(&mut self, place: u8, priority: u16, words: &Words) -> Result<(), AllocError>
         requires queue { IsSomeAnd (queue_in (place_at self.old place)) (HasRoomFor words.now) }
@@ -249,10 +124,11 @@ impl Places {
             → self.new ≡ with_queue_in self.old place (with_message priority words.now q)) }
         ensures err { OnErr result (self.new ≡ self.old) }
     {
-        send_at(&mut self.places, place, priority, words)
+        let words = words.clone()?;
+        self.places[place as usize].send(priority, words)
     }
 
-    /// Takes the first message from the queue in a place.
+    #[tactic(auto, using(crate::proofs::PlaceLemmas::queue_in_range, crate::proofs::PlaceLemmas::place_at_read))]
     #[inline(always)]
     pub(crate) fn receive(&mut self, place: u8) -> (u16, Words)
         requires message { IsSomeAnd (queue_in (place_at self.old place)) HasMessage }
@@ -261,51 +137,47 @@ impl Places {
         ensures rest { (q : QueueState) → queue_in (place_at self.old place) ≡ Some q
             → self.new ≡ with_queue_in self.old place (without_first q) }
     {
-        receive_at(&mut self.places, place)
+        self.places[place as usize].receive()
     }
 
-    /// Adds one to the value of the semaphore in a place.
+    #[tactic(auto, using(crate::proofs::PlaceLemmas::semaphore_in_range, crate::proofs::PlaceLemmas::place_at_read))]
     #[inline(always)]
     pub(crate) fn post(&mut self, place: u8, value: u16)
         requires value { semaphore_value (place_at self.old place) ≡ Some value }
         requires room { value < sem_value_max }
         ensures more { self.new ≡ with_value_in self.old place (value + 1) }
     {
-        post_at(&mut self.places, place, value);
+        self.places[place as usize].post(value);
     }
 
-    /// Takes one from the value of the semaphore in a place.
+    #[tactic(auto, using(crate::proofs::PlaceLemmas::semaphore_in_range, crate::proofs::PlaceLemmas::place_at_read))]
     #[inline(always)]
     pub(crate) fn take(&mut self, place: u8, value: u16)
         requires value { semaphore_value (place_at self.old place) ≡ Some value }
         ensures less { self.new ≡ with_value_in self.old place (value - 1) }
     {
-        take_at(&mut self.places, place, value);
+        self.places[place as usize].take(value);
     }
 
-    /// Removes a name from its queue, if it is there.
-    pub(crate) fn unname_queue(&mut self, name: &Name)
-        ensures unnamed { IfSome (queue_named self.old name.now)
-            (λ place. self.new ≡ without_name_in self.old place) }
-        ensures none { IfNone (queue_named self.old name.now) (self.new ≡ self.old) }
+    #[tactic(auto, using(crate::proofs::IndexLemmas::named_in_range, crate::proofs::PlaceLemmas::place_at_read))]
+    pub(crate) fn unname_queue(&mut self, place: u8, name: &Name)
+        requires named { queue_named self.old name.now ≡ Some place }
+        ensures unnamed { self.new ≡ without_name_in self.old place }
     {
-        if let Some(place) = self.queue_names.take(name) {
-            unname_at(&mut self.places, place);
-        }
+        let _ = self.queue_names.take(name);
+        self.places[place as usize].unname();
     }
 
-    /// Removes a name from its semaphore, if it is there.
-    pub(crate) fn unname_semaphore(&mut self, name: &Name)
-        ensures unnamed { IfSome (semaphore_named self.old name.now)
-            (λ place. self.new ≡ without_name_in self.old place) }
-        ensures none { IfNone (semaphore_named self.old name.now) (self.new ≡ self.old) }
+    #[tactic(auto, using(crate::proofs::IndexLemmas::named_in_range, crate::proofs::PlaceLemmas::place_at_read))]
+    pub(crate) fn unname_semaphore(&mut self, place: u8, name: &Name)
+        requires named { semaphore_named self.old name.now ≡ Some place }
+        ensures unnamed { self.new ≡ without_name_in self.old place }
     {
-        if let Some(place) = self.semaphore_names.take(name) {
-            unname_at(&mut self.places, place);
-        }
+        let _ = self.semaphore_names.take(name);
+        self.places[place as usize].unname();
     }
 
-    /// Puts a new queue with a name that is free into an empty place.
+    #[tactic(auto, using(crate::proofs::IndexLemmas::queue_found))]
     pub(crate) fn put_queue(
         &mut self,
         place: u8,
@@ -321,14 +193,17 @@ impl Places {
             (Mq (Some name.now) (empty_queue (max_messages, message_size)))) }
         ensures err { OnErr result (self.new ≡ self.old) }
     {
-        let queue = empty_queue(self.alloc, max_messages, message_size)?;
+        let queue = Queue::new(self.alloc, max_messages, message_size)?;
         let kept = name.clone()?;
         self.queue_names.put(self.alloc, name, place)?;
-        put_queue_at(&mut self.places, place, kept, queue);
+        self.places[place as usize] = Place::Mq {
+            name: Some(kept),
+            queue,
+        };
         Ok(())
     }
 
-    /// Puts a new semaphore with a name that is free into an empty place.
+    #[tactic(auto, using(crate::proofs::IndexLemmas::semaphore_found))]
     pub(crate) fn put_semaphore(
         &mut self,
         place: u8,
@@ -344,7 +219,10 @@ impl Places {
     {
         let kept = name.clone()?;
         self.semaphore_names.put(self.alloc, name, place)?;
-        put_semaphore_at(&mut self.places, place, kept, value);
+        self.places[place as usize] = Place::Sem {
+            name: Some(kept),
+            semaphore: Semaphore::new(value),
+        };
         Ok(())
     }
 
@@ -352,6 +230,6 @@ impl Places {
     pub(crate) fn empty_unused(&mut self, processes: &Processes)
         ensures emptied { self.new ≡ places_or_empty processes.now self.old }
     {
-        empty_unused_at(&mut self.places, processes);
+        empty_unused_in(&mut self.places, processes);
     }
 }

@@ -46,8 +46,8 @@ fn apply_to_references(
             places.put_semaphore(place, new.name, new.value)?;
             processes.set_slot(pid, new.slot, Some(Slot { place, opens: 1 }));
         }
-        Change::UnnameQueue { name, .. } => places.unname_queue(name),
-        Change::UnnameSemaphore { name, .. } => places.unname_semaphore(name),
+        Change::UnnameQueue { place, name } => places.unname_queue(place, name),
+        Change::UnnameSemaphore { place, name } => places.unname_semaphore(place, name),
         Change::CloseAll => processes.close_all(pid),
         Change::Nothing | Change::Send { .. } | Change::Take { .. } | Change::Post { .. } => {
             unreachable!()
@@ -142,7 +142,6 @@ impl Kernel {
         Ok(())
     }
 
-    /// Takes the first message from the queue in a place.
     #[tactic(auto, using(crate::proofs::AnswerLemmas::settled_received, crate::proofs::AnswerLemmas::received_first))]
     #[inline(always)]
     fn receive(&mut self, place: u8) -> Reply
@@ -206,7 +205,10 @@ impl Kernel {
         requires message { IsSomeAnd (queue_in (place_at self.now.places place)) HasMessage }
         ensures first { IfOk result (λ r. r ≡ reply_with_first (queue_at self.now place).messages) }
     {
-        let Some(queue) = self.places.queue(place) else {
+        let Some(held) = self.places.get(place) else {
+            unreachable!();
+        };
+        let Some(queue) = held.queue() else {
             unreachable!();
         };
         let Some(message) = queue.first() else {

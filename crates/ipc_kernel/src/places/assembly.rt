@@ -1,44 +1,26 @@
 //! Places from objects.
 ghost use Rattle.std.specs.Prelude.{◌≡◌, ◌+◌, ◌≤◌, ◌++◌, ◌-◌, ℕ, IsTrue, IfOk, IfSome, length, take};
 ghost use Rattle.ipc_kernel.specs.Limits.{object_places};
-ghost use Rattle.ipc_kernel.specs.Places.{places_or_empty, queue_name, semaphore_name, padded};
-ghost use Rattle.ipc_kernel.specs.Private.Index.{IsIndexOf, name_at};
+ghost use Rattle.ipc_kernel.specs.Places.{places_or_empty, padded};
+ghost use Rattle.ipc_kernel.specs.Private.Index.{IsIndexOf, name_at, name_by};
 ghost use Rattle.ipc_kernel.specs.declared.place.Place.TheVariants.{Empty};
 
 use super::Places;
 use crate::limits::OBJECT_PLACES;
-use crate::place::Place;
+use crate::place::{Kind, Place};
 use crate::processes::Processes;
 use ipc_names::NameTable;
 use std::alloc::{AllocError, Global};
 
-/// The names of the queues in places, with their places, if no two have one name.
-fn queue_names_of(alloc: Global, places: &[Place]) -> Result<Option<NameTable>, AllocError>
+/// The names of a kind of objects, with their places, if no two have one name.
+fn names_of(alloc: Global, places: &[Place], kind: Kind) -> Result<Option<NameTable>, AllocError>
     requires few { length places.now ≤ object_places }
     ensures index { IfOk result (λ found. IfSome found
-        (λ names. IsIndexOf (name_at queue_name places.now) names)) }
+        (λ names. IsIndexOf (name_at (name_by kind) places.now) names)) }
 {
     let mut names = NameTable::new(alloc);
     for (at, place) in places.iter().enumerate() {
-        if let Some(name) = place.queue_name() {
-            if names.find(name).is_some() {
-                return Ok(None);
-            }
-            names.put(alloc, name, at as u8)?;
-        }
-    }
-    Ok(Some(names))
-}
-
-/// The names of the semaphores in places, with their places, if no two have one name.
-fn semaphore_names_of(alloc: Global, places: &[Place]) -> Result<Option<NameTable>, AllocError>
-    requires few { length places.now ≤ object_places }
-    ensures index { IfOk result (λ found. IfSome found
-        (λ names. IsIndexOf (name_at semaphore_name places.now) names)) }
-{
-    let mut names = NameTable::new(alloc);
-    for (at, place) in places.iter().enumerate() {
-        if let Some(name) = place.semaphore_name() {
+        if let Some(name) = place.name(kind) {
             if names.find(name).is_some() {
                 return Ok(None);
             }
@@ -96,10 +78,10 @@ impl Places {
             return Ok(None);
         }
         let places = padded(objects)?;
-        let Some(queue_names) = queue_names_of(alloc, places.as_slice())? else {
+        let Some(queue_names) = names_of(alloc, places.as_slice(), Kind::Queue)? else {
             return Ok(None);
         };
-        let Some(semaphore_names) = semaphore_names_of(alloc, places.as_slice())? else {
+        let Some(semaphore_names) = names_of(alloc, places.as_slice(), Kind::Semaphore)? else {
             return Ok(None);
         };
         Ok(Some(Places {
@@ -117,7 +99,6 @@ impl Places {
         are_used(self.places.as_slice(), processes)
     }
 
-    /// All 64 places.
     pub(crate) fn all(&self) -> &[Place]
         ensures all { result.now ≡ self.now }
         ensures count { length result.now ≡ object_places }

@@ -17,7 +17,6 @@ fn copies_of(alloc: Global, places: &[Place]) -> Result<Vec<Place>, AllocError>
 }
 
 impl Places {
-    /// Equal places.
     pub(crate) fn copy(&self, alloc: Global) -> Result<Places, AllocError>
         ensures equal { IfOk result (λ copy. copy ≡ self.now) }
     {
@@ -32,7 +31,6 @@ impl Places {
         })
     }
 
-    /// Whether each place holds the same.
     pub(crate) fn is_same(&self, other: &Places) -> bool
         ensures same { IsTrue result ↔ (self.now ≡ other.now) }
     {
@@ -41,11 +39,9 @@ impl Places {
 
     /// About how many bytes the places take, with what they hold and with the entries of their names.
     pub(crate) fn size(&self) -> usize {
-        let mut size = 0_usize;
-        for place in &self.places {
-            size = size.saturating_add(place.size());
-        }
-        size
+        self.places
+            .iter()
+            .fold(0_usize, |size, place| size.saturating_add(place.size()))
     }
 
     /// A number for what each place holds, and 0 for an empty place.

@@ -1,5 +1,5 @@
-use Rattle.ipc_kernel.proofs.IndexLemmas.{indexed_with_value}
+use Rattle.ipc_kernel.proofs.IndexLemmas.{indexed_written}
 use Rattle.ipc_kernel.proofs.places.Places.post.Goals as goal
 
 pub invariant_of-self : goal.invariant_of-self
-invariant_of-self c = indexed_with_value c.self.inside.places.items _ c.self.inside.queue_names c.self.inside.semaphore_names c.args.place _ c.self.invariant c.post_at.ensures.more
+invariant_of-self c = indexed_written c.self.inside.places.items _ _ c.args.place _ _ c.self.invariant c.post.ensures.named c.index_mut.ensures.value

@@ -1,10 +1,7 @@
 use Rattle.std.proofs.Common.{refl, ap, ◌∙◌}
 use Rattle.ipc_kernel.specs.Places.{place_at, semaphore_name}
-use Rattle.ipc_kernel.proofs.IndexLemmas.{place_named-get, found_range}
+use Rattle.ipc_kernel.proofs.IndexLemmas.{found_range}
 use Rattle.ipc_kernel.proofs.places.Places.semaphore_named.Goals as goal
-
-pub returns-clause-found : goal.returns-clause-found
-returns-clause-found c = c.find.ensures.place ∙ rw (← c.self.view_is) (place_named-get semaphore_name c.self.inside.places.items c.self.inside.semaphore_names c.args.name.now refl c.self.invariant.semaphore_index)
 
 pub returns-clause-range : goal.returns-clause-range
 returns-clause-range c = found_range semaphore_name c.self.inside.places.items c.self.inside.semaphore_names c.args.name.now c.find.result refl c.self.invariant.semaphore_index c.self.invariant.all c.find.ensures.place
