@@ -8,10 +8,7 @@ mod assembly;
 mod copies;
 
 use crate::limits::{OBJECT_PLACES, OPEN_MAX};
-use crate::process::{
-    Descriptor, OpenTables, Slot, first_free, first_that_refers, held_at, write_descriptor,
-    write_slot,
-};
+use crate::process::{Descriptor, OpenTables, Slot, held_at, write_descriptor, write_slot};
 use std::alloc::{AllocError, Global};
 use std::marker::Model;
 
@@ -105,7 +102,7 @@ impl Model for Processes {
 }
 
 impl Processes {
-    ghost use Rattle.ipc_kernel.specs.Processes.{descriptor_of, slot_of, free_descriptor_of, free_slot_of, slot_for, closed_process};
+    ghost use Rattle.ipc_kernel.specs.Processes.{process_at, descriptor_of, slot_of, closed_process};
 
     #[tactic(auto, using(crate::proofs::CountLemmas::counts_of_none))]
     pub(crate) fn new(alloc: Global, count: usize) -> Result<Processes, AllocError>
@@ -154,33 +151,11 @@ impl Processes {
     }
 
     #[tactic(auto, using(crate::proofs::ProcessLemmas::process_at_read))]
-    pub(crate) fn free_descriptor(&self, pid: usize) -> Option<usize>
+    pub(crate) fn of_process(&self, pid: usize) -> &OpenTables
         requires process { pid < length self.now }
-        ensures first { result ≡ free_descriptor_of self.now pid }
-        ensures range { IfSome result (λ d. d < open_max) }
+        ensures tables { result.now ≡ process_at self.now pid }
     {
-        let process = &self.tables[pid];
-        first_free(&process.descriptors)
-    }
-
-    #[tactic(auto, using(crate::proofs::ProcessLemmas::process_at_read))]
-    pub(crate) fn free_slot(&self, pid: usize) -> Option<usize>
-        requires process { pid < length self.now }
-        ensures first { result ≡ free_slot_of self.now pid }
-        ensures range { IfSome result (λ s. s < open_max) }
-    {
-        let process = &self.tables[pid];
-        first_free(&process.slots)
-    }
-
-    #[tactic(auto, using(crate::proofs::ProcessLemmas::process_at_read))]
-    pub(crate) fn slot_for(&self, pid: usize, place: u8) -> Option<usize>
-        requires process { pid < length self.now }
-        ensures first { result ≡ slot_for self.now pid place }
-        ensures range { IfSome result (λ s. s < open_max) }
-    {
-        let process = &self.tables[pid];
-        first_that_refers(&process.slots, place)
+        &self.tables[pid]
     }
 
     pub(crate) fn set_descriptor(&mut self, pid: usize, mqd: usize, value: Option<Descriptor>)

@@ -12,6 +12,7 @@ ghost use Rattle.ipc_kernel.specs.Private.Messages.{message_length};
 use super::Kernel;
 use super::decision::{Change, Decision, NewQueue, ShortReply, wait_or_again};
 use crate::Descriptor;
+use crate::process::first_free;
 use ipc_names::{Errno, Flags, Name, O_NONBLOCK};
 use ipc_objects::{
     MQ_MAXMSG_DEFAULT, MQ_MAXMSG_MAX, MQ_MSGSIZE_DEFAULT, MQ_MSGSIZE_MAX, MQ_PRIO_MAX, Queue, Words,
@@ -87,7 +88,7 @@ impl Kernel {
                 if flags.create && flags.excl {
                     return Decision::Refused(Errno::Exists);
                 }
-                let Some(mqd) = self.processes.free_descriptor(pid) else {
+                let Some(mqd) = first_free(&self.processes.of_process(pid).descriptors) else {
                     return Decision::Refused(Errno::TooManyOpen);
                 };
                 let held = Some(descriptor_for(place, flags));
@@ -120,7 +121,7 @@ impl Kernel {
             (free_descriptor_of self.now.processes pid) }
         ensures possible { IsPossible self.now result }
     {
-        let Some(mqd) = self.processes.free_descriptor(pid) else {
+        let Some(mqd) = first_free(&self.processes.of_process(pid).descriptors) else {
             return Decision::Refused(Errno::TooManyOpen);
         };
         let Some(place) = self.places.first_empty() else {

@@ -11,6 +11,7 @@ use super::Kernel;
 use super::decision::{Change, Decision, NewSemaphore, ShortReply};
 use crate::Slot;
 use crate::limits::OPENS_MAX;
+use crate::process::{first_free, first_that_refers};
 use ipc_names::{Errno, Name, O_CREAT, O_EXCL};
 use ipc_objects::SEM_VALUE_MAX;
 
@@ -40,7 +41,7 @@ impl Kernel {
                 if create && exclusive {
                     return Decision::Refused(Errno::Exists);
                 }
-                match self.processes.slot_for(pid, place) {
+                match first_that_refers(&self.processes.of_process(pid).slots, place) {
                     None => self.decide_new_slot(pid, place),
                     Some(slot) => self.decide_one_more_open(pid, slot),
                 }
@@ -64,7 +65,7 @@ impl Kernel {
             ≡ sem_create self.now pid name.now value (free_slot_of self.now.processes pid) }
         ensures possible { IsPossible self.now result }
     {
-        let Some(slot) = self.processes.free_slot(pid) else {
+        let Some(slot) = first_free(&self.processes.of_process(pid).slots) else {
             return Decision::Refused(Errno::TooManyOpen);
         };
         let Some(place) = self.places.first_empty() else {
@@ -87,7 +88,7 @@ impl Kernel {
             ≡ new_slot self.now pid place (free_slot_of self.now.processes pid) }
         ensures possible { IsPossible self.now result }
     {
-        match self.processes.free_slot(pid) {
+        match first_free(&self.processes.of_process(pid).slots) {
             None => Decision::Refused(Errno::TooManyOpen),
             Some(slot) => {
                 let held = Some(Slot { place, opens: 1 });
