@@ -56,28 +56,21 @@ twin_tables f g k j t p u refers = record {
   renaming = renaming_processes f g k j t.renaming _ _ (ap (λ ps. set ps p (renamed_process f u)) t.renaming.processes ∙ sym (map-set (renamed_process f) k.processes p u));
 }
 
-filled_unnamed : (p : Place) → without_name p ≡ Empty → p ≡ Empty
-filled_unnamed Empty e = refl
-filled_unnamed (Mq name old) e = cc
-filled_unnamed (Sem name value) e = cc
-
-queue_unnamed : (p : Place) (n : List ℕ) → queue_name (without_name p) ≡ Some n → queue_name p ≡ Some n
-queue_unnamed Empty n e = e
-queue_unnamed (Mq name old) n e = cc
-queue_unnamed (Sem name value) n e = e
-
-semaphore_unnamed : (p : Place) (n : List ℕ) → semaphore_name (without_name p) ≡ Some n → semaphore_name p ≡ Some n
-semaphore_unnamed Empty n e = e
-semaphore_unnamed (Mq name old) n e = e
-semaphore_unnamed (Sem name value) n e = cc
+-- a place without its name is empty if it was, and has no name but that
+unnamed : (p : Place) → (without_name p ≡ Empty → p ≡ Empty) × ((n : List ℕ) → queue_name (without_name p) ≡ Some n → queue_name p ≡ Some n)
+    × ((n : List ℕ) → semaphore_name (without_name p) ≡ Some n → semaphore_name p ≡ Some n)
+unnamed Empty = (λ e. refl, λ n e. e, λ n e. e)
+unnamed (Mq name old) = (λ e. cc, λ n e. cc, λ n e. e)
+unnamed (Sem name value) = (λ e. cc, λ n e. e, λ n e. cc)
 
 pub like_unlinked : (f g : ℕ → ℕ) (k j : KernelState) → IsTwin f g k j → (o : Option ℕ) → AreLike (unlink k o) (unlink j (option_map f o))
 like_unlinked f g k j t None = record { answer = refl; consistent = t.consistent; alike = (f, g, t.renaming) }
 like_unlinked f g k j t (Some a) =
     let p = place_at k.places a in
+    let u = unnamed p in
     subst (λ x. AreLike (unlink k (Some a)) (completion (record j { places = set j.places (f a) (without_name x) }) (Plain 0))) (sym (t.renaming.places a))
-    (like_done f g _ _ (twin_place f g k j t a (without_name p) (filled_unnamed p) (own_name queue_name k.places a (without_name p) t.consistent.queues (queue_unnamed p))
-    (own_name semaphore_name k.places a (without_name p) t.consistent.semaphores (semaphore_unnamed p))) (Plain 0))
+    (like_done f g _ _ (twin_place f g k j t a (without_name p) u.0 (own_name queue_name k.places a (without_name p) t.consistent.queues u.1)
+    (own_name semaphore_name k.places a (without_name p) t.consistent.semaphores u.2)) (Plain 0))
 
 -- a name that isn't found stands nowhere
 pub not_named : (name_of : Place → Option (List ℕ)) (ps : List Place) (n : List ℕ) (i : ℕ) → name_of Empty ≡ None → place_named name_of ps n ≡ None → name_of (place_at ps i) ≡ Some n → ⊥

@@ -1,5 +1,5 @@
 -- Kernels of which the one is the other with its places renamed, and what each change makes of both.
-use Rattle.std.proofs.Common.{◌≡◌, ◌≢◌, ◌↔◌, ℕ, ◌==◌, ◌<◌, ◌≤◌, true, false, List, length, map, set, length-set, refl, sym, ap, subst, ◌∙◌, inl, inr, arith, if◌then◌else◌}
+use Rattle.std.proofs.Common.{◌≡◌, ◌↔◌, ℕ, ◌==◌, ◌<◌, ◌≤◌, true, false, List, length, map, set, length-set, refl, sym, ap, subst, ◌∙◌, inl, inr, arith, if◌then◌else◌}
 use Rattle.std.proofs.lemmas.Bool.{cases_lt, eq-eqb, ne_eqb}
 use Rattle.std.proofs.lemmas.Bool.Decides.{eqb_tells}
 use Rattle.std.proofs.lemmas.Option.{unwrap_or-slice_get}
@@ -26,9 +26,6 @@ place_at-emptied processes ps i = elim (cases_lt i (length ps)) [
 abbrev pub done : KernelState → KernelState
 done k = record k { places = places_or_empty k.processes k.places }
 
-pub apart_renamed : (f g : ℕ → ℕ) → IsPermutation f g → (i a : ℕ) → i ≢ a → f i ≢ f a
-apart_renamed f g h i a apart e = apart (sym (h.undone i) ∙ ap g e ∙ h.undone a)
-
 pub renaming_done : (f g : ℕ → ℕ) (k j : KernelState) → IsRenaming f g k j → IsRenaming f g (done k) (done j)
 renaming_done f g k j r = record {
   permutation = r.permutation;
@@ -48,7 +45,7 @@ renaming_place f g k j r count a x = record {
   count = length-set j.places (f a) x ∙ r.count ∙ sym (length-set k.places a x);
   places = λ i. elim (eqb_tells i a) [
     | inl same ↦ subst (λ n. place_at (set j.places (f a) x) (f n) ≡ place_at (set k.places a x) n) (sym same.1) here
-    | inr apart ↦ place_at-set_other j.places (f i) (f a) x (apart_renamed f g r.permutation i a apart.1) ∙ r.places i ∙ sym (place_at-set_other k.places i a x apart.1)
+    | inr apart ↦ place_at-set_other j.places (f i) (f a) x (λ e. apart.1 (sym (r.permutation.undone i) ∙ ap g e ∙ r.permutation.undone a)) ∙ r.places i ∙ sym (place_at-set_other k.places i a x apart.1)
   ];
   processes = r.processes;
 }

@@ -1,5 +1,5 @@
 -- Renamings in two lists, and exchanges of where they take two places.
-use Rattle.std.proofs.Common.{◌==◌, if◌then◌else◌, ◌≡◌, ◌↔◌, ℕ, ◌<◌, ◌≤◌, ◌⊎◌, List, length, length-set, set, get_or, get_or-set_other, get_or-set_same, refl, sym, ap, subst, ◌∙◌, inl, inr, arith}
+use Rattle.std.proofs.Common.{◌==◌, if◌then◌else◌, ◌≡◌, ◌↔◌, ℕ, ◌<◌, ◌⊎◌, List, length, length-set, set, get_or, get_or-set_other, get_or-set_same, refl, sym, ap, subst, ◌∙◌, inl, inr, arith}
 use Rattle.std.proofs.lemmas.Bool.{cases_lt, ne_eqb}
 use Rattle.std.proofs.lemmas.Bool.Decides.{eqb_tells}
 use Rattle.std.proofs.lemmas.List.{get_or_default, get_or_past}
@@ -12,9 +12,6 @@ use Rattle.ipc_store.proofs.Alikes.{permutation_itself, permutation_then, swap, 
 
 pub renamed_by-read : (to : List ℕ) (i : ℕ) → i < length to → renamed_by to i ≡ get_or to i 0
 renamed_by-read to i h = unwrap_or-slice_get to i i ∙ get_or_default to i i 0 h
-
-pub renamed_by-past : (to : List ℕ) (i : ℕ) → length to ≤ i → renamed_by to i ≡ i
-renamed_by-past to i past = unwrap_or-slice_get to i i ∙ get_or_past to i i past
 
 renamed_by-set : (to : List ℕ) (i x n : ℕ) → i < length to → renamed_by (set to i x) n ≡ (if n == i then x else renamed_by to n)
 renamed_by-set to i x n h = unwrap_or-slice_get (set to i x) n n ∙ elim (eqb_tells n i) [
@@ -36,7 +33,7 @@ identity_permutes to each = permutation_along (λ n. n) (λ n. n) (renamed_by to
     permutation_itself
   where
     stays : (n : ℕ) → renamed_by to n ≡ n
-    stays n = elim (cases_lt n (length to)) [ inl less ↦ each n less | inr past ↦ renamed_by-past to n past ]
+    stays n = elim (cases_lt n (length to)) [ inl less ↦ each n less | inr past ↦ unwrap_or-slice_get to n n ∙ get_or_past to n n past ]
 
 -- where the lists take a place once place a is taken to b
 pub exchanged_to : (to from : List ℕ) (a b there back : ℕ) → length to ≡ 64 → IsPermutation (renamed_by to) (renamed_by from) → a < 64 → b < 64 → there ≡ renamed_by to a → back ≡ renamed_by from b

@@ -99,14 +99,6 @@ padded_set : (n : ℕ) (ps : List Place) (i : ℕ) (x : Place) → i < length ps
 unfolding padded
 padded_set n ps i x h = ap (λ m. set ps i x ++ replicate (n - m) Empty) (length-set ps i x) ∙ sym (set-append_left ps (replicate (n - length ps) Empty) i x h)
 
--- a row in which a number of each part was written
-row_with : (os : List Place) (ts : List OpenTables) (ns ms : List ℕ) (i m j l : ℕ) (o : Place) (t : OpenTables) → IsRow os ts (row ns ms)
-    → slice_get os m ≡ Some o → slice_get ts l ≡ Some t → IsRow os ts (row (set ns i m) (set ms j l))
-row_with os ts ns ms i m j l o t is object tables = record {
-  of_objects = λ a n e. elim (written ns i m a n e) [ inl new ↦ (o, rw new object) | inr old ↦ is.of_objects a n old ];
-  of_tables = λ a n e. elim (written ms j l a n e) [ inl new ↦ (t, rw new tables) | inr old ↦ is.of_tables a n old ];
-}
-
 pub kernel_with : (os : List Place) (ts : List OpenTables) (ns ms : List ℕ) (i m j l : ℕ) (o : Place) (t : OpenTables) → i < length ns
     → slice_get os m ≡ Some o → slice_get ts l ≡ Some t → kernel_of os ts (row (set ns i m) (set ms j l)) ≡ with_operand (kernel_of os ts (row ns ms)) j i o t
 kernel_with os ts ns ms i m j l o t h object tables =
@@ -150,7 +142,11 @@ pub rows_changed : (os : List Place) (ts : List OpenTables) (rows more : List Ke
     → AreRows os ts rows → slice_get rows a ≡ Some (row ns ms) → slice_get os m ≡ Some o → slice_get ts l ≡ Some t → vs ≡ set ns i m → us ≡ set ms j l
     → AddsRow rows more (row vs us) → AreRows os ts more
 rows_changed os ts rows more ns ms vs us a i m j l o t are at_a object tables e f adds =
-    rows_with os ts rows more (row vs us) are (rw (e, f) (row_with os ts ns ms i m j l o t (are a (row ns ms) at_a) object tables)) adds
+    let is = are a (row ns ms) at_a in
+    rows_with os ts rows more (row vs us) are (rw (e, f) (record {
+      of_objects = λ b n at. elim (written ns i m b n at) [ inl new ↦ (o, rw new object) | inr old ↦ is.of_objects b n old ];
+      of_tables = λ b n at. elim (written ms j l b n at) [ inl new ↦ (t, rw new tables) | inr old ↦ is.of_tables b n old ];
+    })) adds
 
 pub kernel_changed : (os : List Place) (ts : List OpenTables) (rows more : List KernelRow) (ns ms vs us : List ℕ) (a b i m j l : ℕ) (o : Place) (t : OpenTables) (k : KernelState)
     → slice_get rows a ≡ Some (row ns ms) → slice_get (map (kernel_of os ts) rows) a ≡ Some k → i < length ns → slice_get os m ≡ Some o → slice_get ts l ≡ Some t

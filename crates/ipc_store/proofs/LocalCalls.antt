@@ -193,15 +193,10 @@ module _ (c : Call) (i : ℕ) (t : OpenTables) (Fits : Place → Type 0) (l : Lo
   gone : (a n : ℕ) (x : Place) → a ≡ i → handle_of c ≡ None → Keeps c l i t n x → (process_refers n t ≡ false → (a == n) ≡ false) → (a == n) ≡ false
   gone a n x at closes keeps none = elim (eqb_tells a n) [ inl same ↦ none (keeps (sym same.1 ∙ at) closes).1 | inr apart ↦ apart.0 ]
 
-  held_none : (d : ℕ) (h : Descriptor) (n : ℕ) → held_by d t ≡ Some h → process_refers n t ≡ false → (h.place == n) ≡ false
-  held_none d h n e none = sym (ap (descriptor_refers n) e) ∙ none_at (descriptor_refers n) None refl t.descriptors d (or_parts _ _ none).0
-
-  slot_none : (s : ℕ) (h : Slot) (n : ℕ) → slot_by s t ≡ Some h → process_refers n t ≡ false → (h.place == n) ≡ false
-  slot_none s h n e none = sym (ap (slot_refers n) e) ∙ none_at (slot_refers n) None refl t.slots s (or_parts _ _ none).1
-
   pub mq_closed : (d : ℕ) → handle_of c ≡ None → ((h : Descriptor) → held_by d t ≡ Some h → h.place ≡ i) → Step (λ f k p. mq_close k p d (descriptor_of k.processes p d))
   mq_closed d closes at = read (held_by d t) (λ f. held_by d) renamed_descriptor (λ f k p x. mq_close k p d x) (λ f g h. held-renamed f t d) (refused BadDescriptor) (λ h e.
-      held d None (Plain 0) (λ n x keeps. sym (ap (descriptor_refers n) e ∙ gone h.place n x (at h e) closes keeps (held_none d h n e))))
+      held d None (Plain 0) (λ n x keeps. sym (ap (descriptor_refers n) e ∙ gone h.place n x (at h e) closes keeps
+      (λ none. sym (ap (descriptor_refers n) e) ∙ none_at (descriptor_refers n) None refl t.descriptors d (or_parts _ _ none).0))))
 
   pub sem_closed : (s : ℕ) → handle_of c ≡ None → ((h : Slot) → slot_by s t ≡ Some h → h.place ≡ i) → Step (λ f k p. sem_close k p s (slot_of k.processes p s))
   sem_closed s closes at = read (slot_by s t) (λ f. slot_by s) renamed_slot (λ f k p x. sem_close k p s x) (λ f g h. slot_held-renamed f t s) (refused Invalid) (λ h e. by h e (nat_lt 1 h.opens))
@@ -209,7 +204,8 @@ module _ (c : Call) (i : ℕ) (t : OpenTables) (Fits : Place → Type 0) (l : Lo
       by : (h : Slot) → slot_by s t ≡ Some h → (b : Bool) → Step (λ f k p.
           completion (record k { processes = set k.processes p (with_slot_held (process_at k.processes p) s (cond b (Some (record (renamed_slot f h) { opens = h.opens - 1 })) None)) }) (Plain 0))
       by h e true = slot_held s (Some (record h { opens = h.opens - 1 })) (Plain 0) (λ n x keeps. sym (ap (slot_refers n) e))
-      by h e false = slot_held s None (Plain 0) (λ n x keeps. sym (ap (slot_refers n) e ∙ gone h.place n x (at h e) closes keeps (slot_none s h n e)))
+      by h e false = slot_held s None (Plain 0) (λ n x keeps. sym (ap (slot_refers n) e ∙ gone h.place n x (at h e) closes keeps
+          (λ none. sym (ap (slot_refers n) e) ∙ none_at (slot_refers n) None refl t.slots s (or_parts _ _ none).1)))
 
   module _ (closes : handle_of c ≡ None) (opens : is_open c ≡ true) where
     -- what an open opens is place i

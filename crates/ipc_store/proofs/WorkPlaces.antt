@@ -77,14 +77,12 @@ pub kind_itself : (x : Place) → IsKind x x
 kind_itself x = record { filled = refl; named = refl; queue = refl; semaphore = refl }
 
 pub kind_queue : (q : QueueState) (x : Place) → IsKind x (with_queue q x)
-kind_queue q Empty = kind_itself Empty
 kind_queue q (Mq name queue) = record { filled = refl; named = refl; queue = refl; semaphore = refl }
-kind_queue q (SemPlace name value) = kind_itself (SemPlace name value)
+kind_queue q other = kind_itself other
 
 pub kind_value : (v : ℕ) (x : Place) → IsKind x (with_value v x)
-kind_value v Empty = kind_itself Empty
-kind_value v (Mq name queue) = kind_itself (Mq name queue)
 kind_value v (SemPlace name value) = record { filled = refl; named = refl; queue = refl; semaphore = refl }
+kind_value v other = kind_itself other
 
 -- what a call may leave where x was: x itself, or on an open object another state of it; or what an open makes
 abbrev pub MayLeave : Call → Lookup → Place → Place → Type 0
