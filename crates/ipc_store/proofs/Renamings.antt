@@ -20,10 +20,6 @@ tables descriptors slots = record { descriptors = descriptors; slots = slots }
 abbrev pub nobody : OpenTables
 nobody = tables [] []
 
--- as many descriptors and slots as a process can have
-abbrev pub HasOpenMax : OpenTables → Type 0
-HasOpenMax p = (length p.descriptors ≡ 16) × (length p.slots ≡ 16)
-
 -- one element more is mapped in its place, and all are
 pub renamed_more : {X : Type 0} (f : X → X) (xs ys : List X) (i : ℕ) (d : X) → i < length xs → ys ≡ map f (take i xs) ++ drop i xs → set ys i (f (get_or xs i d)) ≡ map f (take (i + 1) xs) ++ drop (i + 1) xs
 renamed_more f xs ys i d h e =

@@ -1,16 +1,68 @@
 //! Isomorphism up to renaming: whether two kernels are alike, equal but for the numbers of the places.
-ghost use Rattle.std.specs.Prelude.{◌↔◌, IsTrue};
-ghost use Rattle.ipc_kernel.specs.Alike.{IsAlike, IsRenaming};
-ghost use Rattle.ipc_store.specs.Private.Renamings.{Permutes, renamed_by};
+ghost use Rattle.std.specs.Prelude.{◌≡◌, ◌↔◌, ◌<◌, ℕ, IsTrue, Some, None, true, false, length};
+ghost use Rattle.ipc_kernel.specs.Limits.{object_places};
+ghost use Rattle.ipc_kernel.specs.Places.{place_at, has_name};
+ghost use Rattle.ipc_kernel.specs.Alike.{IsAlike, IsPermutation, IsRenaming};
+ghost use Rattle.ipc_store.specs.Private.Renamings.{Follows, Permutes, renamed_by};
 
-mod places;
-mod tables;
+use crate::referring::{are_renamed, take_all};
+use crate::renaming::{Renaming, renamed_by};
+use ipc_kernel::{Kernel, OBJECT_PLACES, Place};
 
-use crate::renaming::Renaming;
-use ipc_kernel::Kernel;
-use places::{are_renamed_places, take_names};
-pub(crate) use tables::is_renamed_process;
-use tables::{are_renamed_tables, take_open};
+/// Whether a place holds what another holds; one behind the end is empty.
+fn is_same_at(places: &[Place], at: u8, others: &[Place], other: u8) -> bool
+    ensures same { IsTrue result ↔ (place_at others.now other ≡ place_at places.now at) }
+{
+    match (places.get(at as usize), others.get(other as usize)) {
+        (Some(place), Some(other)) => other.is_same(place),
+        (Some(place), None) => place.is_empty(),
+        (None, Some(other)) => other.is_empty(),
+        (None, None) => true,
+    }
+}
+
+/// Whether places hold the same where a list takes those of others.
+fn are_renamed_places(places: &[Place], others: &[Place], to: &[u8]) -> bool
+    ensures renamed { IsTrue result ↔ ((i : ℕ) → i < object_places
+        → place_at others.now (renamed_by to.now i) ≡ place_at places.now i) }
+{
+    for at in 0..OBJECT_PLACES as u8 {
+        if !is_same_at(places, at, others, renamed_by(to, at)) {
+            return false;
+        }
+    }
+    true
+}
+
+/// The place of another kernel with the name that a place has.
+fn place_of_name(places: &[Place], at: u8, other: &Kernel) -> Option<u8>
+    ensures named { (i : ℕ) → has_name (place_at places.now at) ≡ true
+        → place_at other.now.places i ≡ place_at places.now at → result ≡ Some i }
+    ensures nameless { has_name (place_at places.now at) ≡ false → result ≡ None }
+{
+    let place = places.get(at as usize)?;
+    if let Some(name) = place.queue_name() {
+        return other.queue_named(name);
+    }
+    other.semaphore_named(place.semaphore_name()?)
+}
+
+/// Takes each place with a name to the place of that name.
+fn take_names(places: &[Place], other: &Kernel, renaming: &mut Renaming)
+    requires count { length places.now ≡ object_places }
+    requires permutation { Permutes renaming.old }
+    ensures permutation { Permutes renaming.new }
+    ensures follows { (f g : ℕ → ℕ) → IsPermutation f g
+        → ((i : ℕ) → place_at other.now.places (f i) ≡ place_at places.now i)
+        → Follows f (λ i. has_name (place_at places.now i) ≡ true) renaming.old renaming.new }
+    ensures range { (i : ℕ) → has_name (place_at places.now i) ≡ true → i < object_places }
+{
+    for at in 0..places.len() as u8 {
+        if let Some(found) = place_of_name(places, at, other) {
+            renaming.exchange(at, found);
+        }
+    }
+}
 
 /// The renaming that takes each place with a name to the place of that name, and what a process
 /// has open to what it has open in the other kernel.
@@ -21,7 +73,7 @@ fn renaming_to(kernel: &Kernel, other: &Kernel) -> Renaming
 {
     let mut renaming = Renaming::new();
     take_names(kernel.places(), other, &mut renaming);
-    take_open(kernel.tables(), other.tables(), &mut renaming);
+    take_all(kernel.tables(), other.tables(), &mut renaming);
     renaming
 }
 
@@ -32,7 +84,7 @@ pub(crate) fn is_renamed(kernel: &Kernel, other: &Kernel, renaming: &Renaming) -
         (renamed_by renaming.now.from) kernel.now other.now }
 {
     are_renamed_places(kernel.places(), other.places(), &renaming.to)
-        && are_renamed_tables(kernel.tables(), other.tables(), &renaming.to)
+        && are_renamed(kernel.tables(), other.tables(), &renaming.to)
 }
 
 /// Whether another kernel is this one, or this one with its places renamed. Then no answer tells

@@ -10,28 +10,30 @@ ghost use Rattle.ipc_store.specs.Kept.{GrowsKept};
 
 mod arranged;
 mod changes;
-mod digests;
 mod objects;
 mod operands;
+mod parts;
 mod renames;
 mod rows;
 mod tables;
 
+use crate::index::Index;
 use changes::{Change, number_at, with_number};
 use ipc_kernel::{Kernel, OBJECT_PLACES, OpenTables, Place};
-use objects::Objects;
+use parts::Parts;
+use renames::Renames;
 use rows::Rows;
 use std::alloc::{AllocError, Global};
 use std::marker::Model;
-use tables::Tables;
 
 /// Kernels, each with a number, from 0. Their objects, and the tables of their processes, have
 /// numbers of their own, each equal object or table one.
 #[derive(Drop)]
 pub struct Kernels {
-    objects: Objects,
-    tables: Tables,
+    objects: Parts<Place>,
+    tables: Parts<OpenTables>,
     rows: Rows,
+    renames: Renames,
     alloc: Global,
 }
 
@@ -52,12 +54,13 @@ impl Kernels {
     pub fn new(alloc: Global) -> Result<Kernels, AllocError>
         ensures none { IfOk result (λ t. t.kernels ≡ []) }
     {
-        let mut objects = Objects::new(alloc)?;
+        let mut objects = Parts::new(alloc)?;
         objects.keep(alloc, &Place::Empty)?;
         Ok(Kernels {
             objects,
-            tables: Tables::new(alloc)?,
+            tables: Parts::new(alloc)?,
             rows: Rows::new(alloc)?,
+            renames: Renames::new(alloc, Index::new(alloc)?),
             alloc,
         })
     }
@@ -71,10 +74,10 @@ impl Kernels {
         let Some((objects, tables)) = self.rows.row(kernel) else {
             return Ok(None);
         };
-        let Some(objects) = self.objects.copies(alloc, objects)? else {
+        let Some(objects) = self.objects.copies(alloc, objects, OBJECT_PLACES)? else {
             return Ok(None);
         };
-        let Some(tables) = self.tables.copies(alloc, tables)? else {
+        let Some(tables) = self.tables.copies(alloc, tables, tables.len())? else {
             return Ok(None);
         };
         Kernel::assemble(alloc, objects, tables)
@@ -88,7 +91,8 @@ impl Kernels {
     {
         let objects = self.objects.keep_all(alloc, kernel.objects())?;
         let tables = self.tables.keep_all(alloc, kernel.tables())?;
-        self.rows.keep(objects.as_slice(), tables.as_slice())
+        let number = self.rows.keep(objects.as_slice(), tables.as_slice())?;
+        Ok(number)
     }
 
     /// How many kernels there are.
@@ -223,10 +227,9 @@ impl Kernels {
 
     /// About how many bytes it takes. Nothing that is proved rests on it.
     pub fn size(&self) -> usize {
-        self.objects
-            .size()
-            .saturating_add(self.tables.size())
-            .saturating_add(self.rows.size())
+        let parts = self.objects.size().saturating_add(self.tables.size());
+        let rows = self.rows.size().saturating_add(self.renames.size());
+        parts.saturating_add(rows)
     }
 
     /// Lets go of what only `keep` and `keep_with` need. What is kept later has numbers of its own.
@@ -236,5 +239,6 @@ impl Kernels {
         self.objects.forget(alloc);
         self.tables.forget(alloc);
         self.rows.forget(alloc);
+        self.renames = Renames::new(alloc, Index::none(alloc));
     }
 }

@@ -9,6 +9,7 @@ mod index;
 mod kept;
 pub mod laws;
 mod numbers;
+mod referring;
 mod renaming;
 
 pub use alike::is_alike;

@@ -1,5 +1,5 @@
 -- Renamings of object places, as the code keeps them: two lists that undo each other.
-use Rattle.std.specs.Prelude.{◌≡◌, ℕ, ◌<◌, List, slice_get, unwrap_or}
+use Rattle.std.specs.Prelude.{◌≡◌, ℕ, ◌==◌, ◌<◌, ◌≤◌, List, Some, length, slice_get, unwrap_or, if◌then◌else◌}
 use Rattle.ipc_kernel.specs.Limits.{object_places}
 use Rattle.ipc_kernel.specs.Alike.{IsPermutation}
 use Rattle.ipc_store.specs.declared.renaming.Renaming.{Renaming}
@@ -16,3 +16,11 @@ Permutes r = IsPermutation (renamed_by r.to) (renamed_by r.from)
 pub record Follows (f : ℕ → ℕ) (these : ℕ → Type 0) (earlier later : Renaming) : Type 0 where
   pub kept : (i : ℕ) → renamed_by earlier.to i ≡ f i → renamed_by later.to i ≡ f i
   pub taken : (i : ℕ) → i < object_places → these i → renamed_by later.to i ≡ f i
+
+-- numbers, where another one stands at a place, stand among others where a list takes their places, and none stands behind the object
+-- places
+pub record IsMoved (ns : List ℕ) (place number : ℕ) (moved to : List ℕ) : Type 0 where
+  pub inside : place < object_places
+  pub few : length ns ≤ object_places
+  pub few_moved : length moved ≤ object_places
+  pub there : (i : ℕ) → i < object_places → slice_get moved (renamed_by to i) ≡ (if i == place then Some number else slice_get ns i)

@@ -1,22 +1,21 @@
 //! Kernels that are kept after an open that makes an object, with their places in an order that
 //! doesn't depend on how they were made.
-ghost use Rattle.std.specs.Prelude.{◌≡◌, ◌<◌, ◌≤◌, ◌==◌, ℕ, IfOk, IfSome, IsTrue, OnOk, Some, length, slice_get, if◌then◌else◌};
+ghost use Rattle.std.specs.Prelude.{◌≡◌, ◌==◌, IfOk, IfSome, IsTrue, OnOk, Some, slice_get, if◌then◌else◌};
 ghost use Rattle.ipc_kernel.specs.declared.place.Place.{Place as Object};
 ghost use Rattle.ipc_kernel.specs.declared.process.OpenTables.{OpenTables as Opened};
-ghost use Rattle.ipc_kernel.specs.Limits.{object_places};
 ghost use Rattle.ipc_kernel.specs.Kernel.{KernelState, IsSettled};
 ghost use Rattle.ipc_store.specs.Kept.{GrowsKept};
 ghost use Rattle.ipc_kernel.specs.Operands.{with_operand};
 ghost use Rattle.ipc_kernel.specs.Alike.{IsAlike};
-ghost use Rattle.ipc_store.specs.Private.Renamings.{Permutes, renamed_by};
+ghost use Rattle.ipc_store.specs.Private.Renamings.{IsMoved, Permutes};
 
 use super::Kernels;
 use super::changes::number_at;
-use super::objects::Objects;
+use super::parts::Parts;
 use super::renames::Taken;
 use crate::arrangement::Arrangement;
 use crate::renaming::{Renaming, renamed_by};
-use ipc_kernel::OBJECT_PLACES;
+use ipc_kernel::{OBJECT_PLACES, Place};
 use std::alloc::{AllocError, Global};
 
 /// The number at a place, where another one stands at one place.
@@ -35,12 +34,7 @@ fn number_after(numbers: &[u32], at: usize, number: u32, place: usize) -> Option
 /// others are compared: the renaming takes these among themselves.
 fn are_moved(numbers: &[u32], at: usize, number: u32, moved: &[u32], renaming: &Renaming) -> bool
     requires permutation { Permutes renaming.now }
-    ensures place { IsTrue result → at < object_places }
-    ensures few { IsTrue result → length numbers.now ≤ object_places }
-    ensures few_moved { IsTrue result → length moved.now ≤ object_places }
-    ensures moved { IsTrue result → (i : ℕ) → i < object_places
-        → slice_get moved.now (renamed_by renaming.now.to i)
-        ≡ (if i == at then Some number else slice_get numbers.now i) }
+    ensures moved { IsTrue result → IsMoved numbers.now at number moved.now renaming.now.to }
 {
     let count = moved.len();
     if at >= count || numbers.len() > count || count > OBJECT_PLACES {
@@ -68,13 +62,8 @@ fn moved(
     arrangement: &Arrangement,
 ) -> Result<Option<Vec<u32>>, AllocError>
     requires permutation { Permutes arrangement.now.renaming }
-    ensures place { IfOk result (λ found. IfSome found (λ _. at < object_places)) }
-    ensures few { IfOk result (λ found. IfSome found (λ _. length numbers.now ≤ object_places)) }
-    ensures few_moved { IfOk result (λ found. IfSome found
-        (λ moved. length moved.items ≤ object_places)) }
-    ensures moved { IfOk result (λ found. IfSome found (λ moved. (i : ℕ) → i < object_places
-        → slice_get moved.items (renamed_by arrangement.now.renaming.to i)
-        ≡ (if i == at then Some number else slice_get numbers.now i))) }
+    ensures moved { IfOk result (λ found. IfSome found
+        (λ moved. IsMoved numbers.now at number moved.items arrangement.now.renaming.to)) }
 {
     let mut moved = Vec::with_capacity(alloc, arrangement.count as usize)?;
     for place in 0..arrangement.count {
@@ -89,25 +78,20 @@ fn moved(
     Ok(Some(moved))
 }
 
-impl Objects {
-    /// How many objects stand before another one in the order of their kinds and names, among those
-    /// that stand in that order.
-    fn count_before(&self, numbers: &[u32], object: u32) -> usize {
-        let Some(object) = self.get(object) else {
-            return 0;
-        };
-        let before = numbers.iter().position(|number| match self.get(*number) {
-            Some(other) => !other.has_name() || !other.is_before(object),
-            None => true,
-        });
-        before.unwrap_or(numbers.len())
-    }
-
-    /// The order of the places of some objects and of another one that is made in a place.
+impl Parts<Place> {
+    /// The order of the places of some objects and of another one that is made in a place: behind
+    /// those that stand before it in the order of kinds and names, among those that stand so.
     fn arrangement(&self, numbers: &[u32], place: u8, object: u32) -> Arrangement
         ensures permutation { Permutes result.renaming }
     {
-        let first = self.count_before(numbers, object);
+        let first = self.get(object).map_or(0, |object| {
+            let is_behind = |number: &u32| {
+                self.get(*number)
+                    .is_none_or(|other| !other.has_name() || !other.is_before(object))
+            };
+            let first = numbers.iter().position(is_behind);
+            first.unwrap_or(numbers.len())
+        });
         let mut arrangement = Arrangement::new();
         for at in 0..numbers.len().min(OBJECT_PLACES) as u8 {
             if at as usize == first {
@@ -160,9 +144,15 @@ impl Kernels {
             place,
             to: renamed_by(to, place),
         };
-        let Some(tables) = self
-            .tables
-            .keep_changed(processes, (pid, tables), to, taken)?
+        let change = (pid, tables);
+        let Some(tables) = self.tables.keep_changed(
+            self.alloc,
+            &mut self.renames,
+            processes,
+            change,
+            to,
+            taken,
+        )?
         else {
             return Ok(None);
         };

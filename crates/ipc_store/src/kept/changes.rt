@@ -1,10 +1,8 @@
 //! Numbers of rows.
-ghost use Rattle.std.specs.Prelude.{◌≡◌, ◌<◌, length, slice_get, slice_set, IfOk, IfSome, IsTrue, IfNone, None};
+ghost use Rattle.std.specs.Prelude.{◌≡◌, ◌<◌, length, slice_get, slice_set, IfOk, IfSome, IfNone, None};
 
-use crate::numbers::are_with;
 use std::alloc::{AllocError, Global};
 
-/// The number at a place, if there is one.
 pub(crate) fn number_at(numbers: &[u32], at: usize) -> Option<u32>
     ensures number { result ≡ slice_get numbers.now at }
 {
@@ -40,15 +38,6 @@ pub(crate) struct Change<'a> {
 }
 
 impl Change<'_> {
-    /// Whether these are the numbers then, and there is that place.
-    pub(crate) fn makes(&self, numbers: &[u32]) -> bool
-        ensures changed { IsTrue result
-            → numbers.now ≡ slice_set self.now.numbers.now self.now.at self.now.number }
-        ensures range { IsTrue result → self.now.at < length self.now.numbers.now }
-    {
-        are_with(numbers, self.numbers, self.at, self.number)
-    }
-
     /// How much the digest of the numbers, the first of which stands at a place of a row, grows.
     pub(crate) fn growth(&self, first: usize) -> u64 {
         let before = number_at(self.numbers, self.at).unwrap_or(0);

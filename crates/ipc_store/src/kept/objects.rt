@@ -1,21 +1,17 @@
 //! Objects, each once.
-ghost use Rattle.std.specs.Prelude.{◌≡◌, ◌||◌, [], Some, length, map, position, slice_get, unwrap_or, IfOk, IfSome};
+ghost use Rattle.std.specs.Prelude.{◌≡◌, ◌||◌, Some, length, position, slice_get, unwrap_or, IfSome};
 ghost use Rattle.std.specs.List.{list_all};
 ghost use Rattle.std.specs.Str.{bytes_eq};
 ghost use Rattle.std.specs.Option.{option_copied};
-ghost use Rattle.ipc_kernel.specs.declared.place.Place.{Place};
 ghost use Rattle.ipc_kernel.specs.declared.place.Place.TheVariants.{Empty};
 ghost use Rattle.ipc_kernel.specs.Places.{place_at, is_empty, has_name, is_name};
-ghost use Rattle.ipc_store.specs.Private.KeptRows.{Grows};
 ghost use Rattle.ipc_store.specs.Private.Kinds.{name_of};
 
-use super::rows::number_of;
-use crate::index::Index;
-use ipc_kernel::{OBJECT_PLACES, Place};
+use super::parts::{Part, Parts};
+use ipc_kernel::Place;
 use ipc_names::Name;
 use ipc_objects::{FEW_WORDS, Message};
 use std::alloc::{AllocError, Global};
-use std::marker::Model;
 use std::mem::{size_of, size_of_val};
 
 /// Whether texts are equal. Names that differ mostly do so in their lengths or their last
@@ -74,45 +70,25 @@ pub(crate) enum Kind {
     Semaphore,
 }
 
-/// The number of what is kept first.
-const FIRST: u32 = 0;
-
-/// Objects, each with a number, from 0.
-#[derive(Drop)]
-pub(crate) struct Objects {
-    objects: Vec<Place>,
-    index: Index,
-    /// About how many bytes the objects take.
-    held: usize,
-}
-
-impl Model for Objects {
-    ghost use Rattle.std.specs.Prelude.{List};
-    ghost use Rattle.ipc_kernel.specs.declared.place.Place.{Place};
-
-    ghost Value = { List Place };
-
-    ghost view = { λ a. a.objects.items };
-}
-
-impl Objects {
-    pub(crate) fn new(alloc: Global) -> Result<Objects, AllocError>
-        ensures none { IfOk result (λ objects. objects ≡ []) }
-    {
-        Ok(Objects {
-            objects: Vec::new(alloc),
-            index: Index::new(alloc)?,
-            held: 0,
-        })
+impl Part for Place {
+    fn digest(&self) -> u64 {
+        self.digest()
     }
 
-    /// The object with a number, if there is one.
-    pub(crate) fn get(&self, number: u32) -> Option<&Place>
-        ensures object { option_copied result ≡ slice_get self.now number }
-    {
-        self.objects.get(number as usize)
+    fn is_same(&self, other: &Place) -> bool {
+        self.is_same(other)
     }
 
+    fn copy(&self, alloc: Global) -> Result<Place, AllocError> {
+        self.copy(alloc)
+    }
+
+    fn size(&self) -> usize {
+        self.size().saturating_add(beside(self))
+    }
+}
+
+impl Parts<Place> {
     fn is_named(&self, number: u32, kind: Kind, name: &Name) -> bool
         ensures named { result ≡ is_name name.now (name_of kind (place_at self.now number)) }
     {
@@ -132,20 +108,7 @@ impl Objects {
     fn is_empty(&self, number: u32) -> bool
         ensures empty { result ≡ is_empty (place_at self.now number) }
     {
-        match self.get(number) {
-            Some(object) => object.is_empty(),
-            None => true,
-        }
-    }
-
-    fn is_empty_or_named(&self, number: u32) -> bool
-        ensures named { result
-            ≡ (is_empty (place_at self.now number) || has_name (place_at self.now number)) }
-    {
-        match self.get(number) {
-            Some(object) => object.is_empty() || object.has_name(),
-            None => true,
-        }
+        self.get(number).is_none_or(|object| object.is_empty())
     }
 
     /// The place of the one of a kind with a name among objects, which are given by their numbers.
@@ -179,101 +142,23 @@ impl Objects {
         }
     }
 
+    /// The number of no object, which an empty place holds, if it was kept first.
+    pub(crate) fn empty(&self) -> Option<u32>
+        ensures empty { IfSome result (λ i. slice_get self.now i ≡ Some Empty) }
+    {
+        match self.get(0) {
+            Some(Place::Empty) => Some(0),
+            _ => None,
+        }
+    }
+
     /// Whether each of some objects, which are given by their numbers, has a name.
     pub(crate) fn are_named(&self, numbers: &[u32]) -> bool
         ensures named { result ≡ list_all (λ n. is_empty (place_at self.now n)
             || has_name (place_at self.now n)) numbers.now }
     {
-        numbers.iter().all(|number| self.is_empty_or_named(*number))
-    }
-
-    /// The number of an equal object, if one is kept.
-    fn find(&self, object: &Place, digest: u64) -> Option<u32>
-        ensures found { IfSome result (λ i. slice_get self.now i ≡ Some object.now) }
-    {
-        self.index.find(digest, |at| match self.get(at) {
-            Some(kept) => kept.is_same(object),
-            None => false,
-        })
-    }
-
-    /// The number of no object, which an empty place holds, if it was kept first.
-    pub(crate) fn empty(&self) -> Option<u32>
-        ensures empty { IfSome result (λ i. slice_get self.now i ≡ Some Empty) }
-    {
-        match self.get(FIRST) {
-            Some(Place::Empty) => Some(FIRST),
-            _ => None,
-        }
-    }
-
-    /// Keeps an object; with its number.
-    pub(crate) fn keep(&mut self, alloc: Global, object: &Place) -> Result<u32, AllocError>
-        ensures kept { IfOk result (λ i. slice_get self.new i ≡ Some object.now) }
-        ensures grows { Grows self.old self.new }
-    {
-        let digest = object.digest();
-        if let Some(number) = self.find(object, digest) {
-            return Ok(number);
-        }
-        let number = number_of(self.objects.len())?;
-        let copy = object.copy(alloc)?;
-        self.objects.reserve(1)?;
-        self.index.add(digest)?;
-        self.objects.push(copy)?;
-        self.held = self
-            .held
-            .saturating_add(object.size())
-            .saturating_add(beside(object));
-        Ok(number)
-    }
-
-    /// Keeps objects; with their numbers.
-    pub(crate) fn keep_all(
-        &mut self,
-        alloc: Global,
-        objects: &[Place],
-    ) -> Result<Vec<u32>, AllocError>
-        ensures kept { IfOk result (λ numbers.
-            map (slice_get self.new) numbers.items ≡ map Some objects.now) }
-        ensures grows { Grows self.old self.new }
-    {
-        let mut numbers = Vec::with_capacity(alloc, objects.len())?;
-        for object in objects {
-            numbers.push(self.keep(alloc, object)?)?;
-        }
-        Ok(numbers)
-    }
-
-    /// Copies of the objects with these numbers, if there are all, with room for those of a kernel.
-    pub(crate) fn copies(
-        &self,
-        alloc: Global,
-        numbers: &[u32],
-    ) -> Result<Option<Vec<Place>>, AllocError>
-        ensures equal { IfOk result (λ found. IfSome found (λ copies.
-            map (slice_get self.now) numbers.now ≡ map Some copies.items)) }
-    {
-        let mut copies = Vec::with_capacity(alloc, OBJECT_PLACES)?;
-        for number in numbers {
-            let Some(object) = self.get(*number) else {
-                return Ok(None);
-            };
-            copies.push(object.copy(alloc)?)?;
-        }
-        Ok(Some(copies))
-    }
-
-    /// About how many bytes the objects take.
-    pub(crate) fn size(&self) -> usize {
-        self.held
-            .saturating_add(Index::ENTRY.saturating_mul(self.objects.len()))
-    }
-
-    /// Lets go of the index.
-    pub(crate) fn forget(&mut self, alloc: Global)
-        ensures same { self.new ≡ self.old }
-    {
-        self.index = Index::none(alloc);
+        numbers
+            .iter()
+            .all(|number| self.is_empty(*number) || self.has_name(*number))
     }
 }

@@ -1,5 +1,5 @@
 //! The object places that calls work on, in kernels that are kept.
-ghost use Rattle.std.specs.Prelude.{◌≡◌, false, Some, is_some, position, slice_get, IfSome, IsTrue};
+ghost use Rattle.std.specs.Prelude.{◌≡◌, false, Some, is_some, option_and_then, position, slice_get, IfSome, IsTrue};
 ghost use Rattle.std.specs.Option.{option_or};
 ghost use Rattle.ipc_kernel.specs.declared.process.OpenTables.{OpenTables};
 ghost use Rattle.ipc_kernel.specs.Kernel.{KernelState};
@@ -29,19 +29,6 @@ impl Kernels {
         Some(place as u8)
     }
 
-    /// A place of a kernel, if the object in it has a name.
-    fn if_named(&self, kernel: u32, place: u8) -> Option<u8>
-        ensures place { IfSome result (λ i. (k : KernelState)
-            → slice_get self.now.kernels kernel ≡ Some k
-            → if_named k.places place ≡ Some i) }
-    {
-        let object = self.object_at(kernel, place)?;
-        if self.objects.has_name(object) {
-            return Some(place);
-        }
-        None
-    }
-
     fn are_named(&self, kernel: u32) -> bool
         ensures named { IsTrue result → (k : KernelState)
             → slice_get self.now.kernels kernel ≡ Some k → IsTrue (are_named k.places) }
@@ -58,6 +45,21 @@ impl Kernels {
             → slice_get self.now.tables tables ≡ Some t → place_of t handle ≡ Some i) }
     {
         self.tables.get(tables)?.place_of(handle)
+    }
+
+    /// The place to which a descriptor or slot refers, if it is open and the object there has a name.
+    fn closed(&self, kernel: u32, tables: u32, handle: Handle) -> Option<u8>
+        ensures place { IfSome result (λ i. (k : KernelState) (t : OpenTables)
+            → slice_get self.now.kernels kernel ≡ Some k
+            → slice_get self.now.tables tables ≡ Some t
+            → option_and_then (if_named k.places) (place_of t handle) ≡ Some i) }
+    {
+        let place = self.place_of(tables, handle)?;
+        let object = self.object_at(kernel, place)?;
+        if self.objects.has_name(object) {
+            return Some(place);
+        }
+        None
     }
 
     /// Whether an object of a kind has a name in a kernel.
@@ -103,14 +105,8 @@ impl Kernels {
         match call {
             Call::MqOpen { name, .. } => self.opened(kernel, Kind::Queue, name),
             Call::SemOpen { name, .. } => self.opened(kernel, Kind::Semaphore, name),
-            Call::MqClose { mqd } => {
-                let place = self.place_of(tables, Handle::Mqd(*mqd))?;
-                self.if_named(kernel, place)
-            }
-            Call::SemClose { slot } => {
-                let place = self.place_of(tables, Handle::Slot(*slot))?;
-                self.if_named(kernel, place)
-            }
+            Call::MqClose { mqd } => self.closed(kernel, tables, Handle::Mqd(*mqd)),
+            Call::SemClose { slot } => self.closed(kernel, tables, Handle::Slot(*slot)),
             Call::Exit if self.are_named(kernel) => Some(0),
             _ => None,
         }

@@ -1,11 +1,11 @@
 //! Rows of numbers, each once.
-ghost use Rattle.std.specs.Prelude.{◌≡◌, ◌<◌, [], Some, length, slice_get, slice_set, IfOk, IfSome, IsTrue, ◌+◌, ◌≤◌, None, IfNone};
+ghost use Rattle.std.specs.Prelude.{◌≡◌, ◌<◌, ◌+◌, ◌≤◌, [], Some, length, slice_get, slice_set, IfOk, IfSome, OnErr, OnOk, None, IfNone};
 ghost use Rattle.ipc_store.specs.Private.KeptRows.{AddsRow, row, row_of};
 
 use super::changes::{Change, digest_from};
-use super::digests::Digests;
+use super::parts::number_of;
 use crate::index::Index;
-use crate::numbers::are_same;
+use crate::numbers::{are_same, are_with};
 use ipc_kernel::OBJECT_PLACES;
 use std::alloc::{AllocError, Global};
 use std::marker::Model;
@@ -20,12 +20,13 @@ pub(crate) struct Span {
 }
 
 /// Rows, each with a number, from 0: the numbers of the objects of a kernel, and those of the
-/// tables of its processes.
+/// tables of its processes. Nothing that is proved rests on their digests.
 #[derive(Drop)]
 pub(crate) struct Rows {
     numbers: Vec<u32>,
     spans: Vec<Span>,
-    digests: Digests,
+    digests: Vec<u64>,
+    index: Index,
 }
 
 impl Model for Rows {
@@ -61,11 +62,12 @@ impl Rows {
         Ok(Rows {
             numbers: Vec::new(alloc),
             spans: Vec::new(alloc),
-            digests: Digests::new(alloc, Index::new(alloc)?),
+            digests: Vec::new(alloc),
+            index: Index::new(alloc)?,
         })
     }
 
-    /// The row with a number, if there is one: its objects, and its tables.
+    /// The objects and the tables of the row with a number, if there is one.
     pub(crate) fn row(&self, number: u32) -> Option<(&[u32], &[u32])>
         ensures row { IfSome result (λ r. slice_get self.now number ≡ Some (row r.0.now r.1.now)) }
         ensures none { IfNone result (slice_get self.now number ≡ None) }
@@ -73,26 +75,6 @@ impl Rows {
         match self.spans.get(number as usize) {
             Some(span) => Some(parts_of(self.numbers.as_slice(), *span)),
             None => None,
-        }
-    }
-
-    /// The number of a row, if it is kept.
-    fn find(&self, objects: &[u32], tables: &[u32], digest: u64) -> Option<u32>
-        ensures found { IfSome result (λ i. slice_get self.now i
-            ≡ Some (row objects.now tables.now)) }
-    {
-        let index = &self.digests.index;
-        index.find(digest, |at| self.is_at(at, objects, tables))
-    }
-
-    /// Whether a row is the one with a number.
-    fn is_at(&self, number: u32, objects: &[u32], tables: &[u32]) -> bool
-        ensures same { IsTrue result → slice_get self.now number
-            ≡ Some (row objects.now tables.now) }
-    {
-        match self.row(number) {
-            Some(row) => are_same(row.0, objects) && are_same(row.1, tables),
-            None => false,
         }
     }
 
@@ -109,22 +91,15 @@ impl Rows {
         ensures range { IfSome result (λ i. objects.now.at < length objects.now.numbers.now) }
     {
         let growth = objects.growth(0).wrapping_add(tables.growth(TABLES));
-        let digest = self.digests.get(number).wrapping_add(growth);
-        let index = &self.digests.index;
-        index.find(digest, |at| self.is_changed(at, objects, tables))
-    }
-
-    /// Whether others, each changed at a place, make the row with a number.
-    fn is_changed(&self, number: u32, objects: &Change<'_>, tables: &Change<'_>) -> bool
-        ensures same { IsTrue result → slice_get self.now number ≡ Some (row
-            (slice_set objects.now.numbers.now objects.now.at objects.now.number)
-            (slice_set tables.now.numbers.now tables.now.at tables.now.number)) }
-        ensures range { IsTrue result → objects.now.at < length objects.now.numbers.now }
-    {
-        match self.row(number) {
-            Some(row) => objects.makes(row.0) && tables.makes(row.1),
+        let digest = self.digests.get(number as usize).copied().unwrap_or(0);
+        let digest = digest.wrapping_add(growth);
+        self.index.find(digest, |at| match self.row(at) {
+            Some(row) => {
+                are_with(row.0, objects.numbers, objects.at, objects.number)
+                    && are_with(row.1, tables.numbers, tables.at, tables.number)
+            }
             None => false,
-        }
+        })
     }
 
     pub(crate) fn len(&self) -> usize
@@ -136,28 +111,24 @@ impl Rows {
     /// Keeps a row; with its number.
     pub(crate) fn keep(&mut self, objects: &[u32], tables: &[u32]) -> Result<u32, AllocError>
         ensures kept { IfOk result (λ i. slice_get self.new i ≡ Some (row objects.now tables.now)) }
-        ensures adds { AddsRow self.old self.new (row objects.now tables.now) }
+        ensures adds { OnOk result (AddsRow self.old self.new (row objects.now tables.now)) }
+        ensures err { OnErr result (self.new ≡ self.old) }
     {
         let digest = digest_from(0, objects).wrapping_add(digest_from(TABLES, tables));
-        if let Some(number) = self.find(objects, tables, digest) {
-            return Ok(number);
+        let kept = self.index.find(digest, |at| match self.row(at) {
+            Some(row) => are_same(row.0, objects) && are_same(row.1, tables),
+            None => false,
+        });
+        match kept {
+            Some(number) => Ok(number),
+            None => self.add(objects, tables, digest),
         }
-        self.make_room(objects.len().saturating_add(tables.len()))?;
-        self.add(objects, tables, digest)
-    }
-
-    /// Makes room for a row of so many numbers, so that none is added to the index alone.
-    fn make_room(&mut self, count: usize) -> Result<(), AllocError>
-        ensures same { self.new ≡ self.old }
-    {
-        self.numbers.reserve(count)?;
-        self.spans.reserve(1)?;
-        Ok(())
     }
 
     fn add(&mut self, objects: &[u32], tables: &[u32], digest: u64) -> Result<u32, AllocError>
         ensures kept { IfOk result (λ i. slice_get self.new i ≡ Some (row objects.now tables.now)) }
-        ensures adds { AddsRow self.old self.new (row objects.now tables.now) }
+        ensures adds { OnOk result (AddsRow self.old self.new (row objects.now tables.now)) }
+        ensures err { OnErr result (self.new ≡ self.old) }
     {
         let number = number_of(self.spans.len())?;
         let span = Span {
@@ -165,34 +136,34 @@ impl Rows {
             objects: count_of(objects.len())?,
             tables: count_of(tables.len())?,
         };
-        self.digests.add(digest)?;
+        // With room for the rest none is added to the index alone.
+        let count = objects.len().saturating_add(tables.len());
+        self.numbers.reserve(count)?;
+        self.spans.reserve(1)?;
+        self.digests.reserve(1)?;
+        self.index.add(digest)?;
+        self.digests.push_reserved(digest);
         self.numbers.extend_from_slice(objects)?;
         self.numbers.extend_from_slice(tables)?;
-        self.spans.push(span)?;
+        self.spans.push_reserved(span);
         Ok(number)
     }
 
     /// About how many bytes the rows take.
     pub(crate) fn size(&self) -> usize {
-        let row = size_of::<Span>() + Digests::ENTRY;
+        let row = size_of::<Span>() + size_of::<u64>() + Index::ENTRY;
         size_of::<u32>()
             .saturating_mul(self.numbers.len())
             .saturating_add(row.saturating_mul(self.spans.len()))
     }
 
-    /// Lets go of the index.
+    /// Lets go of the digests.
     pub(crate) fn forget(&mut self, alloc: Global)
         ensures same { self.new ≡ self.old }
     {
-        self.digests = Digests::new(alloc, Index::none(alloc));
+        self.digests = Vec::new(alloc);
+        self.index = Index::none(alloc);
     }
-}
-
-/// A number, as it is kept, if it is small enough.
-pub(crate) fn number_of(at: usize) -> Result<u32, AllocError>
-    ensures value { IfOk result (λ number. number ≡ at) }
-{
-    u32::try_from(at).map_err(|_| AllocError)
 }
 
 /// A count of the parts of a row, if it is small enough.

@@ -5,6 +5,6 @@ pub returns-clause-alike : goal.returns-clause-alike
 returns-clause-alike c =
     let places = c.places.ensures.places in
     let tables = c.tables.ensures.tables in
-    followed c.args.kernel.now c.args.other.now c.new-renaming.result c.take_names.new.renaming c.take_open.new.renaming c.places.ensures.settled c.take_open.ensures.permutation
+    followed c.args.kernel.now c.args.other.now c.new-renaming.result c.take_names.new.renaming c.take_all.new.renaming c.places.ensures.settled c.take_all.ensures.permutation
     (rw places at c.take_names.ensures.follows) (rw places at c.take_names.ensures.range)
-    (rw (tables, c.tables-2.ensures.tables) at c.take_open.ensures.follows) c.tables.ensures.range
+    (rw (tables, c.tables-2.ensures.tables) at c.take_all.ensures.follows) c.tables.ensures.range

@@ -2,26 +2,18 @@ use Rattle.std.proofs.Common.{◌≡◌, Some, slice_get, sym, ◌∙◌}
 use Rattle.ipc_store.proofs.KeptLemmas.{of_kernel, adds_grows, rows_changed, kernel_changed, kept_grows, no_object, no_tables}
 use Rattle.ipc_store.proofs.kept.Kernels.keep_with.Goals as goal
 
-pub invariant_of-self : goal.invariant_of-self
-invariant_of-self c =
-    rows_changed c.self.inside.objects c.self.inside.tables c.self.inside.rows c.keep.new.self c.in-Some-row.objects.now c.in-Some-row.processes.now c.as_slice.result.now c.as_slice-2.result.now
-    c.args.kernel c.args.place c.args.object c.args.pid c.args.tables c.in-Some.field-0.now c.in-Some-get.field-0.now c.self.invariant c.in-Some-row.ensures.row
-    (sym c.in-Some.ensures.object) (sym c.in-Some-get.ensures.tables)
-    (c.as_slice.ensures.value ∙ (rw c.in-Some-2.is at c.in_ok-objects.ensures.changed)) (c.as_slice-2.ensures.value ∙ (rw c.in-Some-3.is at c.in_ok-processes.ensures.changed))
-    c.keep.ensures.adds
-
 pub invariant_of-self-2 : goal.invariant_of-self-2
 invariant_of-self-2 c =
     rows_changed c.self.inside.objects c.self.inside.tables c.self.inside.rows c.keep.new.self c.in-Some-row.objects.now c.in-Some-row.processes.now c.as_slice.result.now c.as_slice-2.result.now
     c.args.kernel c.args.place c.args.object c.args.pid c.args.tables c.in-Some.field-0.now c.in-Some-get.field-0.now c.self.invariant c.in-Some-row.ensures.row
-    (sym c.in-Some.ensures.object) (sym c.in-Some-get.ensures.tables)
+    (sym c.in-Some.ensures.part) (sym c.in-Some-get.ensures.part)
     (c.as_slice.ensures.value ∙ (rw c.in-Some-2.is at c.in_ok-objects.ensures.changed)) (c.as_slice-2.ensures.value ∙ (rw c.in-Some-3.is at c.in_ok-processes.ensures.changed))
-    c.keep.ensures.adds
+    c.in_ok-number.ensures.adds
 
 pub returns-clause-grows : goal.returns-clause-grows
 returns-clause-grows c =
     rw (← c.self.view_is) (kept_grows c.self.inside.objects c.self.inside.objects c.self.inside.tables c.self.inside.tables c.self.inside.rows c.keep.new.self
-    (λ i x e. e) (λ i x e. e) (adds_grows c.self.inside.rows c.keep.new.self _ c.keep.ensures.adds) c.self.invariant)
+    (λ i x e. e) (λ i x e. e) (adds_grows c.self.inside.rows c.keep.new.self _ c.in_ok-number.ensures.adds) c.self.invariant)
 
 pub returns-clause-kept : goal.returns-clause-kept
 returns-clause-kept c = λ k o t at_kernel at_object at_tables.

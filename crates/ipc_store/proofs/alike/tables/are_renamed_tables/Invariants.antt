@@ -1,7 +1,0 @@
-use Rattle.std.proofs.Common.{◌≡◌, take, map}
-use Rattle.ipc_kernel.specs.Alike.{renamed_process}
-use Rattle.ipc_store.specs.Private.Renamings.{renamed_by}
-use Rattle.ipc_store.proofs.alike.tables.are_renamed_tables.Given as goal
-
-abbrev pub invariant-loop-i : goal.invariant-loop-i
-invariant-loop-i l = take l.i l.others ≡ map (renamed_process (renamed_by l.to)) (take l.i l.processes)

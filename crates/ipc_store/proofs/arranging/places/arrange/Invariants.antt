@@ -1,5 +1,0 @@
-use Rattle.ipc_store.specs.Private.Renamings.{Permutes}
-use Rattle.ipc_store.proofs.arranging.places.arrange.Given as goal
-
-abbrev pub invariant-loop : goal.invariant-loop
-invariant-loop l = Permutes l.arrangement.renaming

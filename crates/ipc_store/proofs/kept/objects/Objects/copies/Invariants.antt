@@ -1,5 +1,0 @@
-use Rattle.std.proofs.Common.{◌≡◌, Some, map, slice_get, take}
-use Rattle.ipc_store.proofs.kept.objects.Objects.copies.Given as goal
-
-abbrev pub invariant-loop-number : goal.invariant-loop-number
-invariant-loop-number l = map (slice_get l.self) (take l.number-index l.numbers) ≡ map Some l.copies.items
