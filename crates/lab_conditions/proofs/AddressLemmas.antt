@@ -1,5 +1,5 @@
 -- Addresses of four digits at most.
-use Rattle.std.proofs.Common.{◌≡◌, ℕ, ◌<◌, ◌≤◌, Bool, true, false, List, [], ◌∷◌, Option, Some, None, length, min, nat_lt, nat_le, refl, ap, sym, subst, ◌∙◌, arith}
+use Rattle.std.proofs.Common.{◌≡◌, ℕ, ◌<◌, ◌≤◌, Bool, true, false, List, [], ◌∷◌, Option, Some, None, length, min, nat_lt, nat_le, refl, ap, sym, ◌∙◌, arith}
 use Rattle.std.specs.Option.{option_map}
 use Rattle.std.specs.List.{list_all}
 use Rattle.std.specs.Char.{digit_value}
@@ -17,9 +17,6 @@ all_digits (c ∷ cs) h =
     let two = and_parts (nat_lt (digit_value c) 16) (list_all (λ c. nat_lt (digit_value c) 16) cs) h in
     (grind (arith, nat_tests), all_digits cs two.1)
 
-value_small : (ds : List ℕ) → length ds ≤ 4 → AllDigits 16 ds → digits_value 16 ds < 65536
-value_small ds few all = omega (arith, digits_value-lt 16 ds all, pow-le-pow_right {n = 16} (omega arith) {i = length ds} {j = 4} few)
-
 small : (digits : List ℕ) (n : ℕ) → length digits ≤ 4 → unsigned_number 16 digits ≡ Some n → n < 65536
 unfolding unsigned_number
 small [] n few e = absurd (cc)
@@ -29,7 +26,7 @@ small (d ∷ ds) n few e = by (list_all (λ c. nat_lt (digit_value c) 16) (d ∷
     by true is =
         let same : Some (digits_value 16 (d ∷ ds)) ≡ Some n = rw is at e in
         let value : digits_value 16 (d ∷ ds) ≡ n = cc in
-        subst (λ x. x < 65536) value (value_small (d ∷ ds) few (all_digits (d ∷ ds) is))
+        omega (arith, value, digits_value-lt 16 (d ∷ ds) (all_digits (d ∷ ds) is), pow-le-pow_right {n = 16} (omega arith) {i = length (d ∷ ds)} {j = 4} few)
     by false is = let none : None ≡ Some n = rw is at e in absurd (cc)
 
 -- such a number is below 65536, and is given as it is
@@ -45,9 +42,6 @@ address_small digits n few e = by (unsigned_number 16 digits) refl e
         let same : n ≡ v = omega (arith, value, few) in
         (omega (arith, same, few), ap (λ x. Some x) same ∙ sym is)
 
-short : (n : ℕ) → n ≤ 4 → nat_le n 4 ≡ true
-short n few = grind (arith, nat_tests)
-
 pub hexadecimal_here : (digits : List ℕ) (n : ℕ) → length digits ≤ 4 → Some n ≡ unsigned_number 16 digits → Some n ≡ hexadecimal_in digits
 unfolding hexadecimal_in
-hexadecimal_here digits n few e = rw (short (length digits) few) e
+hexadecimal_here digits n few e = let short : nat_le (length digits) 4 ≡ true = grind (arith, nat_tests) in rw short e

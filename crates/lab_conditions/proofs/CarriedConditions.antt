@@ -34,12 +34,6 @@ pub record Carries (w v : WorldState) : Type 0 where
 abbrev pub Follows : {X : Type 0} → (ℕ → X → Bool) → (ℕ → X → Bool) → ℕ → List X → List X → Type 0
 Follows {X} f g n xs ys = (i j : ℕ) → j ≡ n + i → (x : X) → slice_get xs i ≡ Some x → f j x ≡ true → (y : X) × (slice_get ys i ≡ Some y) × (g j y ≡ true)
 
-tail : {X : Type 0} (f g : ℕ → X → Bool) (n : ℕ) (x y : X) (xs ys : List X) → Follows f g n (x ∷ xs) (y ∷ ys) → Follows f g (n + 1) xs ys
-tail f g n x y xs ys h i j e z at so = h (suc i) j (omega (arith, e)) z at so
-
-tail_none : {X : Type 0} (f g : ℕ → X → Bool) (n : ℕ) (x : X) (xs : List X) → Follows f g n (x ∷ xs) [] → Follows f g (n + 1) xs []
-tail_none f g n x xs h i j e z at so = let y = h (suc i) j (omega (arith, e)) z at so in absurd (let none : None ≡ Some y.0 = y.1 in cc)
-
 cond_le : (a b : Bool) (m n : ℕ) → m ≤ n → (a ≡ true → b ≡ true) → cond a 1 0 + m ≤ cond b 1 0 + n
 cond_le true b m n few h = rw (h refl) (omega (arith, few))
 cond_le false b m n few h = omega (arith, few)
@@ -51,9 +45,6 @@ so_many f n xs = count_by (λ e. f e.0 e.1) (enumerate_from n xs)
 one_more : {X : Type 0} (f : ℕ → X → Bool) (n : ℕ) (x : X) (xs : List X) → so_many f n (x ∷ xs) ≡ cond (f n x) 1 0 + so_many f (n + 1) xs
 one_more f n x xs = sum_by-cons (λ e. cond (f e.0 e.1) 1 0) (n, x) (enumerate_from (n + 1) xs)
 
-none_so : {X : Type 0} (f g : ℕ → X → Bool) (n : ℕ) (x : X) (xs : List X) → Follows f g n (x ∷ xs) [] → f n x ≡ true → false ≡ true
-none_so f g n x xs h so = let y = h 0 n (omega arith) x refl so in absurd (let none : None ≡ Some y.0 = y.1 in cc)
-
 first_so : {X : Type 0} (f g : ℕ → X → Bool) (n : ℕ) (x y : X) (xs ys : List X) → Follows f g n (x ∷ xs) (y ∷ ys) → f n x ≡ true → g n y ≡ true
 first_so f g n x y xs ys h so =
     let z = h 0 n (omega arith) x refl so in
@@ -64,10 +55,10 @@ first_so f g n x y xs ys h so =
 pub count_le : {X : Type 0} (f g : ℕ → X → Bool) (n : ℕ) (xs ys : List X) → Follows f g n xs ys → so_many f n xs ≤ so_many g n ys
 count_le f g n [] ys h = omega arith
 count_le f g n (x ∷ xs) [] h =
-    let rest = cond_le (f n x) false (so_many f (n + 1) xs) 0 (count_le f g (n + 1) xs [] (tail_none f g n x xs h)) (none_so f g n x xs h) in
+    let rest = cond_le (f n x) false (so_many f (n + 1) xs) 0 (count_le f g (n + 1) xs [] (λ i j e. h (suc i) j (omega (arith, e)))) (λ so. let y = h 0 n (omega arith) x refl so in absurd (let none : None ≡ Some y.0 = y.1 in cc)) in
     omega (arith, rest, one_more f n x xs)
 count_le f g n (x ∷ xs) (y ∷ ys) h =
-    let rest = cond_le (f n x) (g n y) (so_many f (n + 1) xs) (so_many g (n + 1) ys) (count_le f g (n + 1) xs ys (tail f g n x y xs ys h)) (first_so f g n x y xs ys h) in
+    let rest = cond_le (f n x) (g n y) (so_many f (n + 1) xs) (so_many g (n + 1) ys) (count_le f g (n + 1) xs ys (λ i j e. h (suc i) j (omega (arith, e)))) (first_so f g n x y xs ys h) in
     omega (arith, rest, one_more f n x xs, one_more g n y ys)
 
 many : (x : State) (w v : WorldState) → Carries w v → how_many x w ≤ how_many x v

@@ -1,5 +1,5 @@
 -- Conditions that hold over any kernel.
-use Rattle.std.proofs.Common.{ℕ, ◌≡◌, ◌≤◌, false, List, [], ◌∷◌, All, refl, ◌∙◌, arith}
+use Rattle.std.proofs.Common.{ℕ, ◌≡◌, false, List, [], ◌∷◌, All, refl, ◌∙◌, arith}
 use Rattle.std.specs.List.{list_any}
 use Rattle.std.proofs.lemmas.Bool.{or_parts}
 use Rattle.std.proofs.lemmas.List.Elements.{All-nil, All-cons}
@@ -10,7 +10,7 @@ use Rattle.lab_conditions.specs.declared.condition.State.TheVariants as state
 use Rattle.lab_conditions.specs.declared.condition.Part.{Part}
 use Rattle.lab_conditions.specs.declared.condition.Part.TheVariants.{Semaphore, Queue, Of, MoreThan}
 use Rattle.lab_conditions.specs.declared.condition.Condition.{Condition}
-use Rattle.lab_conditions.specs.Conditions.{is_so, how_many, PartHolds, world_of, needs_kernel, part_needs_kernel, HoldsOverAny}
+use Rattle.lab_conditions.specs.Conditions.{is_so, PartHolds, world_of, needs_kernel, part_needs_kernel, HoldsOverAny}
 use Rattle.lab_conditions.proofs.CarriedConditions.{count_le}
 
 -- a process stands so, or doesn't, whatever the kernel
@@ -21,10 +21,6 @@ so_over_any : (x : State) → needs_kernel x ≡ false → IsSoOverAny x
 so_over_any state.Blocked free = absurd (cc)
 so_over_any _ free = λ k j p s. refl
 
--- no fewer processes stand so over another kernel
-no_fewer : (x : State) → IsSoOverAny x → (k j : KernelState) (ps : List Process) → how_many x (world_of k ps) ≤ how_many x (world_of j ps)
-no_fewer x any k j ps = count_le (λ p s. is_so x k p s) (λ p s. is_so x j p s) 0 ps ps (λ i p e s at so. (s, at, any j k p s ∙ so))
-
 -- a part holds of some processes over any kernel, where it holds of them over one
 abbrev PartHoldsOverAny : Part → Type 0
 PartHoldsOverAny part = (k j : KernelState) (ps : List Process) → PartHolds part (world_of k ps) → PartHolds part (world_of j ps)
@@ -33,7 +29,9 @@ part_over_any : (part : Part) → part_needs_kernel part ≡ false → PartHolds
 part_over_any (Semaphore name r x) free = absurd (cc)
 part_over_any (Queue name r x) free = absurd (cc)
 part_over_any (Of p x) free = λ k j ps h. (h.0, h.1, so_over_any x free j k p h.0 ∙ h.2)
-part_over_any (MoreThan x n) free = λ k j ps h. let few = no_fewer x (so_over_any x free) k j ps in omega (arith, h, few)
+part_over_any (MoreThan x n) free = λ k j ps h.
+    let few = count_le (λ p s. is_so x k p s) (λ p s. is_so x j p s) 0 ps ps (λ i p e s at so. (s, at, so_over_any x free j k p s ∙ so)) in
+    omega (arith, h, few)
 
 parts_over_any : (parts : List Part) → list_any part_needs_kernel parts ≡ false → All PartHoldsOverAny parts
 parts_over_any [] none = All-nil PartHoldsOverAny

@@ -3,7 +3,7 @@ ghost use Rattle.std.specs.Prelude.{◌≡◌, ◌↔◌, ◌<◌, false, All, S
 ghost use Rattle.std.specs.List.{list_any};
 ghost use Rattle.lab_sched.specs.Held.{process_view};
 ghost use Rattle.lab_sched.specs.Worlds.{Process as Seen};
-ghost use Rattle.lab_conditions.specs.Conditions.{is_so, how_many, PartHolds, Holds, NamesOnly, world_of, needs_kernel, part_needs_kernel, HoldsOverAny};
+ghost use Rattle.lab_conditions.specs.Conditions.{is_so, how_many, PartHolds, Holds, NamesOnly, world_of, part_needs_kernel, HoldsOverAny};
 
 use crate::places::{has_queue, has_semaphore};
 use crate::{Condition, Part, State};
@@ -43,14 +43,6 @@ fn is_one_so(
     match processes.get(pid) {
         Some(process) => state.is_so(alloc, kernel, pid, process),
         None => Ok(false),
-    }
-}
-
-impl State {
-    fn needs_kernel(self) -> bool
-        ensures value { result ≡ needs_kernel self }
-    {
-        matches!(self, State::Blocked)
     }
 }
 
@@ -95,7 +87,9 @@ impl Part {
     {
         match self {
             Part::Semaphore { .. } | Part::Queue { .. } => true,
-            Part::Of { state, .. } | Part::MoreThan { state, .. } => state.needs_kernel(),
+            Part::Of { state, .. } | Part::MoreThan { state, .. } => {
+                matches!(state, State::Blocked)
+            }
         }
     }
 }

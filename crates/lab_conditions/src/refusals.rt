@@ -1,6 +1,6 @@
 //! Steps by which a call is refused.
 ghost use Rattle.std.specs.Prelude.{◌≡◌};
-ghost use Rattle.lab_conditions.specs.Refusals.{error_told, is_error, is_process, is_refused};
+ghost use Rattle.lab_conditions.specs.Refusals.{error_told, is_process, is_refused};
 
 use ipc_kernel::Reply;
 use ipc_names::Errno;
@@ -25,15 +25,6 @@ fn error_told(stepped: &Stepped) -> Option<u16>
     }
 }
 
-fn is_error(error: Option<Errno>, number: u16) -> bool
-    ensures value { result ≡ is_error error number }
-{
-    match error {
-        Some(error) => number == error.number(),
-        None => number != Errno::Again.number(),
-    }
-}
-
 impl Refusal {
     /// Whether the calls of process `pid` are meant.
     pub fn is_process(&self, pid: usize) -> bool
@@ -49,6 +40,10 @@ impl Refusal {
     pub fn is_refused(&self, stepped: &Stepped) -> bool
         ensures value { result ≡ is_refused self.now stepped.now }
     {
-        error_told(stepped).is_some_and(|number| is_error(self.error, number))
+        match (error_told(stepped), self.error) {
+            (Some(number), Some(error)) => number == error.number(),
+            (Some(number), None) => number != Errno::Again.number(),
+            (None, _) => false,
+        }
     }
 }

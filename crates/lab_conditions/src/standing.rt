@@ -2,7 +2,7 @@
 ghost use Rattle.std.specs.Prelude.{◌≡◌, IfOk, IfSome};
 ghost use Rattle.lab_sched.specs.Worlds.{next_action};
 ghost use Rattle.lab_sched.specs.Held.{process_view};
-ghost use Rattle.lab_conditions.specs.Conditions.{must_wait, call_next, call_of, StandsAt, is_blocked, has_crashed, stands_from, is_so};
+ghost use Rattle.lab_conditions.specs.Conditions.{must_wait, call_next, call_of, StandsAt, is_blocked, stands_from, is_so};
 
 use crate::State;
 use ipc_kernel::{Call, Kernel};
@@ -60,12 +60,6 @@ fn is_blocked(
     }
 }
 
-fn has_crashed(process: &Process) -> bool
-    ensures value { result ≡ has_crashed (process_view process.now) }
-{
-    matches!(process, Process::Ended(ended) if !matches!(ended.how(), How::Halt))
-}
-
 fn stands_from(alloc: Global, first: u16, last: u16, process: &Process) -> Result<bool, AllocError>
     ensures value { IfOk result
         (λ stands. stands ≡ stands_from first last (process_view process.now)) }
@@ -92,7 +86,9 @@ impl State {
         match self {
             State::Blocked => is_blocked(alloc, kernel, pid, process),
             State::Ended => Ok(matches!(process, Process::Ended(_))),
-            State::Crashed => Ok(has_crashed(process)),
+            State::Crashed => Ok(
+                matches!(process, Process::Ended(ended) if !matches!(ended.how(), How::Halt)),
+            ),
             State::At { first, last } => stands_from(alloc, first, last, process),
         }
     }

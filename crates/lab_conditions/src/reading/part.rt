@@ -1,7 +1,7 @@
 //! Reading one part of a condition.
 ghost use Rattle.std.specs.Prelude.{◌≡◌, IfOk, map};
 ghost use Rattle.std.specs.Option.{option_map, option_and_then};
-ghost use Rattle.lab_conditions.specs.Written.{relation_in, state_in, compared_in, name_of, state_of, state_of_some, processes_in, part_in};
+ghost use Rattle.lab_conditions.specs.Written.{relation_in, state_in, compared_in, name_of, state_of_some, processes_in, part_in};
 ghost use Rattle.ipc_names.specs.Name.{name_read};
 ghost use Rattle.lab_conditions.specs.declared.condition.Part.TheVariants.{Semaphore, Queue};
 
@@ -38,17 +38,12 @@ fn name_in(alloc: Global, word: &str) -> Result<Option<Name>, AllocError>
     Ok(Name::read(alloc, &words)?.ok())
 }
 
-#[derive(Drop)]
-struct Compared {
-    name: Name,
-    relation: Relation,
-    value: u16,
-}
+/// A name, how a number stands to another, and the other.
+type Compared = (Name, Relation, u16);
 
 /// `NAME > N`, `NAME < N` or `NAME = N`
 fn read_compared(alloc: Global, words: &[&str]) -> Result<Option<Compared>, AllocError>
-    ensures value { IfOk result (λ read. option_map (λ c. (c.name, c.relation, c.value)) read
-        ≡ compared_in (map (λ word. word.now) words.now)) }
+    ensures value { IfOk result (λ read. read ≡ compared_in (map (λ word. word.now) words.now)) }
 {
     let [name, sign, number] = words else {
         return Ok(None);
@@ -59,18 +54,11 @@ fn read_compared(alloc: Global, words: &[&str]) -> Result<Option<Compared>, Allo
     let (Some(relation), Some(value)) = (relation_in(sign), number_in(number)) else {
         return Ok(None);
     };
-    Ok(Some(Compared {
-        name,
-        relation,
-        value,
-    }))
+    Ok(Some((name, relation, value)))
 }
 
-/// A state of processes, with the words behind it.
-type Front<'a, 'b> = (State, &'a [&'b str]);
-
-/// `blocked`, `ended`, `crashed`, `at A` or `at A-B`
-fn read_state<'a, 'b>(words: &'a [&'b str]) -> Option<Front<'a, 'b>>
+/// `blocked`, `ended`, `crashed`, `at A` or `at A-B`, with the words behind it
+fn read_state<'a, 'b>(words: &'a [&'b str]) -> Option<(State, &'a [&'b str])>
     ensures value { option_map (λ front. (front.0, map (λ word. word.now) front.1.now)) result
         ≡ state_in (map (λ word. word.now) words.now) }
 {
@@ -89,14 +77,6 @@ fn read_state<'a, 'b>(words: &'a [&'b str]) -> Option<Front<'a, 'b>>
         return Some((range_in(word)?, rest));
     }
     None
-}
-
-fn read_state_of(process: usize, words: &[&str]) -> Option<Part>
-    ensures value { result
-        ≡ option_and_then (state_of process) (state_in (map (λ word. word.now) words.now)) }
-{
-    let (state, rest) = read_state(words)?;
-    rest.is_empty().then_some(Part::Of { process, state })
 }
 
 /// A state of some process, or behind it `> N`
@@ -120,7 +100,10 @@ fn read_processes(words: &[&str]) -> Option<Part>
 {
     let (word, rest) = words.split_first()?;
     match process_in(word) {
-        Some(process) => read_state_of(process, rest),
+        Some(process) => {
+            let (state, rest) = read_state(rest)?;
+            rest.is_empty().then_some(Part::Of { process, state })
+        }
         None => read_state_of_some(words),
     }
 }
@@ -133,22 +116,16 @@ pub(crate) fn read_part(alloc: Global, words: &[&str]) -> Result<Option<Part>, A
         return Ok(None);
     };
     if is_word("sem", word) {
-        return Ok(read_compared(alloc, rest)?.map(|Compared {
-            name,
-            relation,
-            value,
-        }| Part::Semaphore {
+        let read = read_compared(alloc, rest)?;
+        return Ok(read.map(|(name, relation, value)| Part::Semaphore {
             name,
             relation,
             value,
         }));
     }
     if is_word("mq", word) {
-        return Ok(read_compared(alloc, rest)?.map(|Compared {
-            name,
-            relation,
-            value,
-        }| Part::Queue {
+        let read = read_compared(alloc, rest)?;
+        return Ok(read.map(|(name, relation, value)| Part::Queue {
             name,
             relation,
             value,
