@@ -51,10 +51,9 @@ fn without_operands(operation: Operation) -> Option<Instr>
     ensures words { Encodes result operation [] }
 {
     match operation {
-        Operation::Return => {
-            let base = Reg::of_low_bits(7);
-            Some(Instr::Jmp { base })
-        }
+        Operation::Return => Some(Instr::Jmp {
+            base: Reg::of_low_bits(7),
+        }),
         Operation::ReturnInterrupt => Some(Instr::Rti),
         Operation::Getc => Some(console_trap(ConsoleTrap::Getc)),
         Operation::Out => Some(console_trap(ConsoleTrap::Out)),
@@ -68,17 +67,6 @@ fn without_operands(operation: Operation) -> Option<Instr>
             p: false,
             offset: Off::of_low_bits(0),
         }),
-        _ => None,
-    }
-}
-
-#[tactic(auto, unfolding(crate::specs::Meaning::instruction))]
-fn with_register(operation: Operation, base: Reg) -> Option<Instr>
-    ensures words { Encodes result operation (Register base ∷ []) }
-{
-    match operation {
-        Operation::Jump => Some(Instr::Jmp { base }),
-        Operation::JumpSubroutineRegister => Some(Instr::Jsrr { base }),
         _ => None,
     }
 }
@@ -108,16 +96,6 @@ fn with_number(operation: Operation, number: i64) -> Option<Instr>
     }
 }
 
-#[tactic(auto, unfolding(crate::specs::Meaning::instruction))]
-fn with_registers(operation: Operation, dr: Reg, sr: Reg) -> Option<Instr>
-    ensures words { Encodes result operation (Register dr ∷ Register sr ∷ []) }
-{
-    match operation {
-        Operation::Not => Some(Instr::Not { dr, sr }),
-        _ => None,
-    }
-}
-
 /// Loads and stores by a PC offset.
 #[tactic(auto, unfolding(crate::specs::Meaning::instruction))]
 fn with_target(operation: Operation, dr: Reg, number: i64) -> Option<Instr>
@@ -131,18 +109,6 @@ fn with_target(operation: Operation, dr: Reg, number: i64) -> Option<Instr>
         Operation::LoadAddress => Some(Instr::Lea { dr, offset }),
         Operation::Store => Some(Instr::St { sr, offset }),
         Operation::StoreIndirect => Some(Instr::Sti { sr, offset }),
-        _ => None,
-    }
-}
-
-#[tactic(auto, unfolding(crate::specs::Meaning::instruction))]
-fn with_sources(operation: Operation, dr: Reg, sr1: Reg, sr2: Reg) -> Option<Instr>
-    ensures words { Encodes result operation (Register dr ∷ Register sr1 ∷ Register sr2 ∷ []) }
-{
-    let operand = Operand::Register(sr2);
-    match operation {
-        Operation::Add => Some(Instr::Add { dr, sr1, operand }),
-        Operation::And => Some(Instr::And { dr, sr1, operand }),
         _ => None,
     }
 }
@@ -169,22 +135,36 @@ fn with_registers_and_number(operation: Operation, dr: Reg, base: Reg, number: i
 pub fn instruction(operation: Operation, fields: &[Field]) -> Option<Instr>
     ensures words { Encodes result operation fields.now }
 {
-    match fields {
+    match *fields {
         [] => without_operands(operation),
-        [Field::Register(base)] => with_register(operation, *base),
-        [Field::Number(number)] => with_number(operation, *number),
-        [Field::Register(dr), Field::Register(sr)] => with_registers(operation, *dr, *sr),
-        [Field::Register(dr), Field::Number(number)] => with_target(operation, *dr, *number),
+        [Field::Register(base)] => match operation {
+            Operation::Jump => Some(Instr::Jmp { base }),
+            Operation::JumpSubroutineRegister => Some(Instr::Jsrr { base }),
+            _ => None,
+        },
+        [Field::Number(number)] => with_number(operation, number),
+        [Field::Register(dr), Field::Register(sr)] => match operation {
+            Operation::Not => Some(Instr::Not { dr, sr }),
+            _ => None,
+        },
+        [Field::Register(dr), Field::Number(number)] => with_target(operation, dr, number),
         [
             Field::Register(dr),
             Field::Register(sr1),
             Field::Register(sr2),
-        ] => { with_sources(operation, *dr, *sr1, *sr2) }
+        ] => {
+            let operand = Operand::Register(sr2);
+            match operation {
+                Operation::Add => Some(Instr::Add { dr, sr1, operand }),
+                Operation::And => Some(Instr::And { dr, sr1, operand }),
+                _ => None,
+            }
+        }
         [
             Field::Register(dr),
             Field::Register(base),
             Field::Number(number),
-        ] => { with_registers_and_number(operation, *dr, *base, *number) }
+        ] => { with_registers_and_number(operation, dr, base, number) }
         _ => None,
     }
 }
