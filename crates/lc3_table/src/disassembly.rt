@@ -2,7 +2,7 @@
 
 ghost use Rattle.std.specs.Prelude.{◌≡◌, [], ◌∷◌, ◌++◌, Some, OnOk, IfOk, string_bytes};
 ghost use Rattle.lc3_table.specs.Meaning.{HasWords};
-ghost use Rattle.lc3_table.specs.Text.{operand_text, branch_text, trap_text, instruction_text, data_text, word_text, line_text, image_lines};
+ghost use Rattle.lc3_table.specs.Text.{operand_text, branch_text, instruction_text, data_text, word_text, image_lines};
 
 use crate::decoding::decode;
 use crate::instr::{Instr, Operand};
@@ -60,26 +60,10 @@ impl fmt::Display for Branch {
     }
 }
 
-/// A trap: the console traps go by name.
-#[derive(Clone, Copy)]
-struct Vector(u8);
-
-impl fmt::Display for Vector {
-    ghost output = { λ v. Some (trap_text v.0) };
-
-    #[tactic(auto, using(std::proofs::lemmas::Fmt::hex_byte))]
-    fn fmt<W: fmt::Write>(&self, f: &mut fmt::Formatter<W>) -> fmt::Result {
-        let vector = self.0;
-        match ConsoleTrap::of_vector(vector) {
-            Some(trap) => write!(f, "{}", trap.name()),
-            None => write!(f, "TRAP x{vector:02X}"),
-        }
-    }
-}
-
 impl fmt::Display for Instr {
     ghost output = { λ i. Some (instruction_text i) };
 
+    #[tactic(auto, using(std::proofs::lemmas::Fmt::hex_byte))]
     fn fmt<W: fmt::Write>(&self, f: &mut fmt::Formatter<W>) -> fmt::Result {
         match *self {
             Instr::Add { dr, sr1, operand } => write!(f, "ADD {dr},{sr1},{operand}"),
@@ -103,7 +87,10 @@ impl fmt::Display for Instr {
             Instr::Sti { sr, offset } => write!(f, "STI {sr},{offset}"),
             Instr::Str { sr, base, offset } => write!(f, "STR {sr},{base},{offset}"),
             Instr::Rti => write!(f, "RTI"),
-            Instr::Trap { vector } => write!(f, "{}", Vector(vector)),
+            Instr::Trap { vector } => match ConsoleTrap::of_vector(vector) {
+                Some(trap) => write!(f, "{}", trap.name()),
+                None => write!(f, "TRAP x{vector:02X}"),
+            },
         }
     }
 }
@@ -135,22 +122,22 @@ pub fn text(alloc: Global, word: u16) -> Result<String, AllocError>
     WordText(word).to_string(alloc)
 }
 
-#[tactic(auto, unfolding(crate::specs::Text::line_text))]
-fn push_line(text: &mut String, address: u16, word: u16) -> Result<(), AllocError>
-    ensures text { OnOk result (string_bytes text.new
-        ≡ string_bytes text.old ++ line_text address word) }
-{
-    write!(text, "{} {} {}\n", Hex(address), Hex(word), WordText(word))
-}
-
 /// A line for each word of an image: its address, the word and its text, as `x3000 xE002 LEA R0,#2`.
+#[tactic(auto, unfolding(crate::specs::Text::line_text))]
 pub fn image_text(alloc: Global, image: &Image) -> Result<String, AllocError>
     ensures text { IfOk result (λ s. string_bytes s ≡ image_lines image.now) }
 {
     let mut text = String::new(alloc);
     let origin = image.origin();
     for (i, word) in image.words().iter().enumerate() {
-        push_line(&mut text, origin + i as u16, *word)?;
+        let address = origin + i as u16;
+        write!(
+            text,
+            "{} {} {}\n",
+            Hex(address),
+            Hex(*word),
+            WordText(*word)
+        )?;
     }
     Ok(text)
 }
