@@ -1,8 +1,8 @@
 //! The console traps. Each looks at its input or string, then makes room for what it writes, and only then writes.
 
-ghost use Rattle.std.specs.Prelude.{[], ◌∷◌, ◌≡◌, ◌++◌, ◌+◌, ◌*◌, ◌<◌, ◌≤◌, map, take, flat_map, vec_len, vec_capacity};
+ghost use Rattle.std.specs.Prelude.{[], ◌∷◌, ◌≡◌, ◌++◌, ◌+◌, ◌*◌, ◌<◌, ◌≤◌, map, take, flat_map, vec_len, vec_capacity, if◌then◌else◌};
 ghost use Rattle.lc3_word.specs.Segment.{first_device};
-ghost use Rattle.lc3_machine.specs.Console.{prompt, words_from, low_byte, packed_bytes, getc, out, puts, outcome_of_in, putsp};
+ghost use Rattle.lc3_machine.specs.Console.{words_from, low_byte, packed_bytes, getc, out, puts, outcome_of_in, putsp};
 ghost use Rattle.lc3_machine.specs.Effects.{outcome_of_trap};
 ghost use Rattle.lc3_machine.specs.Private.Carried.{CarriedOut};
 
@@ -62,44 +62,37 @@ impl Machine {
             None => Progress::Stopped(Want::End(How::NoInput)),
             Some(byte) => {
                 self.regs.set(0, byte as u16);
-                write_echo(&mut self.output, byte);
+                let _ = self.output.extend_from_slice(PROMPT);
+                let _ = self.output.extend_from_slice(&[byte, b'\n']);
                 self.return_from_trap();
                 Progress::Moved
             }
         }
     }
 
-    /// PUTS: the low bytes of the string whose address is in R0.
+    /// PUTS or PUTSP: the low bytes, or both bytes, of each word of the string whose address is in R0.
     #[inline(never)]
-    fn puts(&mut self) -> Progress
-        ensures puts { CarriedOut (puts self.old.process) self.old.process result self.new.process }
-    {
-        let address = self.regs.get(0);
-        let Some(count) = self.memory.string_len(address) else {
-            return Progress::Stopped(Want::End(How::Device));
-        };
-        if self.output.try_reserve(count as usize).is_err() {
-            return Progress::Short;
-        }
-        write_low_bytes(&mut self.output, &self.memory, address, count);
-        self.return_from_trap();
-        Progress::Moved
-    }
-
-    /// PUTSP: both bytes of each word of the string whose address is in R0.
-    #[inline(never)]
-    fn putsp(&mut self) -> Progress
-        ensures putsp { CarriedOut (putsp self.old.process)
+    fn put_string(&mut self, is_packed: bool) -> Progress
+        ensures string { CarriedOut (if is_packed then putsp self.old.process else puts self.old.process)
             self.old.process result self.new.process }
     {
         let address = self.regs.get(0);
         let Some(count) = self.memory.string_len(address) else {
             return Progress::Stopped(Want::End(How::Device));
         };
-        if self.output.try_reserve(2 * count as usize).is_err() {
+        let room = if is_packed {
+            2 * count as usize
+        } else {
+            count as usize
+        };
+        if self.output.try_reserve(room).is_err() {
             return Progress::Short;
         }
-        write_packed_bytes(&mut self.output, &self.memory, address, count);
+        if is_packed {
+            write_packed_bytes(&mut self.output, &self.memory, address, count);
+        } else {
+            write_low_bytes(&mut self.output, &self.memory, address, count);
+        }
         self.return_from_trap();
         Progress::Moved
     }
@@ -114,23 +107,14 @@ impl Machine {
         match ConsoleTrap::of_vector(vector) {
             Some(ConsoleTrap::Getc) => self.getc(),
             Some(ConsoleTrap::Out) => self.out(),
-            Some(ConsoleTrap::Puts) => self.puts(),
+            Some(ConsoleTrap::Puts) => self.put_string(false),
             Some(ConsoleTrap::In) => self.ask(),
-            Some(ConsoleTrap::Putsp) => self.putsp(),
+            Some(ConsoleTrap::Putsp) => self.put_string(true),
             Some(ConsoleTrap::Halt) => Progress::Stopped(Want::End(How::Halt)),
             None if is_kernel_vector(vector) => Progress::Stopped(Want::Trap(vector)),
             None => Progress::Stopped(Want::End(How::BadTrap)),
         }
     }
-}
-
-/// Writes a prompt, a byte and a line feed, for which there is room.
-fn write_echo(output: &mut Vec<u8>, byte: u8)
-    requires room { vec_len output.old + 21 ≤ vec_capacity output.old }
-    ensures written { output.new.items ≡ output.old.items ++ (prompt ++ byte ∷ 10 ∷ []) }
-{
-    let _ = output.extend_from_slice(PROMPT);
-    let _ = output.extend_from_slice(&[byte, b'\n']);
 }
 
 /// Writes the low bytes of words of memory, for which there is room.
