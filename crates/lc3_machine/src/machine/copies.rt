@@ -5,7 +5,6 @@ ghost use Rattle.lc3_machine.specs.Process.{with_whole_output};
 
 use super::Machine;
 use crate::input::Input;
-use lc3_word::Cc;
 use std::alloc::{AllocError, Global};
 use std::hash::{FoldHasher, Hasher};
 use std::mem::size_of;
@@ -50,11 +49,7 @@ impl Machine {
     /// Adds the process to a digest.
     pub(crate) fn feed(&self, hasher: &mut FoldHasher) {
         hasher.write_u16(self.pc);
-        hasher.write_u8(match self.cc() {
-            Cc::N => 0,
-            Cc::Z => 1,
-            Cc::P => 2,
-        });
+        hasher.write_u8(self.cc() as u8);
         self.regs.feed(hasher);
         let left = self.input.left();
         hasher.write_usize(left.len());

@@ -20,13 +20,7 @@ impl Running {
     pub fn step(self) -> Local
         ensures step { IsStep self.process result }
     {
-        let mut running = self;
-        let (_, progress) = running.advance(1);
-        match progress {
-            Progress::Moved => Local::Running(running),
-            Progress::Stopped(want) => Local::AtCall(AtCall { running, want }),
-            Progress::Short => Local::Short(running),
-        }
+        self.run_local(1).0
     }
 
     /// Does at most this many instructions, as `step` does each; with how many were done.

@@ -3,7 +3,6 @@
 ghost use Rattle.std.specs.Prelude.{◌≡◌, ◌↔◌, IfOk, IsTrue};
 
 use super::{AtCall, Ended, Running, Waiting};
-use crate::want::How;
 use std::alloc::{AllocError, Global};
 use std::hash::{FoldHasher, Hasher};
 
@@ -29,25 +28,16 @@ impl Running {
     }
 }
 
-impl AtCall {
-    /// An equal process, which stands before the same call or end.
-    fn copy(&self, alloc: Global) -> Result<AtCall, AllocError>
-        ensures equal { IfOk result (λ copy. copy ≡ self.now) }
-    {
-        Ok(AtCall {
-            running: self.running.copy(alloc)?,
-            want: self.want,
-        })
-    }
-}
-
 impl Waiting {
     /// An equal process, of which the same can be written without taking memory.
     pub fn copy(&self, alloc: Global) -> Result<Waiting, AllocError>
         ensures equal { IfOk result (λ copy. copy ≡ self.now) }
     {
         Ok(Waiting {
-            call: self.call.copy(alloc)?,
+            call: AtCall {
+                running: self.call.running.copy(alloc)?,
+                want: self.call.want,
+            },
         })
     }
 
@@ -86,13 +76,7 @@ impl Ended {
     /// A number that is the same for equal processes and, as a rule, another for others.
     pub fn digest(&self) -> u64 {
         let mut hasher = FoldHasher::default();
-        hasher.write_u8(match self.how {
-            How::Halt => 0,
-            How::Illegal => 1,
-            How::Device => 2,
-            How::BadTrap => 3,
-            How::NoInput => 4,
-        });
+        hasher.write_u8(self.how as u8);
         self.machine.feed(&mut hasher);
         hasher.finish()
     }

@@ -3,7 +3,7 @@
 ghost use Rattle.std.specs.Prelude.{◌≡◌};
 ghost use Rattle.lc3_machine.specs.Process.{with_whole_output};
 
-use super::{AtCall, Ended, Running, Waiting};
+use super::{Ended, Running, Waiting};
 
 impl Running {
     /// Puts this output in the place of the process's own.
@@ -15,16 +15,6 @@ impl Running {
     }
 }
 
-impl AtCall {
-    #[tactic(auto, using(crate::proofs::Outputs::stops_whatever_output))]
-    fn set_output(&mut self, output: Vec<u8>)
-        ensures output { self.new.process ≡ with_whole_output self.old.process output.items }
-        ensures ready { self.new.ready ≡ self.old.ready }
-    {
-        self.running.set_output(output);
-    }
-}
-
 impl Waiting {
     /// Puts this output in the place of the process's own.
     #[tactic(auto, using(crate::proofs::Outputs::stops_whatever_output))]
@@ -32,7 +22,7 @@ impl Waiting {
         ensures output { self.new.process ≡ with_whole_output self.old.process output.items }
         ensures ready { self.new.ready ≡ self.old.ready }
     {
-        self.call.set_output(output);
+        self.call.running.set_output(output);
     }
 }
 
