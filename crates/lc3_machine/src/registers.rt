@@ -25,7 +25,6 @@ impl Registers {
         Registers { words: [0; 8] }
     }
 
-    /// What a register holds.
     #[inline(always)]
     pub(crate) fn get(&self, number: u8) -> u16
         requires number { number < 8 }
@@ -34,7 +33,6 @@ impl Registers {
         self.words[number as usize]
     }
 
-    /// Writes a register.
     #[inline(always)]
     pub(crate) fn set(&mut self, number: u8, word: u16)
         requires number { number < 8 }
@@ -43,21 +41,18 @@ impl Registers {
         self.words[number as usize] = word;
     }
 
-    /// Equal registers.
     pub(crate) fn copy(&self) -> Registers
         ensures equal { result ≡ self.now }
     {
         Registers { words: self.words }
     }
 
-    /// Whether all registers hold the same.
     pub(crate) fn is_same(&self, other: &Registers) -> bool
         ensures same { IsTrue result ↔ (self.now ≡ other.now) }
     {
         self.words == other.words
     }
 
-    /// Adds the registers to a digest.
     pub(crate) fn feed(&self, hasher: &mut FoldHasher) {
         for word in &self.words {
             hasher.write_u16(*word);
