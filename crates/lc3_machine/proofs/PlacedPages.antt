@@ -1,5 +1,5 @@
 -- Pages that stand among words: one that is read, written, or made.
-use Rattle.std.proofs.Common.{◌≡◌, ◌≢◌, ◌⊎◌, ℕ, zero, suc, [], ◌∷◌, ◌+◌, ◌<◌, ◌≤◌, Bool, true, false, List, ◌++◌, length, take, drop, get_or, set, map, replicate, nat_lt, inl, inr, refl, sym, ap, ◌∙◌, arith, length-append, length-take-le, get_or-take}
+use Rattle.std.proofs.Common.{◌≡◌, ◌≢◌, ◌⊎◌, ℕ, zero, suc, [], ◌∷◌, ◌+◌, ◌-◌, ◌<◌, ◌≤◌, Bool, true, false, List, ◌++◌, length, take, drop, get_or, set, map, replicate, nat_lt, inl, inr, refl, sym, ap, ◌∙◌, arith, length-append, length-take-le, get_or-take}
 use Rattle.std.proofs.lemmas.Bool.{cases_eq}
 use Rattle.std.proofs.lemmas.Bool.Decides.{nat_tests}
 use Rattle.std.proofs.lemmas.List.{ext_get_or, get_or-drop, get_or-set_same, get_or-set_other, get_or-map, get_or-replicate, get_or_append_left, get_or-append-add, take_all, length-drop, length-map, length-replicate, length-set, map-set}
@@ -74,33 +74,33 @@ pub pages-count : (ws starts : List ℕ) → ArePages ws starts → length (page
 pages-count ws starts inv = length-map starts (page_at ws) ∙ inv.count
 
 -- a page by its index
-page-is : (ws starts : List ℕ) (i : ℕ) (d : PageWords) → ArePages ws starts → i < 256 → get_or (pages_at ws starts) i d ≡ page_at ws (get_or starts i 0)
-page-is ws starts i d inv h = get_or-map (page_at ws) starts i 0 d (omega (arith, inv.count))
+page-is : (ws starts : List ℕ) (i : ℕ) → ArePages ws starts → i < 256 → get_or (pages_at ws starts) i absent_page ≡ page_at ws (get_or starts i 0)
+page-is ws starts i inv h = get_or-map (page_at ws) starts i 0 absent_page (omega (arith, inv.count))
 
 -- each has 256 words
 pub pages-whole : (ws starts : List ℕ) → ArePages ws starts → AreWhole (pages_at ws starts)
-pages-whole ws starts inv = λ i d h.
+pages-whole ws starts inv = λ i h.
     let below : i < 256 = omega (arith, pages-count ws starts inv) in
-    ap (λ p. length p.words) (page-is ws starts i d inv below) ∙ window-length ws (get_or starts i 0) (start-of ws starts i inv below).inside
+    ap (λ p. length p.words) (page-is ws starts i inv below) ∙ window-length ws (get_or starts i 0) (start-of ws starts i inv below).inside
 
 -- a word that is read
-pub page-word : (ws starts : List ℕ) (i k : ℕ) (d : PageWords) → ArePages ws starts → i < 256 → k < 256 → get_or ws (get_or starts i 0 + k) 0 ≡ get_or ((get_or (pages_at ws starts) i d).words) k 0
-page-word ws starts i k d inv h below = sym (ap (λ p. get_or p.words k 0) (page-is ws starts i d inv h) ∙ window-get ws (get_or starts i 0) k below)
+pub page-word : (ws starts : List ℕ) (i k : ℕ) → ArePages ws starts → i < 256 → k < 256 → get_or ws (get_or starts i 0 + k) 0 ≡ get_or ((get_or (pages_at ws starts) i absent_page).words) k 0
+page-word ws starts i k inv h below = sym (ap (λ p. get_or p.words k 0) (page-is ws starts i inv h) ∙ window-get ws (get_or starts i 0) k below)
 
 -- it stands among the words
 pub word-inside : (ws starts : List ℕ) (i k : ℕ) → ArePages ws starts → i < 256 → k < 256 → get_or starts i 0 + k < length ws
 word-inside ws starts i k inv h below = omega (arith, (start-of ws starts i inv h).inside)
 
 -- a page is made where it doesn't begin with the zeros
-pub page-made : (ws starts : List ℕ) (i : ℕ) (d : PageWords) → ArePages ws starts → i < 256 → (get_or (pages_at ws starts) i d).made ≡ nat_lt 0 (get_or starts i 0)
-page-made ws starts i d inv h = ap (λ p. p.made) (page-is ws starts i d inv h)
+pub page-made : (ws starts : List ℕ) (i : ℕ) → ArePages ws starts → i < 256 → (get_or (pages_at ws starts) i absent_page).made ≡ nat_lt 0 (get_or starts i 0)
+page-made ws starts i inv h = ap (λ p. p.made) (page-is ws starts i inv h)
 
 -- a page that isn't made has zeros
-pub page-blank : (ws starts : List ℕ) (i : ℕ) (d : PageWords) → ArePages ws starts → i < 256 → (get_or (pages_at ws starts) i d).made ≡ false → (get_or (pages_at ws starts) i d).words ≡ zeros 256
-page-blank ws starts i d inv h none =
-    let unmade : nat_lt 0 (get_or starts i 0) ≡ false = sym (page-made ws starts i d inv h) ∙ none in
+pub page-blank : (ws starts : List ℕ) (i : ℕ) → ArePages ws starts → i < 256 → (get_or (pages_at ws starts) i absent_page).made ≡ false → (get_or (pages_at ws starts) i absent_page).words ≡ zeros 256
+page-blank ws starts i inv h none =
+    let unmade : nat_lt 0 (get_or starts i 0) ≡ false = sym (page-made ws starts i inv h) ∙ none in
     let first : get_or starts i 0 ≡ 0 = grind (arith, nat_tests) in
-    ap (λ p. p.words) (page-is ws starts i d inv h) ∙ ap (λ s. take 256 (drop s ws)) first ∙ inv.blank
+    ap (λ p. p.words) (page-is ws starts i inv h) ∙ ap (λ s. take 256 (drop s ws)) first ∙ inv.blank
 
 -- a page that isn't the one that is written has none of its words
 apart-words : (ws starts : List ℕ) (i j k m : ℕ) → ArePages ws starts → i < 256 → j < 256 → k < 256 → m < 256 → 0 < get_or starts i 0 → (j ≡ i → ⊥) → (get_or starts j 0 + m) ≢ (get_or starts i 0 + k)
@@ -111,9 +111,9 @@ apart-words ws starts i j k m inv hi hj hk hm some other e =
     other (sym (inv.apart i j hi hj some same))
 
 -- the pages after a word of one that is made is written
-pub pages-written : (ws starts : List ℕ) (i k w : ℕ) (d : PageWords) → ArePages ws starts → i < 256 → k < 256 → 0 < get_or starts i 0
-    → pages_at (set ws (get_or starts i 0 + k) w) starts ≡ set (pages_at ws starts) i (page_written (get_or (pages_at ws starts) i d) k w)
-pages-written ws starts i k w d inv h below some =
+pub pages-written : (ws starts : List ℕ) (i k w : ℕ) → ArePages ws starts → i < 256 → k < 256 → 0 < get_or starts i 0
+    → pages_at (set ws (get_or starts i 0 + k) w) starts ≡ set (pages_at ws starts) i (page_written (get_or (pages_at ws starts) i absent_page) k w)
+pages-written ws starts i k w inv h below some =
     ext_get_or absent_page (pages_at (set ws (get_or starts i 0 + k) w) starts) (set (pages_at ws starts) i new)
     (length-map starts (page_at (set ws (get_or starts i 0 + k) w)) ∙ sym (length-set (pages_at ws starts) i new ∙ length-map starts (page_at ws)))
     (λ j inside.
@@ -121,7 +121,7 @@ pages-written ws starts i k w d inv h below some =
     get_or-map (page_at (set ws (get_or starts i 0 + k) w)) starts j 0 absent_page (omega (arith, inv.count, few)) ∙ at j few)
   where
     new : PageWords
-    new = page_written (get_or (pages_at ws starts) i d) k w
+    new = page_written (get_or (pages_at ws starts) i absent_page) k w
 
     begin : IsStart ws (get_or starts i 0)
     begin = start-of ws starts i inv h
@@ -129,7 +129,7 @@ pages-written ws starts i k w d inv h below some =
     here : page_at (set ws (get_or starts i 0 + k) w) (get_or starts i 0) ≡ new
     here =
         same-page (take 256 (drop (get_or starts i 0) (set ws (get_or starts i 0 + k) w))) new.words (nat_lt 0 (get_or starts i 0)) true
-        (window-set ws (get_or starts i 0) k w begin.inside below ∙ ap (λ p. set p.words k w) (sym (page-is ws starts i d inv h)))
+        (window-set ws (get_or starts i 0) k w begin.inside below ∙ ap (λ p. set p.words k w) (sym (page-is ws starts i inv h)))
         (grind (arith, nat_tests))
 
     at : (j : ℕ) → j < 256 → page_at (set ws (get_or starts i 0 + k) w) (get_or starts j 0) ≡ get_or (set (pages_at ws starts) i new) j absent_page
@@ -141,7 +141,7 @@ pages-written ws starts i k w d inv h below some =
       | inr other ↦ (
           ap (λ ms. page ms (nat_lt 0 (get_or starts j 0)))
           (window-other ws (get_or starts j 0) (get_or starts i 0 + k) w (start-of ws starts j inv few).inside (λ m hm. apart-words ws starts i j k m inv h few below hm some other))
-          ∙ sym (get_or-set_other (pages_at ws starts) i j new absent_page other ∙ page-is ws starts j absent_page inv few)
+          ∙ sym (get_or-set_other (pages_at ws starts) i j new absent_page other ∙ page-is ws starts j inv few)
           )
     ]
 
@@ -178,7 +178,7 @@ pages-made ws starts i inv h =
         let few : j < 256 = omega (arith, inside, length-map starts (page_at (ws ++ zeros 256)), inv.count) in
         get_or-map (page_at (ws ++ zeros 256)) starts j 0 absent_page (omega (arith, inv.count, few))
         ∙ ap (λ ms. page ms (nat_lt 0 (get_or starts j 0))) (window-append ws (zeros 256) (get_or starts j 0) (start-of ws starts j inv few).inside)
-        ∙ sym (page-is ws starts j absent_page inv few))
+        ∙ sym (page-is ws starts j inv few))
 
     made : page_at (ws ++ zeros 256) (length ws) ≡ record { words = zeros 256; made = true }
     made =
@@ -230,6 +230,11 @@ pub zeros-is : (n : ℕ) → zeros n ≡ replicate n 0
 unfolding zeros
 zeros-is n = refl
 
+-- the words of the first page
+pub blank-is : (xs ws : List ℕ) (n : ℕ) → xs ≡ [] → n ≡ 0 → ws ≡ take 256 xs ++ replicate (256 - n) 0 → ws ≡ zeros 256
+unfolding zeros
+blank-is xs ws n none empty is = is ∙ rw (none, empty) refl
+
 -- where no page is made
 pub pages-absent : (ws starts : List ℕ) → ws ≡ zeros 256 → starts ≡ replicate 256 0 → pages_at ws starts ≡ replicate 256 absent_page
 unfolding absent_page
@@ -258,12 +263,13 @@ set-twice (x ∷ xs) zero a b = refl
 set-twice (x ∷ xs) (suc i) a b = ap (λ ys. x ∷ ys) (set-twice xs i a b)
 
 -- a page that was made and then written is the page with that word
-pub made-then-written : (ps mid new : List PageWords) (i k w : ℕ) (d : PageWords) → i < length ps → mid ≡ set ps i (page_made (get_or ps i d)) → new ≡ set mid i (page_written (get_or mid i d) k w)
-    → new ≡ set ps i (page_written (get_or ps i d) k w)
-made-then-written ps mid new i k w d h made written =
-    let read : get_or mid i d ≡ page_made (get_or ps i d) = ap (λ qs. get_or qs i d) made ∙ get_or-set_same ps i (page_made (get_or ps i d)) d h in
-    written ∙ ap (λ p. set mid i (page_written p k w)) read ∙ ap (λ qs. set qs i (page_written (get_or ps i d) k w)) made ∙ set-twice ps i (page_made (get_or ps i d)) (page_written (get_or ps i d) k w)
+pub made-then-written : (ps mid new : List PageWords) (i k w : ℕ) → i < length ps → mid ≡ set ps i (page_made (get_or ps i absent_page)) → new ≡ set mid i (page_written (get_or mid i absent_page) k w)
+    → new ≡ set ps i (page_written (get_or ps i absent_page) k w)
+made-then-written ps mid new i k w h made written =
+    let page = get_or ps i absent_page in
+    let read : get_or mid i absent_page ≡ page_made page = ap (λ qs. get_or qs i absent_page) made ∙ get_or-set_same ps i (page_made page) absent_page h in
+    written ∙ ap (λ p. set mid i (page_written p k w)) read ∙ ap (λ qs. set qs i (page_written page k w)) made ∙ set-twice ps i (page_made page) (page_written page k w)
 
 -- a page that was made is made
-pub made-is : (ps mid : List PageWords) (i : ℕ) (d e : PageWords) → i < length ps → mid ≡ set ps i (page_made (get_or ps i d)) → (get_or mid i e).made ≡ true
-made-is ps mid i d e h made = ap (λ qs. (get_or qs i e).made) made ∙ ap (λ p. p.made) (get_or-set_same ps i (page_made (get_or ps i d)) e h)
+pub made-is : (ps mid : List PageWords) (i : ℕ) → i < length ps → mid ≡ set ps i (page_made (get_or ps i absent_page)) → (get_or mid i absent_page).made ≡ true
+made-is ps mid i h made = ap (λ qs. (get_or qs i absent_page).made) made ∙ ap (λ p. p.made) (get_or-set_same ps i (page_made (get_or ps i absent_page)) absent_page h)

@@ -1,6 +1,6 @@
 ghost use Rattle.std.specs.Prelude.{◌≡◌, ℕ, ◌+◌, ◌<◌, ◌≤◌, ◌↔◌, MatchOption, IfSome, IfOk, IsOk, IsTrue, OnErr, OnOk, Option, length, slice_index, slice_set, take};
 ghost use Rattle.lc3_word.specs.Segment.{first_device};
-ghost use Rattle.lc3_machine.specs.Process.{memory_of, zeros};
+ghost use Rattle.lc3_machine.specs.Process.{memory_of};
 ghost use Rattle.lc3_machine.specs.Memory.{IsReadyAt, IsWritable, StaysReady, with_words};
 ghost use Rattle.lc3_machine.specs.Console.{words_from, string_at};
 
@@ -25,20 +25,13 @@ impl Model for Memory {
 }
 
 impl Memory {
-    /// Memory that is zero.
-    fn zero(alloc: Global) -> Result<Memory, AllocError>
-        ensures zeros { IfOk result (λ m. m.words ≡ zeros 65536) }
-    {
-        let pages = Pages::absent(alloc)?;
-        Ok(Memory { pages })
-    }
-
     /// Memory with these words from the origin on, and zeros around them.
     pub(crate) fn load(alloc: Global, origin: u16, words: &[u16]) -> Result<Memory, AllocError>
         requires below_devices { origin + length words.now ≤ first_device }
         ensures words { IfOk result (λ m. m.words ≡ memory_of origin words.now) }
     {
-        let mut memory = Memory::zero(alloc)?;
+        let pages = Pages::absent(alloc)?;
+        let mut memory = Memory { pages };
         for (k, word) in words.iter().enumerate() {
             memory.set(origin + k as u16, *word)?;
         }

@@ -1,8 +1,7 @@
 //! The pages of a memory.
 
-ghost use Rattle.std.specs.Prelude.{◌≡◌, ◌↔◌, ◌<◌, true, false, length, replicate, slice_index, IfOk, IsOk, IsTrue, OnErr, OnOk};
-ghost use Rattle.lc3_machine.specs.Private.Pages.{PageWords, AreWhole, absent_page, memory_of_pages, words_in, is_made_in, with_made, with_written};
-ghost use Rattle.lc3_machine.specs.Process.{zeros};
+ghost use Rattle.std.specs.Prelude.{◌≡◌, ◌↔◌, ◌<◌, true, length, replicate, slice_index, IfOk, IsOk, IsTrue, OnErr, OnOk};
+ghost use Rattle.lc3_machine.specs.Private.Pages.{AreWhole, absent_page, memory_of_pages, words_in, is_made_in, with_made, with_written};
 
 use std::alloc::{AllocError, Global};
 use std::hash::{FoldHasher, Hasher};
@@ -35,34 +34,16 @@ impl Model for Pages {
     ghost invariant = { λ p. ArePages p.words.items p.starts };
 }
 
-fn are_zero(words: &[u16]) -> bool {
-    words.iter().all(|word| *word == 0)
-}
-
-/// Where pages begin that aren't made.
-fn unwritten() -> [usize; PAGES]
-    ensures zeros { result ≡ replicate 256 0 }
-{
-    [0; PAGES]
-}
-
-/// A page of zeros.
-fn blank(alloc: Global) -> Result<Vec<u16>, AllocError>
-    ensures zeros { IfOk result (λ words. words.items ≡ zeros 256) }
-{
-    let mut words = Vec::new(alloc);
-    words.resize(PAGE, 0)?;
-    Ok(words)
-}
-
 impl Pages {
     /// Pages that were never written.
     pub(crate) fn absent(alloc: Global) -> Result<Pages, AllocError>
         ensures absent { IfOk result (λ pages. pages ≡ replicate 256 absent_page) }
     {
+        let mut words = Vec::new(alloc);
+        words.resize(PAGE, 0)?;
         Ok(Pages {
-            words: blank(alloc)?,
-            starts: unwritten(),
+            words,
+            starts: [0; PAGES],
         })
     }
 
@@ -71,7 +52,7 @@ impl Pages {
     pub(crate) fn get(&self, page: usize, place: usize) -> u16
         requires page { page < 256 }
         requires place { place < 256 }
-        ensures word { (d : PageWords) → result ≡ slice_index (words_in self.now page d) place }
+        ensures word { result ≡ slice_index (words_in self.now page) place }
         ensures count { length self.now ≡ 256 }
         ensures whole { AreWhole self.now }
     {
@@ -82,7 +63,7 @@ impl Pages {
     #[inline(always)]
     pub(crate) fn is_made(&self, page: usize) -> bool
         requires page { page < 256 }
-        ensures made { (d : PageWords) → result ≡ is_made_in self.now page d }
+        ensures made { result ≡ is_made_in self.now page }
         ensures count { length self.now ≡ 256 }
         ensures whole { AreWhole self.now }
     {
@@ -92,24 +73,13 @@ impl Pages {
     /// Makes a page, so that it can be written; what it holds stays the same. Where memory is refused nothing has changed.
     pub(crate) fn make(&mut self, page: usize) -> Result<(), AllocError>
         requires page { page < 256 }
-        ensures ok { (d : PageWords) → OnOk result (self.new ≡ with_made self.old page d) }
+        ensures ok { OnOk result (self.new ≡ with_made self.old page) }
         ensures err { OnErr result (self.new ≡ self.old) }
         ensures count { length self.old ≡ 256 }
     {
         if self.is_made(page) {
             return Ok(());
         }
-        self.add(page)
-    }
-
-    /// Makes a page that isn't made.
-    fn add(&mut self, page: usize) -> Result<(), AllocError>
-        requires page { page < 256 }
-        requires absent { (d : PageWords) → is_made_in self.old page d ≡ false }
-        ensures ok { (d : PageWords) → OnOk result (self.new ≡ with_made self.old page d) }
-        ensures err { OnErr result (self.new ≡ self.old) }
-        ensures count { length self.old ≡ 256 }
-    {
         let start = self.words.len();
         self.words.resize(start + PAGE, 0)?;
         self.starts[page] = start;
@@ -121,8 +91,8 @@ impl Pages {
     fn write(&mut self, page: usize, place: usize, word: u16)
         requires page { page < 256 }
         requires place { place < 256 }
-        requires made { (d : PageWords) → is_made_in self.old page d ≡ true }
-        ensures written { (d : PageWords) → self.new ≡ with_written self.old page d place word }
+        requires made { is_made_in self.old page ≡ true }
+        ensures written { self.new ≡ with_written self.old page place word }
     {
         let start = self.starts[page];
         self.words[start + place] = word;
@@ -133,10 +103,9 @@ impl Pages {
     pub(crate) fn set(&mut self, page: usize, place: usize, word: u16) -> Result<(), AllocError>
         requires page { page < 256 }
         requires place { place < 256 }
-        ensures ok { (d : PageWords)
-            → OnOk result (self.new ≡ with_written self.old page d place word) }
+        ensures ok { OnOk result (self.new ≡ with_written self.old page place word) }
         ensures err { OnErr result (self.new ≡ self.old) }
-        ensures succeeds { (d : PageWords) → is_made_in self.old page d ≡ true → IsOk result }
+        ensures succeeds { is_made_in self.old page ≡ true → IsOk result }
         ensures count { length self.old ≡ 256 }
         ensures whole { AreWhole self.old }
     {
@@ -152,20 +121,17 @@ impl Pages {
     fn write_first(&mut self, page: usize, place: usize, word: u16) -> Result<(), AllocError>
         requires page { page < 256 }
         requires place { place < 256 }
-        requires absent { (d : PageWords) → is_made_in self.old page d ≡ false }
-        ensures ok { (d : PageWords)
-            → OnOk result (self.new ≡ with_written self.old page d place word) }
+        ensures ok { OnOk result (self.new ≡ with_written self.old page place word) }
         ensures err { OnErr result (self.new ≡ self.old) }
     {
-        self.add(page)?;
+        self.make(page)?;
         self.write(page, place, word);
         Ok(())
     }
 
-    /// The words of a page.
     fn words_of(&self, page: usize) -> &[u16]
         requires page { page < 256 }
-        ensures words { (d : PageWords) → result.now ≡ words_in self.now page d }
+        ensures words { result.now ≡ words_in self.now page }
     {
         let start = self.starts[page];
         &self.words[start..start + PAGE]
@@ -190,8 +156,7 @@ impl Pages {
     /// Whether a page has the same words here and there.
     fn has_same_page(&self, other: &Pages, page: usize) -> bool
         requires page { page < 256 }
-        ensures same { (d : PageWords) → IsTrue result
-            ↔ (words_in self.now page d ≡ words_in other.now page d) }
+        ensures same { IsTrue result ↔ (words_in self.now page ≡ words_in other.now page) }
     {
         // A proof has the invariant of the pages where one of their fields is named.
         let _ = &self.words;
@@ -226,7 +191,7 @@ impl Pages {
             return;
         }
         let words = self.words_of(page);
-        if !are_zero(words) {
+        if words.iter().any(|word| *word != 0) {
             hasher.write_usize(page);
             for word in words {
                 hasher.write_u16(*word);

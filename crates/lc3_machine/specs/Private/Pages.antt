@@ -32,21 +32,21 @@ page_made p = record { words = p.words; made = true }
 abbrev pub page_written : PageWords → ℕ → ℕ → PageWords
 page_written p place word = record { words = slice_set p.words place word; made = true }
 
--- the words of one of some pages; where there is no such page, those of another page
-abbrev pub words_in : List PageWords → ℕ → PageWords → List ℕ
-words_in pages page d = (slice_index_or pages page d).words
+-- the words of one of some pages
+abbrev pub words_in : List PageWords → ℕ → List ℕ
+words_in pages page = (slice_index_or pages page absent_page).words
 
--- whether one of some pages is made; where there is no such page, whether another page is
-abbrev pub is_made_in : List PageWords → ℕ → PageWords → Bool
-is_made_in pages page d = (slice_index_or pages page d).made
+-- whether one of some pages is made
+abbrev pub is_made_in : List PageWords → ℕ → Bool
+is_made_in pages page = (slice_index_or pages page absent_page).made
 
 -- the pages with one of them made
-abbrev pub with_made : List PageWords → ℕ → PageWords → List PageWords
-with_made pages page d = slice_set pages page (page_made (slice_index_or pages page d))
+abbrev pub with_made : List PageWords → ℕ → List PageWords
+with_made pages page = slice_set pages page (page_made (slice_index_or pages page absent_page))
 
 -- the pages with a word written at a place of one of them
-abbrev pub with_written : List PageWords → ℕ → PageWords → ℕ → ℕ → List PageWords
-with_written pages page d place word = slice_set pages page (page_written (slice_index_or pages page d) place word)
+abbrev pub with_written : List PageWords → ℕ → ℕ → ℕ → List PageWords
+with_written pages page place word = slice_set pages page (page_written (slice_index_or pages page absent_page) place word)
 
 -- a page begins at a multiple of its size, and stands whole among words
 pub record IsStart (words : List ℕ) (start : ℕ) : Type 0 where
@@ -65,7 +65,7 @@ pub record ArePages (words starts : List ℕ) : Type 0 where
 
 -- each page has 256 words
 abbrev pub AreWhole : List PageWords → Type 0
-AreWhole pages = (i : ℕ) (d : PageWords) → i < length pages → length ((get_or pages i d).words) ≡ 256
+AreWhole pages = (i : ℕ) → i < length pages → length ((get_or pages i absent_page).words) ≡ 256
 
 -- the memory that the pages make up
 abbrev pub memory_of_pages : List PageWords → Store

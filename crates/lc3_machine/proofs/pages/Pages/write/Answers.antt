@@ -7,8 +7,8 @@ use Rattle.lc3_machine.proofs.pages.Pages.write.Goals as goal
 begins : (c : goal.After-self-1) → 0 < get_or c.self.inside.starts c.args.page 0
 begins c =
     let made : nat_lt 0 (get_or c.self.inside.starts c.args.page 0) ≡ true =
-    sym (page-made c.self.inside.words.items c.self.inside.starts c.args.page absent_page c.self.invariant c.requires.page)
-    ∙ ap (λ (ps : List PageWords). (get_or ps c.args.page absent_page).made) c.self.view_is ∙ c.requires.made absent_page in
+    sym (page-made c.self.inside.words.items c.self.inside.starts c.args.page c.self.invariant c.requires.page)
+    ∙ ap (λ (ps : List PageWords). (get_or ps c.args.page absent_page).made) c.self.view_is ∙ c.requires.made in
     grind (arith, nat_tests)
 
 pub invariant_of-self : goal.invariant_of-self
@@ -17,7 +17,7 @@ invariant_of-self c =
 
 pub returns : goal.returns
 returns c = record {
-  written = λ d.
-      pages-written c.self.inside.words.items c.self.inside.starts c.args.page c.args.place c.args.word d c.self.invariant c.requires.page c.requires.place (begins c)
-      ∙ ap (λ (ps : List PageWords). set ps c.args.page (page_written (get_or ps c.args.page d) c.args.place c.args.word)) c.self.view_is;
+  written =
+      pages-written c.self.inside.words.items c.self.inside.starts c.args.page c.args.place c.args.word c.self.invariant c.requires.page c.requires.place (begins c)
+      ∙ ap (λ (ps : List PageWords). set ps c.args.page (page_written (get_or ps c.args.page absent_page) c.args.place c.args.word)) c.self.view_is;
 }

@@ -3,8 +3,8 @@ use Rattle.lc3_machine.proofs.PlacedPages.{made-then-written, made-is}
 use Rattle.lc3_machine.proofs.pages.Pages.write_first.Goals as goal
 
 pub write-requires-clause-made : goal.write-requires-clause-made
-write-requires-clause-made c = λ d. made-is c.args.self.now c.add.new.self c.args.page d d (omega (arith, c.requires.page, c.add.ensures.count)) (c.in_ok-add.ensures.ok d)
+write-requires-clause-made c = made-is c.args.self.now c.make.new.self c.args.page (omega (arith, c.requires.page, c.make.ensures.count)) c.in_ok-make.ensures.ok
 
 pub returns-clause-ok : goal.returns-clause-ok
-returns-clause-ok c = λ d.
-    made-then-written c.args.self.now c.add.new.self c.write.new.self c.args.page c.args.place c.args.word d (omega (arith, c.requires.page, c.add.ensures.count)) (c.in_ok-add.ensures.ok d) (c.write.ensures.written d)
+returns-clause-ok c =
+    made-then-written c.args.self.now c.make.new.self c.write.new.self c.args.page c.args.place c.args.word (omega (arith, c.requires.page, c.make.ensures.count)) c.in_ok-make.ensures.ok c.write.ensures.written
