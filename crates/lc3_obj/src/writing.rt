@@ -43,21 +43,5 @@ fn write_word<W: Write>(word: u16, output: &mut Output<W>) -> Result<(), Failed>
 {
     let mut bytes = [0u8; 2];
     BigEndian::write_u16(&mut bytes, word);
-    write_bytes(&bytes, output)
-}
-
-/// Writes the bytes, or where that fails a beginning of them.
-fn write_bytes<W: Write>(bytes: &[u8], output: &mut Output<W>) -> Result<(), Failed>
-    ensures ok { OnOk result
-        (Appends (W.contents output.old.device) (W.contents output.new.device) bytes.now) }
-    ensures same { OnOk result (output.new.failed ≡ output.old.failed) }
-    ensures failed { OnErr result (IsTrue output.new.failed) }
-    ensures prefix { OnErr result
-        (AppendsPrefix (W.contents output.old.device) (W.contents output.new.device) bytes.now) }
-{
-    let mut done = 0;
-    while done < bytes.len() {
-        done += output.write(&bytes[done..])?;
-    }
-    Ok(())
+    output.write_all(&bytes)
 }
