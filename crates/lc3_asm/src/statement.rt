@@ -5,7 +5,7 @@ ghost use Rattle.lc3_asm.specs.Views.{token_of, seen_operand};
 ghost use Rattle.lc3_asm.specs.Results.{Gives};
 ghost use Rattle.lc3_table.specs.Words.{upper, register};
 ghost use Rattle.std.specs.List.{list_all};
-ghost use Rattle.lc3_table.specs.Statements.{is_between, characters, onto, fault_in, token_fault, operand_by_register, operand_by_number, operand, all_operands, takes_register, takes_label, accepts, forms, token_operation, without_colon};
+ghost use Rattle.lc3_table.specs.Statements.{is_between, characters, onto, fault_in, token_fault, operand_by_register, operand, all_operands, takes_register, takes_label, accepts, forms, token_operation, without_colon};
 ghost use Rattle.lc3_word.specs.Numbers.{number};
 ghost use Rattle.lc3_table.specs.Tokens.{Word};
 
@@ -167,18 +167,6 @@ fn accepts(form: Form, number: i64) -> bool
     }
 }
 
-/// A word that is no register, as an operand of this form.
-fn number_or_label(alloc: Global, form: Form, word: &[u8]) -> Result<Operand, LineError>
-    ensures exact { Gives seen_operand result (operand_by_number form word.now (number word.now)) }
-{
-    match number_of(word) {
-        Some(number) if accepts(form, number) => Ok(Operand::Number(number)),
-        Some(_) => Err(LineError::Fault(Fault::Range)),
-        None if form.takes_label() && is_label(word) => Ok(Operand::Label(upper(alloc, word)?)),
-        None => Err(LineError::Fault(Fault::BadNumber)),
-    }
-}
-
 fn word_operand(alloc: Global, form: Form, word: &[u8]) -> Result<Operand, LineError>
     ensures exact { Gives seen_operand result
         (operand_by_register form word.now (register word.now)) }
@@ -187,7 +175,12 @@ fn word_operand(alloc: Global, form: Form, word: &[u8]) -> Result<Operand, LineE
         Some(register) if form.takes_register() => Ok(Operand::Register(register)),
         Some(_) => Err(LineError::Fault(Fault::BadOperands)),
         None if form == Form::Register => Err(LineError::Fault(Fault::BadOperands)),
-        None => number_or_label(alloc, form, word),
+        None => match number_of(word) {
+            Some(number) if accepts(form, number) => Ok(Operand::Number(number)),
+            Some(_) => Err(LineError::Fault(Fault::Range)),
+            None if form.takes_label() && is_label(word) => Ok(Operand::Label(upper(alloc, word)?)),
+            None => Err(LineError::Fault(Fault::BadNumber)),
+        },
     }
 }
 
