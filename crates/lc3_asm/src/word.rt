@@ -2,7 +2,7 @@
 
 ghost use Rattle.std.specs.Prelude.{◌≡◌, true, find, IsAscii};
 ghost use Rattle.std.specs.List.{list_all};
-ghost use Rattle.lc3_table.specs.Words.{register, operation, operations, same_name, name, is_label, is_label_byte, begins_with_digit, has_label_form, is_taken};
+ghost use Rattle.lc3_table.specs.Words.{register, operation, operations, same_name, name, is_label, is_label_byte, has_label_form, is_taken};
 
 use lc3_table::{Operation, operations};
 use lc3_word::{Reg, number_of};
@@ -59,25 +59,18 @@ fn is_label_byte(byte: u8) -> bool
 /// The most characters that a label has.
 pub const LABEL_LENGTH: usize = 80;
 
-#[tactic(auto, unfolding(lc3_table::specs::Words::begins_with_digit))]
-fn begins_with_digit(word: &[u8]) -> bool
-    ensures value { result ≡ begins_with_digit word.now }
-{
-    matches!(word, [b'0'..=b'9', ..])
-}
-
 fn is_label_bytes(word: &[u8]) -> bool
     ensures value { result ≡ list_all is_label_byte word.now }
 {
     word.iter().all(|byte| is_label_byte(*byte))
 }
 
-#[tactic(auto, unfolding(lc3_table::specs::Words::has_label_form))]
+#[tactic(auto, unfolding(lc3_table::specs::Words::has_label_form, lc3_table::specs::Words::begins_with_digit))]
 fn has_label_form(word: &[u8]) -> bool
     ensures value { result ≡ has_label_form word.now }
 {
     let fits = !word.is_empty() && word.len() <= LABEL_LENGTH;
-    fits && is_label_bytes(word) && !begins_with_digit(word)
+    fits && is_label_bytes(word) && !matches!(word, [b'0'..=b'9', ..])
 }
 
 #[tactic(auto, unfolding(lc3_table::specs::Words::is_taken))]
