@@ -101,20 +101,11 @@ impl Symbols {
 }
 
 /// Lines, the labels that they define, and the address of each line.
+#[derive(Drop)]
 pub struct Placed {
     pub lines: Vec<Line>,
     pub symbols: Symbols,
     pub places: Vec<u16>,
-}
-
-impl Drop for Placed {
-    fn drop(self) {
-        let Placed {
-            lines: _,
-            symbols: _,
-            places: _,
-        } = self;
-    }
 }
 
 impl Placed {
