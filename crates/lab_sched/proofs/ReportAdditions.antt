@@ -1,11 +1,10 @@
 -- Steps that are added to a report, and to what processes have left.
-use Rattle.std.proofs.Common.{ℕ, ◌+◌, ◌-◌, ◌≡◌, ◌<◌, ◌≤◌, ◌++◌, List, [], ◌∷◌, Bool, true, refl, sym, ap, subst, ◌∙◌, arith, length, set, get_or, inl, inr, ◌⊎◌, slice_get, zero, suc, ◌≢◌, Option, Some, replicate}
+use Rattle.std.proofs.Common.{ℕ, ◌+◌, ◌-◌, ◌≡◌, ◌<◌, ◌≤◌, ◌++◌, List, [], ◌∷◌, refl, sym, ap, subst, ◌∙◌, arith, length, set, get_or, inl, inr, ◌⊎◌, slice_get, ◌≢◌, Option, Some, replicate}
 use Rattle.std.proofs.lemmas.List.{append-nil, append_assoc, replicate-append-replicate, length-set, get_or-set_same, get_or-set_other}
 use Rattle.std.proofs.lemmas.Bool.Decides.{eqb_tells}
 use Rattle.std.specs.List.{sum}
 use Rattle.std.proofs.lemmas.List.Sums.{sum_by-set}
 use Rattle.std.specs.Int.{bit_at}
-use Rattle.std.proofs.lemmas.Nat.Bits.{bit_at-zero}
 use Rattle.lc3_machine.specs.Process.{Process as Machine}
 use Rattle.ipc_kernel.specs.declared.call.Call.{Call}
 use Rattle.ipc_kernel.specs.declared.call.Answer.{Answer}
@@ -16,7 +15,7 @@ use Rattle.lab_sched.specs.declared.process.Process.{Process as Kept}
 use Rattle.lab_sched.specs.declared.entry.Entry.{Entry}
 use Rattle.lab_sched.specs.declared.next.Next.{Next}
 use Rattle.lab_sched.specs.declared.next.Next.TheVariants as next
-use Rattle.lab_sched.specs.Worlds.{Process, Running, Waiting, Ended, WorldState, first_try, retry, nothing, kernel_step, step_effect, step_effect_in, step, after, run, IsEffective}
+use Rattle.lab_sched.specs.Worlds.{Process, Running, Waiting, Ended, WorldState, first_try, retry, kernel_step, step_effect, step_effect_in, step, after, run, IsEffective}
 use Rattle.ipc_traps.specs.Asked.{Request}
 use Rattle.lab_sched.specs.declared.stepped.Stepped.{Stepped}
 use Rattle.lab_sched.specs.Held.{process_view, asked_by, stepped_of, told_in}
@@ -27,7 +26,6 @@ use Rattle.lab_sched.specs.Settling.{AsksFor, IsNext}
 use Rattle.lab_sched.specs.Private.Settling.{AsksIn, IsNextIn, IsTaken, answer_told}
 use Rattle.lab_sched.proofs.Runs.{run-none}
 use Rattle.lab_sched.proofs.Executions.{execution_none, execution_append, execution_step, execution_length, execution_local, count-append, count-replicate_same, count-replicate_other}
-use Rattle.lab_sched.proofs.Commutes.{after_other}
 use Rattle.lab_sched.proofs.WorldLemmas.{IsAt, kept_world, put_process, same_world, seen}
 
 pub added_none : (r : Report) → IsAdded r [] r
@@ -46,9 +44,6 @@ added_length a = execution_length a.execution
 
 pub added_more : {r q t : Report} (n k p : ℕ) → IsAdded r (replicate n p) q → IsAdded q (replicate k p) t → IsAdded r (replicate (n + k) p) t
 added_more {r} {q} {t} n k p a b = subst (λ ps. IsAdded r ps t) (replicate-append-replicate n k p) (added-append a b)
-
-pub added_no_more : {r q t : Report} (n k p : ℕ) → k ≡ 0 → IsAdded r (replicate n p) q → IsAdded q (replicate k p) t → IsAdded r (replicate n p) t
-added_no_more {r} {q} {t} n k p none a b = subst (λ m. IsAdded r (replicate m p) t) (omega arith) (added_more n k p a b)
 
 pub settled_none : (r : Report) (left : List ℕ) → IsSettled r r left left
 settled_none r left = record { taken = []; added = added_none r; len = refl; counted = λ p below. omega arith }
@@ -85,21 +80,23 @@ settled-append {r} {q} {t} {left} {rest} {last} a b = record {
       omega (arith, a.counted p below, b.counted p (omega (arith, a.len)), count-append p a.taken b.taken);
 }
 
--- a process that had stopped still has where nothing was stepped, and so has the one that was tried
-pub stopped_more : {w v : WorldState} (left : List ℕ) (bits bits' : ℕ) {short : Bool} (i k : ℕ) → w ≡ v → ((p : ℕ) → p < i → HasStopped w left bits p)
-    → ((p : ℕ) → bit_at bits p ≡ 1 → bit_at bits' p ≡ 1) → (short ≡ true → bit_at bits' i ≡ 1)
-    → ((k ≡ get_or left i 0) ⊎ (step_effect_in v i ≡ nothing) ⊎ (short ≡ true)) → i < length left
-    → (p : ℕ) → p < i + 1 → HasStopped v (set left i (get_or left i 0 - k)) bits' p
-stopped_more {w} {v} left bits bits' {short} i k same stopped kept set_bit last within p below = elim (eqb_tells i p) [
-  | inl here ↦
-      subst (λ n. HasStopped v (set left i (get_or left i 0 - k)) bits' n) here.1 (elim last [
-        | inl all ↦ inl (omega (arith, get_or-set_same left i (get_or left i 0 - k) 0 within, all))
-        | inr more ↦ elim more [ inl none ↦ inr (inl none) | inr refused ↦ inr (inr (set_bit refused)) ]
-      ])
+-- one bit more: of a process that has some left and could go on
+
+pub stopped_more : (w : WorldState) (left : List ℕ) (bits bits' i : ℕ) → bit_at bits' i ≡ 1 → ((p : ℕ) → p ≢ i → bit_at bits' p ≡ bit_at bits p)
+    → ((p : ℕ) → p < i → HasStopped w left bits p) → (p : ℕ) → p < i + 1 → HasStopped w left bits' p
+stopped_more w left bits bits' i marked others stopped p below = elim (eqb_tells p i) [
+  | inl same ↦ inr (inr (rw same.1 marked))
   | inr other ↦ elim (stopped p (let ne = other.1 in omega arith)) [
-    | inl none ↦ inl (get_or-set_other left i p (get_or left i 0 - k) 0 (λ e. other.1 (sym e)) ∙ none)
-    | inr more ↦ elim more [ inl still ↦ inr (inl (subst (λ x. step_effect_in x p ≡ nothing) same still)) | inr is_set ↦ inr (inr (kept p is_set)) ]
+    | inl none ↦ inl none
+    | inr more ↦ elim more [ inl still ↦ inr (inl still) | inr is_set ↦ inr (inr (others p other.1 ∙ is_set)) ]
   ]
+]
+
+pub short_more : (w : WorldState) (left : List ℕ) (bits bits' i : ℕ) → ((p : ℕ) → p ≢ i → bit_at bits' p ≡ bit_at bits p) → IsShort w left i
+    → ((p : ℕ) → bit_at bits p ≡ 1 → IsShort w left p) → (p : ℕ) → bit_at bits' p ≡ 1 → IsShort w left p
+short_more w left bits bits' i others here old p is_set = elim (eqb_tells p i) [
+  | inl same ↦ rw same.1 here
+  | inr other ↦ old p (sym (others p other.1) ∙ is_set)
 ]
 
 pub sum_less : (left : List ℕ) (i k : ℕ) → i < length left → k ≤ get_or left i 0 → sum (set left i (get_or left i 0 - k)) + k ≡ sum left
@@ -108,49 +105,10 @@ sum_less left i k within fits = omega (arith, sum_by-set (λ x. x) left i (get_o
 pub sum_at : (left : List ℕ) (i : ℕ) → i < length left → get_or left i 0 ≤ sum left
 sum_at left i within = omega (arith, sum_less left i (get_or left i 0) within (omega arith))
 
-pub added_same : {r q : Report} (k p : ℕ) → k ≡ 0 → IsAdded r (replicate k p) q → r.world ≡ q.world
-added_same {r} {q} k p none a = let b : IsAdded r [] q = subst (λ n. IsAdded r (replicate n p) q) none a in sym (run-none r.world) ∙ b.execution.leads
-
--- the steps of process i leave the others
-run_other : (k i p : ℕ) (w : WorldState) → i ≢ p → slice_get (run w (replicate k i)).processes p ≡ slice_get w.processes p
-unfolding run
-run_other zero i p w ne = refl
-run_other (suc k) i p w ne = run_other k i p (step w i) ne ∙ after_other w p i (step_effect_in w i) ne
-
-not_ended : (w : WorldState) (p : ℕ) (s : Process) → IsEffective (step_effect_in w p) → slice_get w.processes p ≡ Some s → HasEnded s → ⊥
+pub not_ended : (w : WorldState) (p : ℕ) (s : Process) → IsEffective (step_effect_in w p) → slice_get w.processes p ≡ Some s → HasEnded s → ⊥
 not_ended w p (Running m) h at is = is
 not_ended w p (Waiting m c) h at is = is
 not_ended w p (Ended e) h at is = subst IsEffective (ap (λ o. step_effect w.kernel p o) at) h
-
-pub short_more : {r q : Report} (left : List ℕ) (bits bits' : ℕ) {short : Bool} (i k : ℕ) → IsAdded r (replicate k i) q → i < length left → length left ≡ length r.world.processes
-    → (bit_at bits i ≡ 1 → ⊥) → ((p : ℕ) → bit_at bits' p ≡ 1 → (bit_at bits p ≡ 1) ⊎ ((p ≡ i) × (short ≡ true)))
-    → (short ≡ true → (k < get_or left i 0) × IsEffective (step_effect_in q.world i))
-    → ((p : ℕ) → bit_at bits p ≡ 1 → IsShort r.world left p)
-    → (p : ℕ) → bit_at bits' p ≡ 1 → IsShort q.world (set left i (get_or left i 0 - k)) p
-short_more {r} {q} left bits bits' {short} i k added within len clear only mine old p is_set = pick (only p is_set)
-  where
-    lengths : length q.world.processes ≡ length r.world.processes
-    lengths = execution_length added.execution
-
-    pick : ((bit_at bits p ≡ 1) ⊎ ((p ≡ i) × (short ≡ true))) → IsShort q.world (set left i (get_or left i 0 - k)) p
-    pick (inl was) =
-        let ne : i ≢ p = λ e. clear (subst (λ n. bit_at bits n ≡ 1) (sym e) was) in
-        let before = old p was in
-        let same : slice_get q.world.processes p ≡ slice_get r.world.processes p = ap (λ (v : WorldState). slice_get v.processes p) (sym added.execution.leads) ∙ run_other k i p r.world ne in
-        let rest = get_or-set_other left i p (get_or left i 0 - k) 0 (λ e. ne (sym e)) in
-        record {
-          there = omega (arith, before.there, lengths);
-          some = omega (arith, before.some, rest);
-          not_ended = λ s at. before.not_ended s (sym same ∙ at);
-        }
-    pick (inr now) =
-        let m = mine now.1 in
-        let rest = get_or-set_same left i (get_or left i 0 - k) 0 within in
-        record {
-          there = omega (arith, now.0, within, len, lengths);
-          some = rw now.0 (omega (arith, rest, m.0));
-          not_ended = λ s at. not_ended q.world p s (rw now.0 m.1) at;
-        }
 
 -- what a process does next, over the whole world
 
@@ -195,23 +153,20 @@ answer_stepped q m c (Done r) = refl
 answer_stepped q m c Wait = refl
 
 -- a call is taken, and its answer is what is told of its step
-pub taken_call : (w v : WorldState) (es fs : List Entry) (p : ℕ) (c : Call) (stepped : Stepped) (a : Answer) → IsEffective (step_effect_in w p) → AsksIn w p c → stepped ≡ told_in w p
-    → a ≡ answer_told stepped → v ≡ step w p → fs ≡ es ++ record { pid = p; call = c; answer = a } ∷ [] → IsTaken w es (replicate 1 p) v fs
-taken_call w v es fs p c stepped a h asks told-is a-told v-is fs-is =
+pub taken_call : (w x v : WorldState) (es fs : List Entry) (p : ℕ) (c : Call) (stepped : Stepped) (a : Answer) → IsEffective (step_effect_in w p) → (x ≡ w) × AsksIn w p c → stepped ≡ told_in x p
+    → a ≡ answer_told stepped → v ≡ step x p → fs ≡ es ++ record { pid = p; call = c; answer = a } ∷ [] → IsTaken w es (replicate 1 p) v fs
+taken_call w x v es fs p c stepped a h asked told-is a-told v-is fs-is =
     let q = asked_by (slice_get w.processes p) in
+    let asks = asked.1 in
     let t = effect_asked w p c asks.0 asks.1 asks.2 h in
-    let a-is : a ≡ (answer w.kernel p c).0 = a-told ∙ ap answer_told told-is ∙ ap (λ e. answer_told (stepped_of q e)) t.1 ∙ answer_stepped q t.0 c (answer w.kernel p c).0 in
+    let a-is : a ≡ (answer w.kernel p c).0 = a-told ∙ ap answer_told (told-is ∙ ap (λ y. told_in y p) asked.0) ∙ ap (λ e. answer_told (stepped_of q e)) t.1 ∙ answer_stepped q t.0 c (answer w.kernel p c).0 in
     let is : step_effect_in w p ≡ kernel_step t.0 c a = t.1 ∙ ap (λ b. kernel_step t.0 c b) (sym a-is) in
     let told : List Entry = record { pid = p; call = c; answer = a } ∷ [] in
     record {
       told = told;
-      execution = subst (λ x. IsExecution w (p ∷ []) x told) (sym (v-is ∙ ap (λ x. after w p x) is)) (execution_step w p (kernel_step t.0 c a) is tt);
+      execution = subst (λ x. IsExecution w (p ∷ []) x told) (sym (v-is ∙ ap (λ y. step y p) asked.0 ∙ ap (λ x. after w p x) is)) (execution_step w p (kernel_step t.0 c a) is tt);
       entries = fs-is;
     }
 
-pub added_nothing : (w : WorldState) (es : List Entry) (ss ts : List ℕ) (p : ℕ) → ts ≡ ss → IsAdded (report w ss es) (replicate 0 p) (report w ts es)
-added_nothing w es ss ts p same = subst (λ x. IsAdded (report w ss es) [] (report w x es)) (sym same) (added_none (report w ss es))
-
--- 0 has no bit
-pub no_bits : (p : ℕ) → bit_at 0 p ≡ 1 → ⊥
-no_bits p h = absurd (omega (arith, bit_at-zero p))
+pub added_taken : {w v : WorldState} {es fs : List Entry} {ps ss ts : List ℕ} → IsTaken w es ps v fs → ts ≡ ss ++ ps → IsAdded (report w ss es) ps (report v ts fs)
+added_taken taken steps = record { told = taken.told; execution = taken.execution; steps = steps; entries = taken.entries }

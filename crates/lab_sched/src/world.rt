@@ -7,7 +7,6 @@ ghost use Rattle.lab_sched.specs.Verdicts.{HasEndedIn, HasNotEndedIn};
 ghost use Rattle.lab_sched.specs.Held.{process_view, told_in, IsWorld};
 ghost use Rattle.lab_sched.specs.declared.world.StepFault.TheVariants.{NoProcess};
 
-mod bits;
 mod run;
 mod settle;
 

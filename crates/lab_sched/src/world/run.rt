@@ -1,5 +1,5 @@
 //! Runs of worlds by schedules.
-ghost use Rattle.std.specs.Prelude.{◌≡◌, ◌<◌, ◌≤◌, ◌↔◌, true, false, length, replicate, take, slice_index, IfOk, IfErr, OnOk, OnErr};
+ghost use Rattle.std.specs.Prelude.{◌≡◌, ◌<◌, ◌≤◌, ◌↔◌, length, replicate, take, slice_index, IfOk, IfErr, OnOk, OnErr};
 ghost use Rattle.lab_sched.specs.Schedules.{steps_of};
 ghost use Rattle.lab_sched.specs.Worlds.{HasNoProcess, run};
 ghost use Rattle.lab_sched.specs.declared.world.StepFault.TheVariants.{NoProcess};
