@@ -20,12 +20,6 @@ use lc3_machine::{How, Progress, Want};
 use std::alloc::{AllocError, Global};
 pub(crate) use untold::advance;
 
-#[derive(Drop)]
-struct CallAt {
-    vector: u8,
-    call: Call,
-}
-
 /// Takes local steps of a process, at most so many; with how many were taken, and what kept a
 /// running process from the next one. They are steps of its machine alone: no refusal is among them.
 #[inline(always)]
@@ -44,15 +38,15 @@ pub fn local_steps(process: &mut Process, most: u32) -> (u32, Progress)
     }
 }
 
-fn waiting(process: Process, at: CallAt) -> (Process, ())
-    requires stands { StandsBefore (process_view process) (Trap at.vector) }
-    requires may { MayWait process at.call }
+fn waiting(process: Process, at: (u8, Call)) -> (Process, ())
+    requires stands { StandsBefore (process_view process) (Trap at.0) }
+    requires may { MayWait process at.1 }
     ensures waits { process_view result.0
-        ≡ WaitingSeen (machine_of (process_view process)) at.call }
+        ≡ WaitingSeen (machine_of (process_view process)) at.1 }
     ensures held { IsHeld result.0 }
 {
     match process {
-        Process::Running(running) => (Process::Waiting(running.wait(at.vector), at.call), ()),
+        Process::Running(running) => (Process::Waiting(running.wait(at.0), at.1), ()),
         Process::Waiting(_, _) | Process::Ended(_) => unreachable!(),
     }
 }
@@ -66,7 +60,7 @@ pub fn begin_wait(process: &mut Process, vector: u8, call: Call)
         ≡ WaitingSeen (machine_of (process_view process.old)) call }
     ensures held { IsHeld process.new }
 {
-    replace_with(process, CallAt { vector, call }, waiting)
+    replace_with(process, (vector, call), waiting)
 }
 
 /// Reads the call that a process makes by the trap with this vector, which it stands before. It may

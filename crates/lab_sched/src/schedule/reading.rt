@@ -3,7 +3,7 @@ ghost use Rattle.std.specs.Prelude.{◌≡◌, ◌≤◌, ◌<◌, length, map, 
 ghost use Rattle.std.specs.List.{All};
 ghost use Rattle.lc3_word.specs.Numbers.{unsigned_number};
 ghost use Rattle.lab_sched.specs.Schedules.{IsBlock, most_steps};
-ghost use Rattle.lab_sched.specs.ScheduleTexts.{is_star, in_range, process_in, count_in, block_in, blocks_of_words, schedule_of_blocks, reading_of_words, reading};
+ghost use Rattle.lab_sched.specs.ScheduleTexts.{is_star, in_range, process_in, block_in, blocks_of_words, schedule_of_blocks, reading_of_words, reading};
 ghost use Rattle.lab_sched.specs.Private.Reading.{Gives};
 ghost use Rattle.ipc_kernel.specs.Limits.{process_max};
 
@@ -35,14 +35,6 @@ fn process_in(digits: &[u8]) -> Option<usize>
     Some(pid as usize)
 }
 
-#[tactic(auto, unfolding(crate::specs::ScheduleTexts::count_in))]
-fn count_in(digits: &[u8]) -> Option<u32>
-    ensures value { result ≡ count_in digits.now }
-    ensures bounds { IfSome result (λ n. (1 ≤ n) × (n ≤ most_steps)) }
-{
-    in_range(1, MOST_STEPS, digits)
-}
-
 fn star(word: &[u8]) -> Option<usize>
     ensures place { result ≡ position is_star word.now }
     ensures within { IfSome result (λ i. i < length word.now) }
@@ -51,7 +43,7 @@ fn star(word: &[u8]) -> Option<usize>
 }
 
 /// The block that a word writes, `P*N`, or `P` for one step.
-#[tactic(auto, unfolding(crate::specs::ScheduleTexts::block_in))]
+#[tactic(auto, unfolding(crate::specs::ScheduleTexts::block_in, crate::specs::ScheduleTexts::count_in))]
 fn block_in(word: &[u8]) -> Option<Block>
     ensures value { result ≡ block_in word.now }
     ensures valid { IfSome result IsBlock }
@@ -61,7 +53,7 @@ fn block_in(word: &[u8]) -> Option<Block>
         return Some(Block { pid, count: 1 });
     };
     let pid = process_in(&word[..star])?;
-    let count = count_in(&word[star + 1..])?;
+    let count = in_range(1, MOST_STEPS, &word[star + 1..])?;
     Some(Block { pid, count })
 }
 

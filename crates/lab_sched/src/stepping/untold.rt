@@ -1,9 +1,8 @@
 //! Steps of which nobody is told what they were.
 ghost use Rattle.std.specs.Prelude.{◌<◌, ◌≤◌, length, IfOk};
-ghost use Rattle.lc3_machine.specs.declared.want.Want.TheVariants.{Trap};
 ghost use Rattle.lab_sched.specs.Held.{process_view, IsHeld};
 ghost use Rattle.lab_sched.specs.Private.Moved.{Advances, Moves};
-ghost use Rattle.lab_sched.specs.Stepping.{StandsBefore, StopsBy};
+ghost use Rattle.lab_sched.specs.Stepping.{StopsBy};
 
 use super::{begin_wait, local_steps, retry, step_end};
 use crate::Process;
@@ -11,31 +10,6 @@ use crate::calling::go_on;
 use ipc_kernel::Kernel;
 use lc3_machine::{Progress, Want};
 use std::alloc::{AllocError, Global};
-
-/// The step of a process that stands before a trap of the kernel; whether it had an effect.
-#[inline(always)]
-fn pass_trap(
-    alloc: Global,
-    process: &mut Process,
-    vector: u8,
-    kernel: &mut Kernel,
-    pid: usize,
-) -> Result<bool, AllocError>
-    requires process { pid < length kernel.old.processes }
-    requires stands { StandsBefore (process_view process.old) (Trap vector) }
-    ensures moves { Moves kernel.old pid process.old result kernel.new process.new }
-{
-    match process {
-        Process::Running(running) => match go_on(alloc, running, vector, kernel, pid)? {
-            None => Ok(true),
-            Some(call) => {
-                begin_wait(process, vector, call);
-                Ok(true)
-            }
-        },
-        Process::Waiting(_, _) | Process::Ended(_) => unreachable!(),
-    }
-}
 
 /// The next step of a process that takes no local step, as `step_on` takes it; whether it had an
 /// effect.
@@ -53,12 +27,19 @@ fn move_on(
     ensures moves { Moves kernel.old pid process.old result kernel.new process.new }
 {
     match process {
-        Process::Running(_) => match progress {
-            Progress::Stopped(Want::Trap(vector)) => pass_trap(alloc, process, vector, kernel, pid),
-            Progress::Stopped(Want::End(how)) => {
-                let stepped = step_end(process, how, kernel, pid)?;
-                Ok(stepped.has_moved())
-            }
+        Process::Running(running) => match progress {
+            Progress::Stopped(Want::Trap(vector)) => match go_on(
+                alloc, running, vector, kernel, pid,
+            )? {
+                None => Ok(true),
+                Some(call) => {
+                    begin_wait(process, vector, call);
+                    Ok(true)
+                }
+            },
+            Progress::Stopped(Want::End(how)) => Ok(step_end(
+                process, how, kernel, pid,
+            )?.has_moved()),
             Progress::Short | Progress::Moved => Err(AllocError),
         },
         Process::Waiting(_, _) => Ok(retry(process, kernel, pid)?.has_moved()),
