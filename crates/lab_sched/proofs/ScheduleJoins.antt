@@ -73,14 +73,14 @@ unfolding joined_blocks
 apart-joined [] = tt
 apart-joined (b ∷ rest) = apart-before b (joined_blocks rest) (apart-joined rest)
 
-before-apart : (b c : Block) (rest : List Block) → b.pid ≢ c.pid → before b (c ∷ rest) ≡ b ∷ c ∷ rest
-before-apart b c rest h = rw (is_other b.pid c.pid h) refl
+before-tail : (b : Block) (bs : List Block) → AreApart (b ∷ bs) → before b bs ≡ b ∷ bs
+before-tail b [] h = refl
+before-tail b (c ∷ rest) h = rw (is_other b.pid c.pid h.0) refl
 
 pub joined-apart : (bs : List Block) → AreApart bs → joined_blocks bs ≡ bs
 unfolding joined_blocks
 joined-apart [] h = refl
-joined-apart (b ∷ []) h = refl
-joined-apart (b ∷ c ∷ rest) h = ap (before b) (joined-apart (c ∷ rest) h.1) ∙ before-apart b c rest h.0
+joined-apart (b ∷ bs) h = ap (before b) (joined-apart bs (apart-tail b bs h)) ∙ before-tail b bs h
 
 -- a block at the end
 
@@ -200,10 +200,6 @@ blocks_of-some : (b : Block) (ps : List ℕ) → 1 ≤ b.count → blocks_of (re
 blocks_of-some b ps h =
     let e : suc (b.count - 1) ≡ b.count = omega arith in
     ap (λ n. blocks_of (replicate n b.pid ++ ps)) (sym e) ∙ blocks_of-replicate (b.count - 1) b.pid ps ∙ ap (λ n. before (block b.pid n) (blocks_of ps)) e
-
-before-tail : (b : Block) (bs : List Block) → AreApart (b ∷ bs) → before b bs ≡ b ∷ bs
-before-tail b [] h = refl
-before-tail b (c ∷ rest) h = before-apart b c rest h.0
 
 blocks_of-steps : (bs : List Block) → AllByRecursion IsBlock bs → AreApart bs → blocks_of (steps_of bs) ≡ bs
 unfolding steps_of blocks_of

@@ -2,17 +2,16 @@
 use Rattle.std.proofs.Common.{ℕ, suc, ◌+◌, ◌≡◌, ◌<◌, ◌≤◌, ◌++◌, List, [], ◌∷◌, refl, sym, ap, ◌∙◌, arith, length, take, drop, get_or, replicate, drop-cons}
 use Rattle.std.proofs.Math.Seq.{take-append-add}
 use Rattle.std.proofs.lemmas.List.{take-append-drop, take-append-le, take-replicate, take_more, get_or-replicate, length-replicate, flat_map_more}
-use Rattle.std.proofs.lemmas.List.Concat.{flat_map-append, get_or-flat_map}
+use Rattle.std.proofs.lemmas.List.Concat.{get_or-flat_map}
 use Rattle.std.proofs.lemmas.List.Folds.{length-flat_map-take}
 use Rattle.lab_sched.specs.declared.schedule.block.Block.{Block}
 use Rattle.lab_sched.specs.Schedules.{steps_of, IsSchedule, most_steps}
-use Rattle.lab_sched.proofs.ScheduleJoins.{length-steps}
+use Rattle.lab_sched.proofs.ScheduleJoins.{length-steps, steps-append}
 use Rattle.lab_sched.specs.Worlds.{WorldState, run}
 use Rattle.lab_sched.proofs.Runs.{run-append}
 
 pub steps_of-append : (xs ys : List Block) → steps_of (xs ++ ys) ≡ steps_of xs ++ steps_of ys
-unfolding steps_of
-steps_of-append xs ys = flat_map-append (λ (b : Block). replicate b.count b.pid) xs ys
+steps_of-append xs ys = steps-append xs ys
 
 -- the steps before block i, those of block i, and the rest
 pub steps-split : (bs : List Block) (i : ℕ) (d : Block) → i < length bs
