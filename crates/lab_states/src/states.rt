@@ -178,13 +178,8 @@ impl States {
             (slice_get self.new.processes i)
             ≡ Some (process_view process)) }
     {
-        let collapsed = collapsed_of(
-            alloc,
-            &mut self.outputs,
-            CollapsedState { before: 0, process },
-        )?;
-        let number = self.collapsed_states.keep(alloc, collapsed)?;
-        Ok(number)
+        let _ = &self.outputs;
+        self.keep_behind(alloc, CollapsedState { before: 0, process })
     }
 
     /// About how many bytes they take.

@@ -1,28 +1,23 @@
-use Rattle.std.proofs.Common.{map, refl, subst, ◌∙◌}
-use Rattle.lab_states.specs.CollapsedStates.{whole_of, IsSameOrMore, Sharing}
-use Rattle.lab_states.proofs.CollapsedStateLemmas.{all_extended, start_empty, within_kept, whole_alone, wholes_kept, state_at}
+use Rattle.std.proofs.Common.{◌≡◌, [], Some, OnOk, IfOk, length, slice_get, refl, subst, sym, ap, ◌∙◌, arith}
+use Rattle.std.specs.Option.{option_map}
+use Rattle.lab_sched.specs.Held.{process_view}
+use Rattle.lab_states.specs.CollapsedStates.{IsSameOrMore, Sharing}
+use Rattle.lab_states.proofs.CollapsedStateLemmas.{start_empty, whole_alone}
 use Rattle.lab_states.proofs.states.States.keep.Goals as goal
 
-pub invariant_of-self-2 : goal.invariant_of-self-2
-invariant_of-self-2 c =
-    let collapsed_states = c.self.inside.collapsed_states in
-    let qs = c.collapsed_of.new.outputs in
-    within_kept qs collapsed_states c.keep.new.self c.in_ok-collapsed.collapsed (all_extended c.self.inside.outputs qs collapsed_states c.collapsed_of.ensures.extends c.self.invariant) c.in_ok-collapsed.ensures.within c.keep.ensures.kept
+pub keep_behind-requires : goal.keep_behind-requires
+keep_behind-requires c =
+    let outputs = ap (λ (v : Sharing). length v.outputs) c.self.view_is in
+    let some = ap length c.self.invariant.empty.1 in
+    record { within = omega (arith, outputs, some) }
 
-pub returns-clause-kept : goal.returns-clause-kept
-returns-clause-kept c =
-    let collapsed_states = c.self.inside.collapsed_states in
-    let os = c.self.inside.outputs in
-    let qs = c.collapsed_of.new.outputs in
-    let process = c.args.process in
-    let alone = whole_alone os process (record { before = 0; process = process }) (start_empty os c.self.invariant.empty) refl refl in
-    subst (λ (v : Sharing). IsSameOrMore v.processes (map (whole_of qs) c.keep.new.self) process) c.self.view_is
-    (wholes_kept os qs collapsed_states c.keep.new.self c.in_ok-collapsed.collapsed process c.collapsed_of.ensures.extends c.self.invariant (c.in_ok-collapsed.ensures.whole ∙ alone) c.keep.ensures.kept)
-
-pub returns-clause-state : goal.returns-clause-state
-returns-clause-state c =
-    let there = c.in_ok-number.ensures.state in
-    let os = c.self.inside.outputs in
-    let process = c.args.process in
-    let alone = whole_alone os process (record { before = 0; process = process }) (start_empty os c.self.invariant.empty) refl refl in
-    state_at c.collapsed_of.new.outputs c.keep.new.self c.in_ok-number.number there.0 c.in_ok-collapsed.collapsed process there.1 there.2 (c.in_ok-collapsed.ensures.whole ∙ alone)
+pub returns : goal.returns
+returns c =
+    let empty : slice_get c.args.self.now.outputs 0 ≡ Some [] = ap (λ (v : Sharing). slice_get v.outputs 0) (sym c.self.view_is) ∙ start_empty c.self.inside.outputs c.self.invariant.empty in
+    let alone = whole_alone c.args.self.now.outputs c.args.process (record { before = 0; process = c.args.process }) empty refl refl in
+    record {
+      kept = subst (λ k. OnOk c.keep_behind.result (IsSameOrMore c.args.self.now.processes c.keep_behind.new.self.processes k)) alone c.keep_behind.ensures.kept;
+      state =
+          subst (λ k. IfOk c.keep_behind.result (λ i. option_map process_view (slice_get c.keep_behind.new.self.processes i) ≡ Some (process_view k))) alone
+          c.keep_behind.ensures.state;
+    }
