@@ -1,5 +1,5 @@
 //! Outputs of processes, which share what they have in common.
-ghost use Rattle.std.specs.Prelude.{◌≡◌, ◌<◌, ◌≤◌, ◌+◌, [], ◌∷◌, ◌++◌, Some, IfOk, IfSome, IsTrue, get_or, length, map, slice_get, take};
+ghost use Rattle.std.specs.Prelude.{◌≡◌, ◌<◌, ◌≤◌, ◌+◌, [], ◌∷◌, ◌++◌, Some, IfOk, IfSome, get_or, length, map, slice_get, take};
 ghost use Rattle.lab_states.specs.Private.Outputs.{AreChained, Extends, joined, outputs_of};
 
 use crate::places::place_of;
@@ -13,7 +13,7 @@ use std::mem::size_of;
 pub(crate) const PIECE: usize = 60;
 
 /// A piece of an output: it stands behind the output with a number.
-#[derive(Clone, Copy, Drop)]
+#[derive(Clone, Copy, Drop, PartialEq)]
 pub struct Piece {
     pub before: u32,
     pub bytes: [u8; PIECE],
@@ -64,13 +64,6 @@ fn digest_of(piece: &Piece) -> u64 {
     hasher.finish()
 }
 
-/// Whether two pieces are the same.
-fn is_same(piece: &Piece, other: &Piece) -> bool
-    ensures same { IsTrue result → piece.now ≡ other.now }
-{
-    piece.before == other.before && piece.bytes == other.bytes
-}
-
 /// The pieces of an output, the last first.
 fn path_to(alloc: Global, pieces: &[Piece], number: u32) -> Result<Vec<&Piece>, AllocError>
     requires chained { AreChained pieces.now }
@@ -114,20 +107,6 @@ impl Outputs {
         })
     }
 
-    /// Whether the output with a number ends in a piece.
-    fn ends_in(&self, number: usize, piece: &Piece) -> bool
-        ensures yes { IsTrue result → slice_get self.now number
-            ≡ Some (get_or self.now piece.now.before [] ++ piece.now.bytes) }
-    {
-        if number == 0 {
-            return false;
-        }
-        match self.pieces.get(number - 1) {
-            Some(kept) => is_same(kept, piece),
-            None => false,
-        }
-    }
-
     /// The number of the output that ends in a piece, if it is kept.
     fn find(&self, piece: &Piece, digest: u64) -> Option<usize>
         ensures found { IfSome result (λ number. slice_get self.now number
@@ -135,8 +114,10 @@ impl Outputs {
     {
         let mut number = self.index.newest(digest);
         while number > 0 {
-            if self.ends_in(number, piece) {
-                return Some(number);
+            if let Some(kept) = self.pieces.get(number - 1) {
+                if kept == piece {
+                    return Some(number);
+                }
             }
             number = self.index.older(number);
         }
