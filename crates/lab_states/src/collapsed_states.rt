@@ -1,10 +1,9 @@
 //! Collapse compression: states of processes without the parts of their outputs that others share, each kept once.
-ghost use Rattle.std.specs.Prelude.{◌≡◌, [], ◌∷◌, ◌++◌, false, IfOk, IfSome, IsTrue, OnErr, OnOk, Some, length, slice_get, ◌<◌, vec_len, vec_capacity};
+ghost use Rattle.std.specs.Prelude.{◌≡◌, [], ◌∷◌, ◌++◌, false, IfOk, IfSome, IsTrue, OnErr, OnOk, Some, length, slice_get};
 ghost use Rattle.std.specs.Option.{option_copied};
-ghost use Rattle.ipc_kernel.specs.OwnCalls.{is_unlink};
 ghost use Rattle.lab_sched.specs.Held.{process_view};
 ghost use Rattle.lab_sched.specs.Verdicts.{HasEnded};
-ghost use Rattle.lab_conditions.specs.Conditions.{StandsAt, option_any};
+ghost use Rattle.lab_conditions.specs.Conditions.{StandsAt};
 ghost use Rattle.lab_states.specs.declared.collapsed_states.CollapsedState.{CollapsedState as One};
 ghost use Rattle.lab_states.specs.Private.CollapsedStates.{AreSame, KeepAllNames};
 ghost use Rattle.lab_states.specs.CollapsedStates.{IsSameOrMore};
@@ -42,16 +41,6 @@ impl CollapsedState {
     }
 }
 
-/// Whether a call, if there is one, takes a name away.
-fn takes_name(call: &Option<Call>) -> bool
-    ensures value { result ≡ option_any is_unlink call.now }
-{
-    match call {
-        Some(call) => call.is_unlink(),
-        None => false,
-    }
-}
-
 /// States, each with a number, from 0, and with the call at which it stands.
 #[derive(Drop)]
 pub struct CollapsedStates {
@@ -76,26 +65,6 @@ impl Model for CollapsedStates {
 
     ghost invariant = { λ a. AreStanding a.states.items a.calls.items
         × (a.unlinks ≡ false → KeepAllNames a.states.items) };
-}
-
-/// Makes room for one more among states and calls, and adds it to an index; with the number that it gets.
-fn make_room(
-    states: &mut Vec<CollapsedState>,
-    calls: &mut Vec<Option<Call>>,
-    index: &mut Index,
-    digest: u64,
-) -> Result<u32, AllocError>
-    ensures states { states.new.items ≡ states.old.items }
-    ensures calls { calls.new.items ≡ calls.old.items }
-    ensures number { IfOk result (λ i. i ≡ length states.old.items) }
-    ensures room { OnOk result (vec_len states.new < vec_capacity states.new) }
-    ensures beside { OnOk result (vec_len calls.new < vec_capacity calls.new) }
-{
-    let number = place_of(states.len())?;
-    states.reserve(1)?;
-    calls.reserve(1)?;
-    index.add(digest)?;
-    Ok(number)
 }
 
 impl CollapsedStates {
@@ -181,9 +150,12 @@ impl CollapsedStates {
         ensures err { OnErr result (self.new ≡ self.old) }
         ensures number { IfOk result (λ i. i ≡ length self.old) }
     {
-        let number = make_room(&mut self.states, &mut self.calls, &mut self.index, digest)?;
+        let number = place_of(self.states.len())?;
+        self.states.reserve(1)?;
+        self.calls.reserve(1)?;
+        self.index.add(digest)?;
         self.held = self.held.saturating_add(collapsed.process.machine().size());
-        self.unlinks |= takes_name(&call);
+        self.unlinks |= call.as_ref().is_some_and(|call| call.is_unlink());
         self.states.push_reserved(collapsed);
         self.calls.push_reserved(call);
         Ok(number)

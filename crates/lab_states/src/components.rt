@@ -25,19 +25,6 @@ struct Descent {
 }
 
 impl Descent {
-    /// Before the first row.
-    fn new(alloc: Global, count: usize) -> Result<Descent, AllocError> {
-        Ok(Descent {
-            entered: vec![in alloc; 0; count]?,
-            sets: vec![in alloc; 0; count]?,
-            open: Vec::new(alloc),
-            roots: Vec::new(alloc),
-            path: Vec::new(alloc),
-            count: 0,
-            known: 0,
-        })
-    }
-
     /// Enters a row.
     fn enter(&mut self, edges: &Edges, row: u32) -> Result<(), AllocError> {
         self.count = self.count.saturating_add(1);
@@ -107,24 +94,25 @@ impl Descent {
         }
         Ok(true)
     }
-
-    /// Follows all edges.
-    fn go_through(&mut self, edges: &Edges) -> Result<(), AllocError> {
-        for _ in 0..edges.len().saturating_add(self.sets.len()) {
-            let went = self.go_on(edges)?;
-            if !went {
-                return Ok(());
-            }
-        }
-        Ok(())
-    }
 }
 
 /// For each row that the first leads to the number of its strongly connected set, from 1: edges lead to
 /// sets with the same or a lesser number.
 pub(crate) fn sets_of(alloc: Global, edges: &Edges, count: usize) -> Result<Vec<u32>, AllocError> {
-    let mut descent = Descent::new(alloc, count)?;
+    let mut descent = Descent {
+        entered: vec![in alloc; 0; count]?,
+        sets: vec![in alloc; 0; count]?,
+        open: Vec::new(alloc),
+        roots: Vec::new(alloc),
+        path: Vec::new(alloc),
+        count: 0,
+        known: 0,
+    };
     descent.enter(edges, 0)?;
-    descent.go_through(edges)?;
+    for _ in 0..edges.len().saturating_add(count) {
+        if !descent.go_on(edges)? {
+            break;
+        }
+    }
     Ok(descent.sets)
 }

@@ -190,11 +190,6 @@ impl Edges {
         self.first_of(row)..self.end_of(row)
     }
 
-    /// The rows to which the edges from a row lead.
-    pub(crate) fn tos_from(&self, row: usize) -> &[u32] {
-        self.tos().get(self.places_from(row)).unwrap_or(&[])
-    }
-
     /// About how many bytes they take.
     pub fn size(&self) -> usize {
         let edge = size_of::<u32>() + size_of::<u8>();

@@ -30,20 +30,6 @@ fn some_at(numbers: &[Processes], at: usize) -> Processes {
     numbers.get(at).copied().unwrap_or(0)
 }
 
-/// Adds processes at a place, if there is such a place.
-fn add(numbers: &mut Vec<Processes>, at: usize, processes: Processes) {
-    if at < numbers.len() {
-        numbers[at] |= processes;
-    }
-}
-
-/// Leaves only these of the processes at a place, if there is such a place.
-fn keep_only(numbers: &mut Vec<Processes>, at: usize, processes: Processes) {
-    if at < numbers.len() {
-        numbers[at] &= processes;
-    }
-}
-
 /// The processes that have an edge from a row.
 pub fn going_from(edges: &Edges, row: usize) -> Processes {
     let mut going = 0;
@@ -69,7 +55,9 @@ fn moving_in(
             row = edge.from as usize;
             let set = number_at(of_rows, row);
             if set == number_at(of_rows, edge.to as usize) {
-                add(&mut moving, set as usize, only(edge.pid as u32));
+                if let Some(processes) = moving.get_mut(set as usize) {
+                    *processes |= only(edge.pid as u32);
+                }
             }
         }
     }
@@ -85,7 +73,9 @@ fn always_in(
 ) -> Result<Vec<Processes>, AllocError> {
     let mut always = vec![in alloc; u64::MAX; most.saturating_add(1)]?;
     for (row, set) in of_rows.iter().enumerate() {
-        keep_only(&mut always, *set as usize, going_from(edges, row));
+        if let Some(processes) = always.get_mut(*set as usize) {
+            *processes &= going_from(edges, row);
+        }
     }
     Ok(always)
 }
@@ -130,22 +120,17 @@ impl Sets {
     /// For each number of a set a process that goes on from each of its rows and has no edge inside, if
     /// there is one.
     pub fn starved_processes(&self, alloc: Global) -> Result<Vec<Option<u8>>, AllocError> {
-        let mut starved_processes = Vec::with_capacity(alloc, self.moving.len())?;
-        for set in 0..self.moving.len() {
-            starved_processes.push(first_of(self.kept(set)))?;
-        }
-        Ok(starved_processes)
+        (0..self.moving.len())
+            .map(|set| first_of(self.kept(set)))
+            .collect(alloc)
     }
 
-    /// Whether the set of a row has an edge inside, and serves each process: by an edge of it, or by a
+    /// The first row whose set has an edge inside, and serves each process: by an edge of it, or by a
     /// row from which it doesn't go on.
-    fn is_fair(&self, row: usize) -> bool {
-        let set = self.set_of(row) as usize;
-        some_at(&self.moving, set) != 0 && self.kept(set) == 0
-    }
-
-    /// The first row whose set serves each process.
     pub fn first_fair(&self) -> Option<usize> {
-        (0..self.of_rows.len()).find(|row| self.is_fair(*row))
+        (0..self.of_rows.len()).find(|row| {
+            let set = self.set_of(*row) as usize;
+            some_at(&self.moving, set) != 0 && self.kept(set) == 0
+        })
     }
 }

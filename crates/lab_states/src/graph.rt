@@ -2,7 +2,6 @@
 //! cycle is run again (`lassos`).
 ghost use Rattle.std.specs.Prelude.{IsTrue};
 ghost use Rattle.lab_states.specs.Rising.{IsRising, Rises, AreRising};
-ghost use Rattle.lab_states.specs.Private.Rising.{IsOnward};
 
 use crate::edges::{Edge, Edges};
 use crate::places::place_of;
@@ -57,7 +56,7 @@ fn release(
     numbers: &mut Vec<u32>,
     rows: &mut Vec<u32>,
 ) -> Result<(), AllocError> {
-    for to in edges.tos_from(row) {
+    for to in edges.tos().get(edges.places_from(row)).unwrap_or(&[]) {
         let at = *to as usize;
         let number = number_at(numbers, at);
         put(numbers, at, number.saturating_sub(1));
@@ -113,18 +112,11 @@ pub fn is_order(order: &[u32], edges: &Edges) -> bool
     edges.all(|edge| is_rising(edge, order))
 }
 
-/// Whether an edge leads from a row to one after it, of so many.
-fn is_onward(edge: Edge, count: usize) -> bool
-    ensures yes { IsTrue result → IsOnward count edge }
-{
-    edge.from < edge.to && (edge.to as usize) < count
-}
-
 /// Whether the rows, of which there are so many, are in order by their own numbers.
 pub fn is_order_by_number(edges: &Edges, count: usize) -> bool
     ensures yes { IsTrue result → AreRising edges.now }
 {
-    edges.all(|edge| is_onward(edge, count))
+    edges.all(|edge| edge.from < edge.to && (edge.to as usize) < count)
 }
 
 /// Puts down a row, plus 1, as the one before each to which it leads and that has none.
@@ -272,13 +264,6 @@ pub fn shortest_path<F: Fn(Edge) -> Option<bool>>(
     Ok(Some(path))
 }
 
-/// The least row of a cycle among the rows to which the order gives no number.
-fn least_of_cycle(alloc: Global, edges: &Edges, order: Vec<u32>) -> Result<usize, AllocError> {
-    let before = rows_before(alloc, edges, order.as_slice())?;
-    let row = row_on_cycle(before.as_slice());
-    Ok(least_on_cycle(before.as_slice(), row))
-}
-
 /// A cycle among the rows to which the order gives no number: the shortest through its least row.
 pub fn cycle_of(
     alloc: Global,
@@ -286,7 +271,9 @@ pub fn cycle_of(
     order: Vec<u32>,
 ) -> Result<Option<Cycle>, AllocError> {
     let count = order.len();
-    let at = least_of_cycle(alloc, edges, order)?;
+    let before = rows_before(alloc, edges, order.as_slice())?;
+    let row = row_on_cycle(before.as_slice());
+    let at = least_on_cycle(before.as_slice(), row);
     let path = shortest_path(alloc, edges, count, at, |edge| Some(edge.to as usize == at))?;
     Ok(path.map(|edges| Cycle { at, edges }))
 }
