@@ -1,5 +1,5 @@
 -- States without the parts of their outputs that others share.
-use Rattle.std.proofs.Common.{◌≡◌, ◌-◌, inl, inr, ℕ, All, List, [], ◌∷◌, ◌++◌, Option, Some, None, refl, sym, ap, subst, ◌∙◌, append_assoc, arith, drop, get_or, length, map, slice_get, take}
+use Rattle.std.proofs.Common.{◌≡◌, ◌-◌, inl, inr, ℕ, All, List, [], ◌∷◌, ◌++◌, Some, refl, sym, ap, subst, ◌∙◌, append_assoc, arith, drop, get_or, length, map, slice_get, take}
 use Rattle.std.specs.Option.{option_map}
 use Rattle.std.proofs.lemmas.List.{length-append, length-drop, map-append, take-append-drop, take_all}
 use Rattle.std.proofs.lemmas.List.Elements.{All-push, All-tail, All-weaker}
@@ -16,7 +16,7 @@ use Rattle.lab_states.specs.Private.Outputs.{Extends}
 use Rattle.lab_states.specs.CollapsedStates.{kept_behind, whole_of, IsWithin, IsSameOrMore, silent, IsButForOutput}
 use Rattle.lab_states.specs.Private.CollapsedStates.{AreWithin, AreSame}
 use Rattle.lab_states.proofs.PieceLemmas.{extended}
-use Rattle.lab_states.proofs.SilentProcesses.{seen_output, own_output, last_output, put_output, silent_output, stands_same, ended_same}
+use Rattle.lab_states.proofs.SilentProcesses.{seen_output, own_output, last_output, put_output, mapped, silent_output, stands_same, ended_same}
 
 -- what a process has written itself
 abbrev pub own : CollapsedState → List ℕ
@@ -72,13 +72,10 @@ whole_silent os s = sym (ap silent (whole_seen os s) ∙ silent_output (process_
 pub whole_extended : (os qs : List (List ℕ)) (s : CollapsedState) → Extends os qs → IsWithin os s → whole_of qs s ≡ whole_of os s
 whole_extended os qs s e within = ap (λ bs. kept_with_output s.process (bs ++ own s)) (extended os qs s.before e within)
 
-head : (P : CollapsedState → Type 0) (s : CollapsedState) (ss : List CollapsedState) → All P (s ∷ ss) → P s
-head P s ss h = h 0 s (omega arith)
-
 pub wholes_extended : (os qs : List (List ℕ)) (ss : List CollapsedState) → Extends os qs → All (IsWithin os) ss → map (whole_of qs) ss ≡ map (whole_of os) ss
 wholes_extended os qs [] e within = refl
 wholes_extended os qs (s ∷ ss) e within =
-    ap (λ k. k ∷ map (whole_of qs) ss) (whole_extended os qs s e (head (IsWithin os) s ss within))
+    ap (λ k. k ∷ map (whole_of qs) ss) (whole_extended os qs s e (within 0 s (omega arith)))
     ∙ ap (λ ks. whole_of os s ∷ ks) (wholes_extended os qs ss e (All-tail (IsWithin os) s ss within))
 
 within_extended : (os qs : List (List ℕ)) (s : CollapsedState) → Extends os qs → IsWithin os s → IsWithin qs s
@@ -115,11 +112,6 @@ pub state_at : (os : List (List ℕ)) (ss : List CollapsedState) (i : ℕ) (s t 
     → option_map process_view (slice_get (map (whole_of os) ss) i) ≡ Some (process_view k)
 state_at os ss i s t k at same is =
     ap (option_map process_view) (whole_at os ss i s at) ∙ ap (λ v. Some v) (same_whole os s t same ∙ ap process_view is)
-
--- what a function makes of what stands there
-mapped : {A B : Type 0} (f : A → B) (o : Option A) (y : B) → option_map f o ≡ Some y → (x : A) × (o ≡ Some x) × (f x ≡ y)
-mapped f None y e = absurd (cc)
-mapped f (Some x) y e = (x, refl, (cc))
 
 pub ended_at : (os : List (List ℕ)) (ss : List CollapsedState) (xs : List Kept) (n : ℕ) (k : Kept) → map (whole_of os) ss ≡ xs → ((s : CollapsedState) → slice_get ss n ≡ Some s → HasEnded (process_view s.process))
     → slice_get xs n ≡ Some k → HasEnded (process_view k)

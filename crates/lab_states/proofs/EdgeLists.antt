@@ -1,5 +1,5 @@
 -- Edges as lists of numbers.
-use Rattle.std.proofs.Common.{ℕ, zero, suc, ◌≡◌, ◌+◌, ◌<◌, ◌≤◌, List, [], ◌∷◌, ◌++◌, Some, refl, sym, ap, ◌∙◌, arith, length, slice_get, cond, ltb, replicate, subst, ◌⊎◌, inl, inr}
+use Rattle.std.proofs.Common.{ℕ, zero, suc, ◌≡◌, ◌+◌, ◌<◌, ◌≤◌, List, [], ◌∷◌, ◌++◌, Some, refl, sym, ap, ◌∙◌, arith, length, slice_get, cond, ltb, replicate, below_more}
 use Rattle.std.proofs.lemmas.Bool.Decides.{nat_tests}
 use Rattle.std.proofs.lemmas.Option.{slice_get_past}
 use Rattle.lab_states.specs.declared.edges.Edge.{Edge}
@@ -104,9 +104,6 @@ pub between_more : (low : ℕ) (ns : List ℕ) (high n : ℕ) → AreBetween low
 between_more low [] high n h = between_same low high n h
 between_more low (m ∷ ns) high n h = (h.0, between_more m ns high n h.1)
 
-lt_or_eq : (i n : ℕ) → i < n + 1 → (i < n) ⊎ (i ≡ n)
-lt_or_eq i n h = grind arith
-
 -- where the edges from the row before one end at a place or before it, those from all rows before do
 pub all_past : (ends : List ℕ) (high row at e : ℕ) → AreBetween 0 ends high → slice_get ends row ≡ Some e → e ≤ at → ArePast ends (row + 1) at
 all_past ends high row at e h is below i n within has =
@@ -127,7 +124,4 @@ edge_pushed ends ts ps e same between from =
     ∙ ap (λ n. edges_of ends 0 ts ps ++ record { from = n; to = e.to; pid = e.pid } ∷ []) (from_last ends (length ts) between ∙ sym from)
 
 pub past_more : (ends : List ℕ) (row at : ℕ) → ArePast ends row at → ((e : ℕ) → slice_get ends row ≡ Some e → e ≤ at) → ArePast ends (row + 1) at
-past_more ends row at h here i e below is = elim (lt_or_eq i row below) [
-  | inl less ↦ h i e less is
-  | inr same ↦ here e (subst (λ n. slice_get ends n ≡ Some e) same is)
-]
+past_more ends row at h here i e below is = below_more (λ k. (e : ℕ) → slice_get ends k ≡ Some e → e ≤ at) row (λ k within e. h k e within) here i below e is

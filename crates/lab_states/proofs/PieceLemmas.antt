@@ -133,13 +133,10 @@ ends_at ps os n k p q chained view at same place =
     stands os n (behind os q) within here
 
 -- a part of a list, and what stands behind it
-pub take_parts : (out : List ℕ) (at n : ℕ) (bs : List ℕ) → bs ≡ take n (drop at out) → take (at + n) out ≡ take at out ++ bs
-take_parts out at n bs same =
-    sym (ap (λ xs. take at out ++ xs) (same ∙ sym (drop-take at n out)) ∙ ap (λ xs. xs ++ drop at (take (at + n) out)) (sym (take-take at (at + n) out (omega arith)))
+pub take_parts : (out : List ℕ) (at n m : ℕ) (bs : List ℕ) → m ≡ n → bs ≡ take m (drop at out) → take (at + n) out ≡ take at out ++ bs
+take_parts out at n m bs is same =
+    sym (ap (λ xs. take at out ++ xs) (same ∙ ap (λ k. take k (drop at out)) is ∙ sym (drop-take at n out)) ∙ ap (λ xs. xs ++ drop at (take (at + n) out)) (sym (take-take at (at + n) out (omega arith)))
     ∙ take-append-drop at (take (at + n) out))
-
-pub take_parts_of : (out : List ℕ) (at n m : ℕ) (bs : List ℕ) → m ≡ n → bs ≡ take m (drop at out) → take (at + n) out ≡ take at out ++ bs
-take_parts_of out at n m bs is same = take_parts out at n bs (same ∙ ap (λ k. take k (drop at out)) is)
 
 -- one piece more of an output that is kept
 pub part_kept : (os qs : List (List ℕ)) (n m before : ℕ) (front bytes more : List ℕ) → slice_get os n ≡ Some front → before ≡ n → more ≡ front ++ bytes → slice_get qs m ≡ Some (get_or os before [] ++ bytes)

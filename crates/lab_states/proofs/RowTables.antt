@@ -1,6 +1,6 @@
 -- Rows of one width, one behind the other.
 use Rattle.std.proofs.Common.{ℕ, zero, suc, ◌≡◌, ◌+◌, ◌-◌, ◌*◌, ◌<◌, ◌≤◌, List, [], ◌∷◌, ◌++◌, Some, refl, sym, ap, ◌∙◌, arith, length, take, drop, set, length-set, slice_get}
-use Rattle.std.proofs.lemmas.List.{take_all, take-append-le, drop-append-le, drop-drop, length-drop, length-take-le, set-append_right}
+use Rattle.std.proofs.lemmas.List.{nil_from_length, take_all, take-append-le, drop-append-le, drop-drop, length-drop, length-take-le, set-append_right}
 use Rattle.lab_states.specs.Rows.{Row, row_of, rows_of}
 
 -- a row ends among the numbers of all
@@ -28,13 +28,9 @@ row_part w n ns ms i below same =
     let one : w ≡ i * w + w - i * w = omega arith in
     row_read w n ns i below ∙ ap (λ k. Some (row_of (take k (drop (i * w) ns)))) one ∙ ap (λ xs. Some (row_of (take (i * w + w - i * w) (drop (i * w) xs)))) (sym same)
 
-no_numbers : (ns : List ℕ) → length ns ≡ 0 → ns ≡ []
-no_numbers [] h = refl
-no_numbers (x ∷ xs) h = absurd (omega (arith, h))
-
 pub row_added : (w n : ℕ) (ns ms : List ℕ) → length ns ≡ n * w → length ms ≡ w → rows_of w (suc n) (ns ++ ms) ≡ rows_of w n ns ++ row_of ms ∷ []
 row_added w zero ns ms all one =
-    let none = no_numbers ns (omega (arith, all)) in
+    let none = nil_from_length ns (omega (arith, all)) in
     ap (λ xs. row_of (take w (xs ++ ms)) ∷ []) none ∙ ap (λ xs. row_of xs ∷ []) (take_all w ms (omega (arith, one)))
 row_added w (suc n) ns ms all one =
     let few : w ≤ length ns = omega (arith, all) in

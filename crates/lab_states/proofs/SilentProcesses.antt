@@ -83,7 +83,7 @@ same_call (Running m) o = same_next m o
 same_call (Waiting m c) o = refl
 same_call (Ended e) o = refl
 
-calls_next : (a : NextAction) (c : Call) → call_next a ≡ Some c → a ≡ calls c
+pub calls_next : (a : NextAction) (c : Call) → call_next a ≡ Some c → a ≡ calls c
 calls_next (moves q) c e = absurd (cc)
 calls_next (calls d) c e = let same : d ≡ c = cc in ap calls same
 
@@ -144,14 +144,15 @@ receiving_same s t same = ap (option_any is_receive) (sym (same_call s []) ∙ a
 so_same : (x : State) (k : KernelState) (p : ℕ) (s t : Process) → silent s ≡ silent t → is_so x k p s ≡ is_so x k p t
 so_same x k p s t same = sym (so_silent x k p s) ∙ ap (is_so x k p) same ∙ so_silent x k p t
 
-found : (o : Option Process) (s : Process) → option_map silent o ≡ Some s → (t : Process) × (o ≡ Some t) × (silent t ≡ s)
-found None s e = absurd (cc)
-found (Some t) s e = (t, refl, (cc))
+-- what a function makes of what stands there
+pub mapped : {A B : Type 0} (f : A → B) (o : Option A) (y : B) → option_map f o ≡ Some y → (x : A) × (o ≡ Some x) × (f x ≡ y)
+mapped f None y e = absurd (cc)
+mapped f (Some x) y e = (x, refl, (cc))
 
 -- the process at a place of the one list and of the other
 beside : (ps qs : List Process) (p : ℕ) (s : Process) → map silent ps ≡ map silent qs → slice_get ps p ≡ Some s → (t : Process) × (slice_get qs p ≡ Some t) × (silent t ≡ silent s)
 beside ps qs p s same at =
-    found (slice_get qs p) (silent s) (sym (slice_get-map silent qs p) ∙ ap (λ xs. slice_get xs p) (sym same) ∙ slice_get-map silent ps p ∙ ap (option_map silent) at)
+    mapped silent (slice_get qs p) (silent s) (sym (slice_get-map silent qs p) ∙ ap (λ xs. slice_get xs p) (sym same) ∙ slice_get-map silent ps p ∙ ap (option_map silent) at)
 
 -- what a condition says of processes, it says of those that are the same but for their outputs
 pub holds_silently : (c : Condition) (k : KernelState) (ps qs : List Process) → map silent ps ≡ map silent qs → Holds c (world_of k ps) → Holds c (world_of k qs)

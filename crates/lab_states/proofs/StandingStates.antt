@@ -1,20 +1,17 @@
 -- States that are kept with the calls at which they stand.
-use Rattle.std.proofs.Common.{ℕ, ◌≡◌, List, Option, Some, None, refl, ap, ◌∙◌, subst, slice_get}
+use Rattle.std.proofs.Common.{ℕ, ◌≡◌, List, Option, Some, None, refl, ◌∙◌, subst, slice_get}
 use Rattle.ipc_kernel.specs.declared.call.Call.{Call}
-use Rattle.lab_sched.specs.Worlds.{Process, Running, Waiting, Ended, NextAction, moves, calls, next_action}
+use Rattle.lab_sched.specs.Worlds.{Process, Running, Waiting, Ended, next_action}
 use Rattle.lab_sched.specs.Held.{process_view}
-use Rattle.lab_conditions.specs.Conditions.{call_next, call_of, StandsAt}
+use Rattle.lab_conditions.specs.Conditions.{call_of, StandsAt}
 use Rattle.lab_worlds.specs.Calls.{Both}
 use Rattle.lab_states.specs.declared.collapsed_states.CollapsedState.{CollapsedState}
 use Rattle.lab_states.specs.Private.Standing.{IsStanding, AreStanding}
+use Rattle.lab_states.proofs.SilentProcesses.{calls_next}
 
 -- a process stands at its call
 standing : (s : Process) (c : Call) → call_of s ≡ Some c → StandsAt s c
-standing (Running m) c e = by (next_action m) refl e
-  where
-    by : (a : NextAction) → next_action m ≡ a → call_next a ≡ Some c → next_action m ≡ calls c
-    by (moves n) f e = absurd (cc)
-    by (calls d) f e = let same : d ≡ c = cc in f ∙ ap calls same
+standing (Running m) c e = calls_next (next_action m) c e
 standing (Waiting m d) c e = cc
 standing (Ended f) c e = absurd (cc)
 
