@@ -10,7 +10,7 @@ use Rattle.ipc_kernel.specs.Kernel.{KernelState, empty_kernel}
 use Rattle.lab_sched.specs.Worlds.{HasProfile, first_profile, HaveOneProfile, Process, WorldState, step_effect}
 use Rattle.lab_sched.specs.Execution.{count, IsExecution}
 use Rattle.lab_sched.specs.LocalRun.{steps}
-use Rattle.lab_sched.specs.History.{replay}
+use Rattle.lab_sched.specs.History.{IsLegal, replay}
 use Rattle.lab_sched.specs.Held.{process_view, IsHeld}
 use Rattle.lab_sched.specs.Settled.{report, IsSettled, HasStopped, HaveStopped}
 use Rattle.lab_sched.specs.Starts.{Runs}
@@ -24,7 +24,7 @@ use Rattle.lab_sched.proofs.Profiles.{alone_profile, one_of}
 use Rattle.lab_sched.proofs.WorldLemmas.{runs_held}
 use Rattle.lab_threads.specs.declared.worker_result.WorkerResult.{WorkerResult}
 use Rattle.lab_threads.specs.Private.WorkerResults.{AreWorkerResults}
-use Rattle.lab_threads.specs.Private.Merged.{final_world, HaveAllSteps, LeadToResults}
+use Rattle.lab_threads.specs.Private.Merged.{final_world, LeadToEnds, LeadToResults}
 use Rattle.lab_threads.proofs.Merges.{some_at}
 
 map-map_seen : (workers : List WorkerResult) → map process_view (map (λ k. k.process) workers) ≡ map (λ k. process_view k.process) workers
@@ -80,14 +80,12 @@ worker_steps ss left starts workers limit are counted left-is p within =
     get_or_from_slice_get left p k.0.left 0 (ap (λ xs. slice_get xs p) left-is ∙ slice_get-map (λ k. k.left) workers p ∙ ap (λ o. option_map (λ k. k.left) o) k.1) in
     omega (arith, mine, counted p k.0 k.1, worker.within)
 
--- what `merge` says, of the lists that its slices show
-pub from_execution : (ss : List ℕ) (workers workers' : List WorkerResult) (h h' : List Entry) → workers' ≡ workers → h' ≡ h
-    → LeadToResults workers' h' ss → LeadToResults workers h ss
-from_execution ss workers workers' h h' workers-is h-is all =
-    subst (λ v. LeadToResults v h ss) workers-is (subst (λ e. LeadToResults workers' e ss) h-is all)
-
-pub from_counts : (ss : List ℕ) (workers workers' : List WorkerResult) → workers' ≡ workers → HaveAllSteps workers' ss → HaveAllSteps workers ss
-from_counts ss workers workers' workers-is all = subst (λ v. HaveAllSteps v ss) workers-is all
+-- what merging says, of the lists that its slices show
+pub merged_from : {ss : List ℕ} {workers workers' : List WorkerResult} {h h' : List Entry} {n limit : ℕ} (starts : List ProcessValue) → LeadToResults workers' h' ss → workers' ≡ workers → h' ≡ h
+    → AreWorkerResults limit starts workers → n ≡ length starts → IsLegal (empty_kernel n) h → LeadToEnds starts workers h ss
+merged_from {ss} {workers} {workers'} {h} {h'} {n} {limit} starts all workers-is h-is are count legal =
+    let shown : LeadToResults workers h ss = subst (λ v. LeadToResults v h ss) workers-is (subst (λ e. LeadToResults workers' e ss) h-is all) in
+    shown starts limit are (subst (λ m. IsLegal (empty_kernel m) h) count legal)
 
 -- where the workers of running processes stopped is ready for replies
 pub workers_held : (limit : ℕ) (starts : List ProcessValue) (workers : List WorkerResult) → AreWorkerResults limit starts workers → All Runs starts → All IsHeld (map (λ k. k.process) workers)

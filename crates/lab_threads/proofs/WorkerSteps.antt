@@ -2,9 +2,7 @@
 use Rattle.std.proofs.Common.{◌≡◌, refl, ap}
 use Rattle.lc3_machine.specs.Process.{Process as Machine}
 use Rattle.lc3_machine.specs.declared.want.How.{How}
-use Rattle.lc3_machine.specs.declared.want.Want.{Want}
 use Rattle.lc3_machine.specs.declared.want.Want.TheVariants.{End}
-use Rattle.lc3_machine.specs.declared.machine.Progress.TheVariants.{Stopped}
 use Rattle.ipc_kernel.specs.declared.call.Call.{Call}
 use Rattle.ipc_kernel.specs.declared.call.Call.TheVariants.{Exit}
 use Rattle.ipc_kernel.specs.declared.call.Reply.{Reply}
@@ -13,19 +11,12 @@ use Rattle.ipc_traps.specs.Asked.{Calls, Ends, next_request}
 use Rattle.ipc_traps.proofs.Laws.{asked_end}
 use Rattle.lab_sched.specs.LocalRun.{AreLocal, TakesAnswer}
 use Rattle.lab_sched.specs.Held.{process_view}
-use Rattle.lab_sched.specs.Stepping.{IsAsked, MayWait, StandsBefore, StopsBy, after_end, after_reply}
-use Rattle.lab_sched.specs.Verdicts.{IsRunning}
+use Rattle.lab_sched.specs.Stepping.{IsAsked, MayWait, StandsBefore, after_end, after_reply}
 use Rattle.lab_sched.specs.Worlds.{Process, Running, Waiting, Ended, machine_of, next_action, action_for, process_after_answer, process_after_reply_to}
 use Rattle.lab_sched.specs.declared.process.Process.{Process as Kept}
 use Rattle.lab_sched.specs.declared.process.Process.TheVariants as kept
 use Rattle.ipc_names.specs.declared.errno.Errno.{Errno}
 use Rattle.ipc_traps.specs.declared.Asked.TheVariants.{Refused}
-
--- what keeps a running process from its next local step stands next
-pub stands : (s : Process) (want : Want) → IsRunning s → StopsBy s (Stopped want) → StandsBefore s want
-stands (Running m) want runs stops = stops
-stands (Waiting m c) want runs stops = absurd runs
-stands (Ended e) want runs stops = absurd runs
 
 -- a refusal without the kernel is a local step
 pub refused : (s u : Process) (e : Errno) → IsAsked s (Refused e) u → AreLocal 1 s u

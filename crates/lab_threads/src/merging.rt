@@ -1,12 +1,13 @@
 //! One list of the steps of all workers, in which the calls stand as in the history.
-ghost use Rattle.std.specs.Prelude.{◌≡◌, ◌+◌, ◌++◌, ◌^◌, ◌<◌, ◌≤◌, true, IfOk, IfSome, slice_index, length, replicate};
+ghost use Rattle.std.specs.Prelude.{◌≡◌, ◌+◌, ◌++◌, ◌^◌, ◌<◌, ◌≤◌, IfOk, IfSome, OnOk, slice_index, length, replicate};
 ghost use Rattle.ipc_kernel.specs.Limits.{process_max};
 ghost use Rattle.lab_sched.specs.Schedules.{steps_of};
-ghost use Rattle.lab_threads.specs.Private.Merged.{IsFound, IsItem, AreCounted, HaveAllSteps, AreCallsMerged, CompletesMerge, LeadToResults};
+ghost use Rattle.lab_threads.specs.Private.Merged.{IsFound, IsItem, AreCallsMerged, CompletesMerge};
 
+use crate::RunFault;
 use crate::worker_result::WorkerResult;
 use lab_sched::{Entry, MOST_STEPS, Schedule, TracedCall};
-use std::alloc::{AllocError, Global};
+use std::alloc::Global;
 
 /// The number of local steps before the call that stands there, if it is the entry's.
 fn find(calls: &[TracedCall], at: usize, entry: &Entry) -> Option<u32>
@@ -38,93 +39,68 @@ fn item(workers: &[WorkerResult], next: &[usize], entry: &Entry) -> Option<u32>
     find(calls, next[entry.pid], entry)
 }
 
-/// Adds steps of a process to a schedule; false where it has no room for them.
-fn add(schedule: &mut Schedule, pid: usize, n: u32) -> Result<bool, AllocError>
+/// Adds steps of a process to a schedule that has room for them.
+fn add(schedule: &mut Schedule, pid: usize, n: u32) -> Result<(), RunFault>
     requires process { pid < process_max }
-    ensures steps { IfOk result (λ added. added ≡ true
-        → steps_of schedule.new ≡ steps_of schedule.old ++ replicate n pid) }
+    ensures steps { OnOk result (steps_of schedule.new ≡ steps_of schedule.old ++ replicate n pid) }
 {
     if n == 0 {
-        return Ok(true);
+        return Ok(());
     }
     if n > MOST_STEPS - schedule.total() {
-        return Ok(false);
+        return Err(RunFault::Unvouched);
     }
     schedule.push(pid, n)?;
-    Ok(true)
+    Ok(())
 }
 
 /// A schedule, and the number of calls of each process in it.
-struct PartialMerge {
+pub(crate) struct PartialMerge {
     schedule: Schedule,
     next: Vec<usize>,
 }
 
-/// The calls of a history with the local steps before each, as long as they are the traces'.
-fn merge_calls(
+/// The calls of a history with the local steps before each. There is no such merge where they
+/// aren't the traces', or where the steps are too many for a schedule.
+pub(crate) fn merge_calls(
     alloc: Global,
     workers: &[WorkerResult],
     history: &[Entry],
-) -> Result<Option<PartialMerge>, AllocError>
+) -> Result<PartialMerge, RunFault>
     requires few { length workers.now ≤ process_max }
-    ensures merged { IfOk result (λ o. IfSome o (λ b.
-        AreCallsMerged workers.now history.now b.next.items (steps_of b.schedule))) }
-    ensures counted { IfOk result (λ o. IfSome o (λ b.
-        AreCounted workers.now b.next.items (steps_of b.schedule))) }
-    ensures len { IfOk result (λ o. IfSome o (λ b. length b.next.items ≡ length workers.now)) }
+    ensures merged { IfOk result
+        (λ b. AreCallsMerged workers.now history.now b.next.items (steps_of b.schedule)) }
+    ensures len { IfOk result (λ b. length b.next.items ≡ length workers.now) }
 {
     let mut schedule = Schedule::new(alloc);
     let mut next: Vec<usize> = vec![in alloc; 0; workers.len()]?;
     for entry in history {
         let Some(before) = item(workers, &next, entry) else {
-            return Ok(None);
+            return Err(RunFault::Unvouched);
         };
-        if !add(&mut schedule, entry.pid, before + 1)? {
-            return Ok(None);
-        }
+        add(&mut schedule, entry.pid, before + 1)?;
         next[entry.pid] += 1;
     }
-    Ok(Some(PartialMerge { schedule, next }))
+    Ok(PartialMerge { schedule, next })
 }
 
 /// Adds the local steps after the last call of each trace, where no trace has a call left.
-fn merge_ends(
+pub(crate) fn merge_ends(
     workers: &[WorkerResult],
     partial: PartialMerge,
-) -> Result<Option<Schedule>, AllocError>
+) -> Result<Schedule, RunFault>
     requires few { length workers.now ≤ process_max }
     requires len { length partial.next.items ≡ length workers.now }
-    ensures execution { IfOk result (λ o. IfSome o (λ s.
-        CompletesMerge workers.now partial.next.items (steps_of partial.schedule) (steps_of s))) }
-    ensures counts { IfOk result (λ o. IfSome o (λ s.
-        AreCounted workers.now partial.next.items (steps_of partial.schedule)
-        → HaveAllSteps workers.now (steps_of s))) }
+    ensures merged { IfOk result (λ s.
+        CompletesMerge workers.now partial.next.items (steps_of partial.schedule) (steps_of s)) }
 {
     let PartialMerge { mut schedule, next } = partial;
     for pid in 0..workers.len() {
         let trace = &workers[pid].trace;
-        if next[pid] != trace.calls.len() || !add(&mut schedule, pid, trace.after)? {
-            return Ok(None);
+        if next[pid] != trace.calls.len() {
+            return Err(RunFault::Unvouched);
         }
+        add(&mut schedule, pid, trace.after)?;
     }
-    Ok(Some(schedule))
-}
-
-/// One list of the steps of all workers, in which the calls stand as in the history. There is none
-/// where the history's calls and answers aren't the traces', or where the steps are too many for a
-/// schedule.
-pub(crate) fn merge(
-    alloc: Global,
-    workers: &[WorkerResult],
-    history: &[Entry],
-) -> Result<Option<Schedule>, AllocError>
-    requires few { length workers.now ≤ process_max }
-    ensures execution { IfOk result (λ o. IfSome o (λ s.
-        LeadToResults workers.now history.now (steps_of s))) }
-    ensures counts { IfOk result (λ o. IfSome o (λ s. HaveAllSteps workers.now (steps_of s))) }
-{
-    match merge_calls(alloc, workers, history)? {
-        None => Ok(None),
-        Some(partial) => merge_ends(workers, partial),
-    }
+    Ok(schedule)
 }

@@ -13,11 +13,11 @@ ghost use Rattle.lab_sched.specs.Verdicts.{IsVerdict};
 ghost use Rattle.lab_sched.specs.declared.process.Process.{Process as ProcessValue};
 ghost use Rattle.lab_threads.specs.Limits.{most_steps_each};
 ghost use Rattle.lab_threads.specs.Private.WorkerResults.{AreWorkerResults};
-ghost use Rattle.lab_threads.specs.Private.Merged.{HaveAllSteps, LeadToResults};
+ghost use Rattle.lab_threads.specs.Private.Merged.{LeadToResults};
 ghost use Rattle.lab_threads.specs.Private.Reported.{IsReportFrom};
 
 use crate::context::Crew;
-use crate::merging::merge;
+use crate::merging::{merge_calls, merge_ends};
 use crate::monitor::Monitor;
 use crate::spawning::run_workers;
 use crate::worker_result::WorkerResult;
@@ -76,8 +76,7 @@ fn merge_workers(
     history: &[Entry],
 ) -> Result<(Schedule, Vec<u32>), RunFault>
     requires few { length workers.now ≤ process_max }
-    ensures execution { IfOk result (λ r. LeadToResults workers.now history.now (steps_of r.0)) }
-    ensures counts { IfOk result (λ r. HaveAllSteps workers.now (steps_of r.0)) }
+    ensures merged { IfOk result (λ r. LeadToResults workers.now history.now (steps_of r.0)) }
     ensures left { IfOk result (λ r. r.1.items ≡ map (λ k. k.left) workers.now) }
     ensures room { IfOk result (λ r. total_of r.0 + sum r.1.items ≤ most_steps) }
 {
@@ -85,10 +84,12 @@ fn merge_workers(
         return Err(RunFault::Unvouched);
     }
     let left: Vec<u32> = workers.iter().map(|worker| worker.left).collect(alloc)?;
-    match merge(alloc, workers, history)? {
-        Some(schedule) if has_room(&schedule, &left) => Ok((schedule, left)),
-        _ => Err(RunFault::Unvouched),
+    let partial = merge_calls(alloc, workers, history)?;
+    let schedule = merge_ends(workers, partial)?;
+    if !has_room(&schedule, &left) {
+        return Err(RunFault::Unvouched);
     }
+    Ok((schedule, left))
 }
 
 /// The report of a run whose workers brought back these results, once all has gone on that has

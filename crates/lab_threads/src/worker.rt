@@ -1,6 +1,6 @@
 //! Workers, which step one process each.
 ghost use Rattle.std.specs.Prelude.{◌≡◌, ◌≤◌, ◌<◌, ◌+◌, ◌^◌, vec_len, vec_capacity};
-ghost use Rattle.lc3_machine.specs.declared.want.Want.TheVariants.{Trap, End};
+ghost use Rattle.lc3_machine.specs.declared.want.Want.TheVariants.{Trap};
 ghost use Rattle.lab_sched.specs.Held.{process_view, IsHeld};
 ghost use Rattle.lab_sched.specs.LocalRun.{AreLocal};
 ghost use Rattle.lab_sched.specs.Worlds.{Process as Seen};
@@ -19,7 +19,7 @@ use crate::worker_result::WorkerResult;
 use ipc_kernel::{Answer, Call};
 use ipc_traps::Asked;
 use lab_sched::{Process, Trace, answer_call, ask_call, begin_wait, end_process, local_steps};
-use lc3_machine::{How, Progress, Want};
+use lc3_machine::{Progress, Want};
 use std::sync::Wait;
 
 #[derive(Clone, Copy, PartialEq, Eq)]
@@ -39,11 +39,11 @@ fn write_local<R, G: Gate>(context: &WorkerContext<'_, R, G>, log: &mut WorkerLo
     ensures alone { (x y : Seen) → AreLocal count x y → LeadsOn log.old x log.new y }
     ensures allowed { allowance log.new ≡ allowance log.old }
 {
-    let is_first = log.is_at_call();
-    log.add_local(count);
-    if is_first {
+    if log.is_at_call() {
         context.gate.arrive(context.pid, 0);
     }
+    log.trace.add_local(count);
+    log.left -= count;
 }
 
 /// Takes local steps of a running process, one where it comes from a call, or else all up to its
@@ -78,34 +78,20 @@ fn advance<R: Wait, G: Gate>(
             }
             Err(_) => Continuation::Stops,
         },
-        Progress::Stopped(Want::End(how)) => step_end(context, process, how, log),
+        Progress::Stopped(Want::End(how)) => match context.call(
+            &Call::Exit,
+            false,
+            &mut log.calls,
+        ) {
+            CallOutcome::Answered(reply) => {
+                end_process(process, how);
+                log.add_call(Call::Exit, Answer::Done(reply));
+                Continuation::GoesOn
+            }
+            CallOutcome::NoMemory => Continuation::Stops,
+            _ => Continuation::Misfits,
+        },
         Progress::Short | Progress::Moved => Continuation::Stops,
-    }
-}
-
-fn step_end<R: Wait, G: Gate>(
-    context: &WorkerContext<'_, R, G>,
-    process: &mut Process,
-    how: How,
-    log: &mut WorkerLog,
-) -> Continuation
-    requires stands { StandsBefore (process_view process.old) (End how) }
-    requires held { IsHeld process.old }
-    requires some { 0 < log.old.left }
-    requires room { vec_len log.old.trace.calls < vec_capacity log.old.trace.calls }
-    ensures alone { LeadsOn log.old (process_view process.old) log.new (process_view process.new) }
-    ensures held { IsHeld process.new }
-    ensures allowed { allowance log.new ≡ allowance log.old }
-{
-    match context.call(&Call::Exit, false, &mut log.calls) {
-        CallOutcome::Answered(reply) => {
-            end_process(process, how);
-            log.add_call(Call::Exit, Answer::Done(reply));
-            Continuation::GoesOn
-        }
-        CallOutcome::NoMemory => Continuation::Stops,
-        CallOutcome::Rejected | CallOutcome::Blocked { .. } | CallOutcome::AnsweredAfterWait(_) =>
-            Continuation::Misfits,
     }
 }
 

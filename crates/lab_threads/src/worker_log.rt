@@ -1,7 +1,7 @@
 //! What a worker writes down.
-ghost use Rattle.std.specs.Prelude.{◌≡◌, ◌+◌, ◌<◌, ◌≤◌, ◌^◌, vec_len, vec_capacity};
+ghost use Rattle.std.specs.Prelude.{◌≡◌, ◌+◌, ◌<◌, vec_len, vec_capacity};
 ghost use Rattle.lab_sched.specs.Worlds.{Process};
-ghost use Rattle.lab_sched.specs.LocalRun.{AreLocal, TakesAnswer};
+ghost use Rattle.lab_sched.specs.LocalRun.{TakesAnswer};
 ghost use Rattle.lab_threads.specs.Private.WorkerLogs.{LeadsOn, allowance};
 
 use ipc_kernel::{Answer, Call};
@@ -20,16 +20,6 @@ impl WorkerLog {
     /// Whether the next local step is the first since the last call.
     pub(crate) fn is_at_call(&self) -> bool {
         self.trace.after == 0
-    }
-
-    pub(crate) fn add_local(&mut self, count: u32)
-        requires left { count ≤ self.old.left }
-        requires few { allowance self.old < 2 ^ 32 }
-        ensures alone { (x y : Process) → AreLocal count x y → LeadsOn self.old x self.new y }
-        ensures allowed { allowance self.new ≡ allowance self.old }
-    {
-        self.trace.add_local(count);
-        self.left -= count;
     }
 
     pub(crate) fn add_call(&mut self, call: Call, answer: Answer)

@@ -36,11 +36,16 @@ pub record IsItem
   pub at : slice_get workers e.pid ≡ Some worker
   pub found : IsFound worker.trace.calls.items (slice_index next e.pid) e before
 
--- what is left of each trace leads from where its process is to where its worker stopped
-abbrev pub AreLeft : List Process → List WorkerResult → List ℕ → Type 0
-AreLeft xs workers next = (p : ℕ) (x : Process) (k : WorkerResult) → slice_get xs p ≡ Some x
-    → slice_get workers p ≡ Some k
-    → Leads x (drop (slice_index next p) k.trace.calls.items) k.trace.after (process_view k.process)
+-- what is left of a trace leads from where its process is to where its worker stopped, and its steps
+-- and those that were taken are the steps of the trace
+pub record IsLeft (x : Process) (k : WorkerResult) (next taken : ℕ) : Type 0 where
+  pub leads : Leads x (drop next k.trace.calls.items) k.trace.after (process_view k.process)
+  pub counted : taken + (weight (drop next k.trace.calls.items) + k.trace.after) ≡ steps k.trace
+
+-- so it is of each trace
+abbrev pub AreLeft : List Process → List WorkerResult → List ℕ → List ℕ → Type 0
+AreLeft xs workers next ps = (p : ℕ) (x : Process) (k : WorkerResult) → slice_get xs p ≡ Some x
+    → slice_get workers p ≡ Some k → IsLeft x k (slice_index next p) (count p ps)
 
 -- the steps so far lead to a world where the rest of the history is legal, and the rests of the
 -- traces are left
@@ -51,18 +56,7 @@ pub record IsMerged
   pub execution : IsExecution (initial_world starts) ps world done
   pub legal : IsLegal world.kernel rest
   pub len : length world.processes ≡ length workers
-  pub left : AreLeft world.processes workers next
-
--- each process's steps so far, and those that are left of its trace, are the steps of the trace
-pub record AreCounted (workers : List WorkerResult) (next ps : List ℕ) : Type 0 where
-  pub each : (p : ℕ) (k : WorkerResult) → slice_get workers p ≡ Some k
-      → count p ps + (weight (drop (slice_index next p) k.trace.calls.items) + k.trace.after)
-      ≡ steps k.trace
-
--- of each process there are as many steps as its trace has
-abbrev pub HaveAllSteps : List WorkerResult → List ℕ → Type 0
-HaveAllSteps workers ps = (p : ℕ) (k : WorkerResult) → slice_get workers p ≡ Some k
-    → count p ps ≡ steps k.trace
+  pub left : AreLeft world.processes workers next ps
 
 -- wherever the workers began, if the history is legal there, the steps so far have all its calls
 abbrev pub AreCallsMerged : List WorkerResult → List Entry → List ℕ → List ℕ → Type 0
@@ -70,16 +64,21 @@ AreCallsMerged workers history next ps = (starts : List ProcessValue) (limit : �
     → AreWorkerResults limit starts workers → IsLegal (empty_kernel (length starts)) history
     → IsMerged starts workers next ps history []
 
--- wherever the workers began, and whichever history has its calls in the steps before, all steps
--- lead to where the workers stopped, with this history
+-- the steps lead to where the workers stopped, with this history, and they are the steps of the traces
+pub record LeadToEnds
+    (starts : List ProcessValue) (workers : List WorkerResult) (history : List Entry)
+    (ps : List ℕ) : Type 0 where
+  pub execution :
+      IsExecution (initial_world starts) ps (final_world (length starts) workers history) history
+  pub counts : (p : ℕ) (k : WorkerResult) → slice_get workers p ≡ Some k → count p ps ≡ steps k.trace
+
+-- wherever the workers began, and whichever history has its calls in the steps before, all steps do
 abbrev pub CompletesMerge : List WorkerResult → List ℕ → List ℕ → List ℕ → Type 0
 CompletesMerge workers next before ps = (starts : List ProcessValue) (history : List Entry)
-    → IsMerged starts workers next before history []
-    → IsExecution (initial_world starts) ps (final_world (length starts) workers history) history
+    → IsMerged starts workers next before history [] → LeadToEnds starts workers history ps
 
--- wherever the workers began, if the history is legal there, the steps lead to where the workers
--- stopped, with this history
+-- wherever the workers began, if the history is legal there, the steps do
 abbrev pub LeadToResults : List WorkerResult → List Entry → List ℕ → Type 0
 LeadToResults workers history ps = (starts : List ProcessValue) (limit : ℕ)
     → AreWorkerResults limit starts workers → IsLegal (empty_kernel (length starts)) history
-    → IsExecution (initial_world starts) ps (final_world (length starts) workers history) history
+    → LeadToEnds starts workers history ps

@@ -3,7 +3,7 @@ use Rattle.std.proofs.lemmas.List.{length-set, take_all, take_more, drop_more, d
 use Rattle.lab_sched.specs.Schedules.{steps_of}
 use Rattle.lab_sched.specs.declared.entry.Entry.{Entry}
 use Rattle.lab_threads.specs.Private.Merged.{IsMerged}
-use Rattle.lab_threads.proofs.Merges.{merged_none, counted_none, merged_step, counted_step, zeros, empty_steps}
+use Rattle.lab_threads.proofs.Merges.{merged_none, merged_step, zeros, empty_steps}
 use Rattle.lab_threads.proofs.merging.merge_calls.Goals as goal
 
 pub loop-entry-init : goal.loop-entry-init
@@ -12,20 +12,18 @@ loop-entry-init c =
     let empty = empty_steps c.new-schedule.result c.new-schedule.ensures.empty in
     record {
       len = search rules;
-      counted = counted_none c.args.workers.now c.in_ok-next.next.items (steps_of c.new-schedule.result) none empty;
       merged = λ starts limit are legal. merged_none starts c.args.workers.now c.in_ok-next.next.items (steps_of c.new-schedule.result) limit c.args.history.now are legal none empty;
     }
 
 pub loop-entry-preserved : goal.loop-entry-preserved
 loop-entry-preserved c =
     let item = c.in-Some.ensures.item in
-    let added = c.in_ok-add.ensures.steps (search rules) in
+    let added = c.in_ok-add.ensures.steps in
     let es = c.args.history.now in
     let i = c.loop-entry.entry-index in
     let e = c.entry-item.result in
     record {
       len = length-set c.loop-entry.next.items _ _ ∙ c.loop-entry.invariant.len;
-      counted = counted_step c.deref.ensures.value item c.in-Some.ensures.within c.index_mut.ensures.value added c.loop-entry.invariant.counted;
       merged = λ starts limit are legal.
           merged_step (drop_more es i e c.loop-entry-test.true ∙ ap (λ y. y ∷ drop (i + 1) es) (sym c.entry-item.is))
           (take_more es i e c.loop-entry-test.true ∙ ap (λ y. take i es ++ y ∷ []) (sym c.entry-item.is))
