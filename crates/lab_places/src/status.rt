@@ -1,6 +1,6 @@
 //! Status lines: where they say that processes stand.
 ghost use Rattle.std.specs.Prelude.{◌≡◌, ◌<◌, length, position, option_map, IfSome};
-ghost use Rattle.lab_places.specs.Statuses.{is_blank, first_word, is_word, stands, place_in, in_state, standing_in};
+ghost use Rattle.lab_places.specs.Statuses.{is_blank, first_word, is_word, stands, place_in, standing_in};
 ghost use Rattle.lab_places.specs.Private.Standings.{standing_seen};
 
 use crate::labels::in_memory;
@@ -60,9 +60,14 @@ fn place_in(word: &[u8]) -> Option<u16>
     }
 }
 
-fn in_state<'a>(pid: usize, state: &[u8], rest: &'a [u8]) -> Option<Standing<'a>>
-    ensures value { option_map standing_seen result ≡ in_state pid (state.now, rest.now) }
+/// Where a line says that a process stands, if it is a status line and the process didn't end by HALT.
+#[tactic(auto, unfolding(crate::specs::Statuses::standing_in))]
+pub(crate) fn standing_in(line: &[u8]) -> Option<Standing<'_>>
+    ensures value { option_map standing_seen result ≡ standing_in line.now }
 {
+    let (process, rest) = first_word(line)?;
+    let pid = usize::from(in_memory(unsigned(10, process)?)?);
+    let (state, rest) = first_word(rest)?;
     let (place, shown) = first_word(rest)?;
     if !stands(state, shown) {
         return None;
@@ -73,15 +78,4 @@ fn in_state<'a>(pid: usize, state: &[u8], rest: &'a [u8]) -> Option<Standing<'a>
         address,
         shown,
     })
-}
-
-/// Where a line says that a process stands, if it is a status line and the process didn't end by HALT.
-#[tactic(auto, unfolding(crate::specs::Statuses::standing_in))]
-pub(crate) fn standing_in(line: &[u8]) -> Option<Standing<'_>>
-    ensures value { option_map standing_seen result ≡ standing_in line.now }
-{
-    let (process, rest) = first_word(line)?;
-    let pid = in_memory(unsigned(10, process)?)?;
-    let (state, rest) = first_word(rest)?;
-    in_state(usize::from(pid), state, rest)
 }
