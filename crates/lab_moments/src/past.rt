@@ -1,7 +1,6 @@
 //! What a page keeps of the steps so far, beside the world and the tally.
-ghost use Rattle.std.specs.Prelude.{◌≡◌, ◌++◌, IfOk, OnOk};
-ghost use Rattle.lab_told.specs.Answers.{act_done};
-ghost use Rattle.lab_moments.specs.Pasts.{first_past, past_after, past_with, received_by, sent_by, unreceived_without};
+ghost use Rattle.std.specs.Prelude.{◌≡◌, IfOk, OnOk};
+ghost use Rattle.lab_moments.specs.Pasts.{first_past, past_after, past_with, received_by, unreceived_without};
 
 use crate::between::{NO_STEPS, StepCount, keep_between};
 use crate::holds::{Hold, keep_holds};
@@ -56,17 +55,6 @@ fn receive(unreceived: &mut Vec<u32>, act: &Act)
     }
 }
 
-/// Adds the message that was sent by what a process did in step `number`.
-fn send(unreceived: &mut Vec<u32>, number: u32, act: &Act) -> Result<(), AllocError>
-    ensures added { OnOk result (unreceived.new.items
-        ≡ unreceived.old.items ++ sent_by number (act_done act.now)) }
-{
-    if let Some((Service::MqSend, _)) = act.done() {
-        unreceived.push(number)?;
-    }
-    Ok(())
-}
-
 impl Past {
     /// Before the first step of a world.
     pub fn new(alloc: Global, world: &World) -> Result<Past, AllocError>
@@ -91,7 +79,10 @@ impl Past {
         self.objects = objects;
         self.words.keep(taken.world, taken.pid)?;
         receive(&mut self.unreceived, act);
-        send(&mut self.unreceived, taken.number, act)
+        if let Some((Service::MqSend, _)) = act.done() {
+            self.unreceived.push(taken.number)?;
+        }
+        Ok(())
     }
 
     /// Keeps steps that were taken.

@@ -71,21 +71,15 @@ impl SeenWords {
         }
     }
 
-    #[tactic(auto, using(std::proofs::lemmas::List::Sums::fold_more))]
-    fn add(&mut self, words: &[u16])
-        ensures added { self.new ≡ seen_with self.old words.now }
-    {
-        for word in words {
-            self.set(*word);
-        }
-    }
-
     /// Adds those around the program counter of process `pid` of a world, where it is there.
+    #[tactic(auto, using(std::proofs::lemmas::List::Sums::fold_more))]
     pub fn keep(&mut self, world: &World, pid: usize) -> Result<(), AllocError>
         ensures kept { OnOk result (self.new ≡ seen_with self.old (shown_in world.now pid)) }
     {
         let words = shown_in(*self.flags.allocator(), world, pid)?;
-        self.add(&words);
+        for word in &words {
+            self.set(*word);
+        }
         Ok(())
     }
 
