@@ -1,6 +1,6 @@
 -- Watched words that no step has changed.
-use Rattle.std.proofs.Common.{◌≡◌, ℕ, ◌==◌, ◌||◌, List, [], ◌∷◌, Bool, true, false, not, map, refl, sym, ap, ◌∙◌}
-use Rattle.std.proofs.lemmas.Bool.{eqb-true}
+use Rattle.std.proofs.Common.{◌≡◌, ℕ, ◌==◌, ◌||◌, List, [], ◌∷◌, Bool, false, map, refl, sym, ap, ◌∙◌}
+use Rattle.std.proofs.lemmas.Bool.{eqb-true, not-false, or_parts}
 use Rattle.std.specs.List.{list_any}
 use Rattle.lab_sched.specs.Worlds.{WorldState, step}
 use Rattle.lab_session.specs.Marks.{is_at_break, of_kind}
@@ -10,27 +10,13 @@ use Rattle.lab_session.specs.declared.marks.Mark.{Mark}
 use Rattle.lab_session.specs.declared.marks.MarkKind.TheVariants.{Watch}
 use Rattle.lab_session.specs.declared.watches.Watched.{Watched}
 
-same-word : (n m : ℕ) → not (n == m) ≡ false → n ≡ m
-same-word n m e = by (n == m) refl e
-  where
-    by : (b : Bool) → (n == m) ≡ b → not b ≡ false → n ≡ m
-    by true h f = eqb-true n m h
-    by false h f = cc
-
-or-left : (a b : Bool) → (a || b) ≡ false → a ≡ false
-or-left true b e = e
-or-left false b e = refl
-
-or-right : (a b : Bool) → (a || b) ≡ false → b ≡ false
-or-right true b e = cc
-or-right false b e = e
-
 -- where no word has changed, the words are the same
 words-same : (ms : List Mark) (w v : WorldState) → list_any (has_changed v) (map (watched_at w) ms) ≡ false → map (watched_at v) ms ≡ map (watched_at w) ms
 words-same [] w v e = refl
 words-same (m ∷ ms) w v e =
-    let here = same-word (word_at v m) (word_at w m) (or-left (has_changed v (watched_at w m)) (list_any (has_changed v) (map (watched_at w) ms)) e) in
-    let rest = words-same ms w v (or-right (has_changed v (watched_at w m)) (list_any (has_changed v) (map (watched_at w) ms)) e) in
+    let parts = or_parts (has_changed v (watched_at w m)) (list_any (has_changed v) (map (watched_at w) ms)) e in
+    let here = eqb-true (word_at v m) (word_at w m) (not-false (word_at v m == word_at w m) parts.0) in
+    let rest = words-same ms w v parts.1 in
     rw (here, rest) refl
 
 -- whether the process stopped, as the code tells it
@@ -43,4 +29,4 @@ stop-told ms p w v xs told v-is seen is =
 pub words-on : (ms : List Mark) (p : ℕ) (w v : WorldState) (xs : List Watched) → v ≡ step w p → watched_words ms w ≡ xs → is_stop ms p w ≡ false
     → watched_words ms v ≡ xs
 words-on ms p w v xs v-is seen none =
-    ap (watched_words ms) v-is ∙ words-same (of_kind Watch ms) w (step w p) (or-right (is_at_break ms p (step w p)) (changes_watched ms p w) none) ∙ seen
+    ap (watched_words ms) v-is ∙ words-same (of_kind Watch ms) w (step w p) (or_parts (is_at_break ms p (step w p)) (changes_watched ms p w) none).1 ∙ seen
