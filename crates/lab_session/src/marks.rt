@@ -1,6 +1,6 @@
 //! Marks: addresses of processes that steps stop at, or whose words they watch.
 ghost use Rattle.std.specs.Prelude.{◌≡◌, IfOk};
-ghost use Rattle.lab_session.specs.Marks.{rank, is_of, is_same, is_lower, is_before, has_mark, with_mark, without_mark, of_kind, break_at, is_at_break};
+ghost use Rattle.lab_session.specs.Marks.{rank, is_of, is_same, is_before, has_mark, with_mark, without_mark, of_kind, break_at, is_at_break};
 
 use lab_sched::World;
 use std::alloc::{AllocError, Global};
@@ -44,18 +44,12 @@ fn is_same(mark: Mark, other: Mark) -> bool
     is_of(other.kind, mark) && mark.pid == other.pid && mark.address == other.address
 }
 
-/// Whether a mark comes before another one, in the order of process and address.
-fn is_lower(mark: Mark, other: Mark) -> bool
-    ensures value { result ≡ is_lower mark other }
-{
-    mark.pid < other.pid || (mark.pid == other.pid && mark.address < other.address)
-}
-
 /// Whether a mark comes before another one, in the order of kind, process and address.
 fn is_before(mark: Mark, other: Mark) -> bool
     ensures value { result ≡ is_before mark other }
 {
-    rank(mark.kind) < rank(other.kind) || (is_of(other.kind, mark) && is_lower(mark, other))
+    let is_lower = mark.pid < other.pid || (mark.pid == other.pid && mark.address < other.address);
+    rank(mark.kind) < rank(other.kind) || (is_of(other.kind, mark) && is_lower)
 }
 
 /// Whether a mark is one of these.
