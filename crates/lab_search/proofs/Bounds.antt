@@ -1,5 +1,5 @@
 -- How many effective steps there can be, where each edge leads to a row with a greater number.
-use Rattle.std.proofs.Common.{ℕ, suc, ◌+◌, ◌-◌, ◌*◌, ◌<◌, ◌≤◌, ◌≡◌, List, [], ◌∷◌, Option, Some, None, sym, ap, subst, ◌∙◌, arith, length, slice_get, refl, inl, inr, ◌⊎◌}
+use Rattle.std.proofs.Common.{ℕ, ◌+◌, ◌-◌, ◌*◌, ◌<◌, ◌≤◌, ◌≡◌, List, [], ◌∷◌, Option, Some, None, sym, ap, subst, ◌∙◌, arith, length, slice_get, refl, inl, inr, ◌⊎◌}
 use Rattle.lab_sched.specs.Worlds.{WorldState, step_effect_in, step}
 use Rattle.lab_sched.specs.Execution.{AreEffective}
 use Rattle.ipc_kernel.specs.Alike.{IsConsistent}
@@ -51,17 +51,14 @@ module _ (t : Store) (order : List ℕ) (start : WorldState) (searched : IsSearc
     | inl goes ↦
         let next = step_left (unwaiting w) p n (subst GoesOn (sym (same_step w p asks goes)) goes) left in
         let rest = within ps (step w p) next.0 (asks_on w p asks) (subst (λ x. HasLeft t order x next.0) (sym (goes_unwaiting w p asks goes)) next.2) h.1 in
-        more next.0 n (running w) (running (step w p)) (length ps) next.1 (running_goes w p) rest
+        let less = next.1 in
+        let most = running_goes w p in
+        omega (arith, less, most, rest)
     | inr none ↦
         let rest = within ps (step w p) n (asks_on w p asks) (subst (λ x. HasLeft t order x n) (sym (still_unwaiting w p none)) left) h.1 in
-        fewer n (running w) (running (step w p)) (length ps) (running_waits w p h.0 none) rest
+        let fewer = running_waits w p h.0 none in
+        omega (arith, fewer, rest)
   ]
-    where
-      more : (j n r s l : ℕ) → j < n → s ≤ r + 1 → l ≤ 2 * j + s → suc l ≤ 2 * n + r
-      more j n r s l a b c = omega arith
-
-      fewer : (n r s l : ℕ) → s + 1 ≡ r → l ≤ 2 * n + s → suc l ≤ 2 * n + r
-      fewer n r s l a b = omega arith
 
   bounded : IsConsistent start.kernel → AskAgain start → unwaiting start ≡ start → AreBounded start
   bounded consistent asks same =

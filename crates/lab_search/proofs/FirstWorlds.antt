@@ -1,6 +1,6 @@
 -- The first world of a search, and what the whole search holds.
 use Rattle.std.proofs.Common.{ℕ, suc, arith, ◌≡◌, ◌<◌, ◌≤◌, ◌+◌, ◌++◌, List, [], ◌∷◌, Option, Some, None, refl, sym, ap, subst, ◌∙◌, slice_get, length, map, take, get_or, rules}
-use Rattle.std.proofs.lemmas.List.{map-append, take_more}
+use Rattle.std.proofs.lemmas.List.{map-append, take_all, take_more}
 use Rattle.std.specs.Option.{option_map}
 use Rattle.ipc_kernel.specs.Kernel.{KernelState}
 use Rattle.lab_sched.specs.declared.process.Process.{Process as Kept}
@@ -12,7 +12,7 @@ use Rattle.lab_search.specs.declared.store.Store.{Store}
 use Rattle.lab_worlds.specs.Calls.{IsAhead, Both, Alongside, IsAdvance}
 use Rattle.lab_worlds.specs.Closed.{HasAdvance}
 use Rattle.lab_worlds.specs.Unwaiting.{GoesOn, unwaiting}
-use Rattle.lab_search.specs.Stored.{IsState, IsKernel, IsRow, IsAt, IsSearched}
+use Rattle.lab_search.specs.Stored.{IsState, IsKernel, IsRow, IsAt, HasEdge, IsExpanded, AreExpanded, IsSearched}
 use Rattle.lab_search.specs.Private.Stored.{Grows, IsLocalSuccessor, AreInitialStates}
 use Rattle.lab_worlds.specs.Stepped.{IsReached, AreReached}
 use Rattle.lab_worlds.proofs.AfterLocalSteps.{same_by_gets, same_some}
@@ -28,13 +28,12 @@ pub initial_grows : (t u : Store) (is : List ℕ) (ss : List Process) → Grows 
 initial_grows t u is ss g h p = both_weaker (IsLocalSuccessor t) (IsLocalSuccessor u) (λ i s. successor_grows t u i s g) (slice_get is p) (slice_get ss p) (h p)
 
 -- one process more
-pub initial_more : (t u : Store) (is js : List ℕ) (ps : List Kept) (n i : ℕ) (k : Kept) → Grows t u → AreInitialStates t is (map process_view (take n ps)) → n < length ps → k ≡ get_or ps n k
-    → IsLocalSuccessor u i (process_view k) → js ≡ is ++ i ∷ [] → AreInitialStates u js (map process_view (take (n + 1) ps))
-initial_more t u is js ps n i k g h within read successor js-is =
+pub initial_more : (t u : Store) (is : List ℕ) (ps : List Kept) (n i : ℕ) (k : Kept) → Grows t u → AreInitialStates t is (map process_view (take n ps)) → n < length ps → k ≡ get_or ps n k
+    → IsLocalSuccessor u i (process_view k) → AreInitialStates u (is ++ i ∷ []) (map process_view (take (n + 1) ps))
+initial_more t u is ps n i k g h within read successor =
     let more : map process_view (take (n + 1) ps) ≡ map process_view (take n ps) ++ process_view k ∷ [] =
     ap (map process_view) (take_more ps n k within ∙ ap (λ x. take n ps ++ x ∷ []) (sym read)) ∙ map-append process_view (take n ps) (k ∷ []) in
-    subst (λ xs. AreInitialStates u xs (map process_view (take (n + 1) ps))) (sym js-is)
-    (subst (λ ss. AreInitialStates u (is ++ i ∷ []) ss) (sym more) (alongside_push (IsLocalSuccessor u) is (map process_view (take n ps)) i (process_view k) (initial_grows t u is (map process_view (take n ps)) g h) successor))
+    subst (λ ss. AreInitialStates u (is ++ i ∷ []) ss) (sym more) (alongside_push (IsLocalSuccessor u) is (map process_view (take n ps)) i (process_view k) (initial_grows t u is (map process_view (take n ps)) g h) successor)
 
 -- the states that the processes begin with
 chosen : (t : Store) (is : List ℕ) (ss : List Process) → AreInitialStates t is ss → (us : List Process) × Alongside (IsState t) is us × Alongside IsAhead ss us
@@ -45,13 +44,12 @@ chosen t (i ∷ is) (s ∷ ss) h =
     (first.0 ∷ rest.0, alongside_cons (IsState t) i first.0 is rest.0 first.1 rest.1, alongside_cons IsAhead s first.0 ss rest.0 first.2 rest.2)
 chosen t _ _ h = absurd (h 0)
 
--- the world at its first calls, by the parts of its row
-pub begins_row : (t : Store) (r : Row) (kernel : ℕ) (states : List ℕ) (k : KernelState) (ss : List Process) → r.kernel ≡ kernel → r.states ≡ states → IsKernel t kernel k → AreInitialStates t states ss
-    → (v : WorldState) × IsRow t r v × IsAdvance (record { processes = ss; kernel = k }) v
-begins_row t r kernel states k ss kernel-is states-is here initial =
-    let at = subst (λ n. IsKernel t n k) (sym kernel-is) here in
-    let us = chosen t r.states ss (subst (λ ns. AreInitialStates t ns ss) (sym states-is) initial) in
-    (record { processes = us.0; kernel = at.0 }, record { kernel = at.1; settled = at.3; states = us.1 }, record { kernel = at.2; processes = us.2 })
+-- the world at its first calls, by its row
+pub begins_row : (t : Store) (kernel : ℕ) (states : List ℕ) (k : KernelState) (ps : List Kept) (n : ℕ) → length ps ≤ n → IsKernel t kernel k → AreInitialStates t states (map process_view (take n ps))
+    → (v : WorldState) × IsRow t (record { kernel = kernel; states = states }) v × IsAdvance (record { processes = map process_view ps; kernel = k }) v
+begins_row t kernel states k ps n past here initial =
+    let us = chosen t states (map process_view ps) (subst (λ xs. AreInitialStates t states (map process_view xs)) (take_all n ps past) initial) in
+    (record { processes = us.0; kernel = here.0 }, record { kernel = here.1; settled = here.3; states = us.1 }, record { kernel = here.2; processes = us.2 })
 
 same_state : (t : Store) (o : Option ℕ) (a b : Option Process) → Both (IsState t) o a → Both (IsState t) o b → a ≡ b
 same_state t None None None h k = refl
@@ -65,10 +63,21 @@ row_unique t r w v h k =
     let kernel : w.kernel ≡ v.kernel = same_some w.kernel v.kernel (slice_get t.kernels.kernels r.kernel) h.kernel k.kernel in
     ap (λ ps. record { processes = ps; kernel = w.kernel }) processes ∙ ap (λ x. record { processes = v.processes; kernel = x }) kernel
 
+-- the row of a world
+pub row_at : (t : Store) (i : ℕ) (r : Row) (w : WorldState) → slice_get t.rows i ≡ Some r → IsAt t i w → IsRow t r w
+row_at t i r w there here = subst (λ x. IsRow t x w) (same_some here.0 r (slice_get t.rows i) here.1 there) here.2
+
 pub at_unique : (t : Store) (i : ℕ) (w v : WorldState) → IsAt t i w → IsAt t i v → w ≡ v
-at_unique t i w v h k =
-    let same : h.0 ≡ k.0 = same_some h.0 k.0 (slice_get t.rows i) h.1 k.1 in
-    row_unique t k.0 w v (subst (λ r. IsRow t r w) same h.2) k.2
+at_unique t i w v h k = row_unique t k.0 w v (row_at t i k.0 w k.1 h) k.2
+
+-- a step by which a process goes on from the world of a row has an edge
+pub edge_at : (t : Store) (i p : ℕ) (w : WorldState) → IsExpanded t i → IsAt t i w → GoesOn (step_effect_in w p) → HasEdge t i w p
+edge_at t i p w done here goes =
+    let is : w ≡ done.0 = at_unique t i w done.0 here done.1 in
+    subst (λ v. HasEdge t i v p) (sym is) (done.2 p (subst (λ v. GoesOn (step_effect_in v p)) is goes))
+
+pub edge_from : (t : Store) (i p : ℕ) (w : WorldState) → AreExpanded t → IsAt t i w → GoesOn (step_effect_in w p) → HasEdge t i w p
+edge_from t i p w expanded here = edge_at t i p w (expanded i (get_past t.rows i here.0 here.1)) here
 
 -- what is reached is an advance
 pub reached_advance : (w v : WorldState) → AreReached w v → IsAdvance w v
@@ -89,13 +98,9 @@ all_levels t start depths same searched deep = record {
       let least = deep.first in
       subst (HasAdvance (AreAtDepth t depths 0)) (sym same) (first.0, (0, first.1, omega arith), first.2);
   goes_on = λ n v p held effective.
-      let i = held.0 in
-      let done = searched.expanded i (get_past t.rows i held.1.0 held.1.1) in
-      let same : v ≡ done.0 = at_unique t i v done.0 held.1 done.1 in
-      let edge = done.2 p (subst (λ w. GoesOn (step_effect_in w p)) same effective) in
+      let edge = edge_from t held.0 p v searched.expanded held.1 effective in
       let near : depth_of depths edge.1.to ≤ depth_of depths edge.1.from + 1 = all_at (IsNear depths) t.edges edge.0 edge.1 deep.near edge.3 in
-      let from : depth_of depths edge.1.from ≡ depth_of depths i = ap (depth_of depths) edge.4 in
+      let from : depth_of depths edge.1.from ≡ depth_of depths held.0 = ap (depth_of depths) edge.4 in
       let few = held.2 in
-      let there : HasAdvance (AreAtDepth t depths (n + 1)) (step done.0 p) = (edge.2, (edge.1.to, edge.5, omega (arith, near, from, few)), reached_advance (step done.0 p) edge.2 edge.6) in
-      subst (λ w. HasAdvance (AreAtDepth t depths (n + 1)) (step w p)) (sym same) there;
+      (edge.2, (edge.1.to, edge.5, omega (arith, near, from, few)), reached_advance (step v p) edge.2 edge.6);
 }

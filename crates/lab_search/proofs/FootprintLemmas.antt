@@ -1,9 +1,9 @@
 -- Steps at calls that work on one object, from one kernel to another.
-use Rattle.std.proofs.Common.{ℕ, ◌≡◌, Bool, true, false, not, IsTrue, Some, refl, sym, subst, ◌∙◌, slice_get}
+use Rattle.std.proofs.Common.{ℕ, ◌≡◌, Some, refl, sym, subst, ◌∙◌, slice_get}
 use Rattle.std.specs.Option.{option_map}
 use Rattle.ipc_kernel.specs.Kernel.{KernelState, IsSettled}
 use Rattle.ipc_kernel.specs.Alike.{IsAlike}
-use Rattle.ipc_kernel.specs.Operands.{HasOperand, operand_in, with_operand}
+use Rattle.ipc_kernel.specs.Operands.{HasOperand, operand_in}
 use Rattle.ipc_kernel.specs.declared.call.Call.{Call}
 use Rattle.ipc_kernel.specs.declared.place.Place.{Place}
 use Rattle.ipc_kernel.specs.declared.process.OpenTables.{OpenTables}
@@ -21,9 +21,9 @@ use Rattle.lab_search.specs.declared.footprints.Effect.{Effect}
 use Rattle.lab_search.specs.declared.footprints.Effect.TheVariants.{Nothing, Limit, To}
 use Rattle.lab_search.specs.declared.footprints.Footprint.{Footprint}
 use Rattle.lab_worlds.specs.Operands.{IsStepAlike}
-use Rattle.lab_search.specs.Stored.{IsState, IsExactly, IsNext, AreParts, IsEffect, IsFootprintEffect}
+use Rattle.lab_search.specs.Stored.{IsState, IsExactly, IsNext, IsMove, AreParts, IsEffect, IsFootprintEffect}
 use Rattle.lab_worlds.specs.Stepped.{IsReached}
-use Rattle.lab_search.specs.Private.Stored.{IsMoveFrom, IsNextBy, Grows}
+use Rattle.lab_search.specs.Private.Stored.{IsMoveFrom, IsChanged, IsNextBy, Grows}
 use Rattle.lab_search.specs.Private.FootprintEffect.{HasFootprint, IsOutcome}
 use Rattle.lab_worlds.proofs.AfterLocalSteps.{same_some}
 use Rattle.lab_search.proofs.Growths.{state_grows, state_kept}
@@ -77,12 +77,10 @@ footprint_effect_made t u k p s footprint e g settled state has made =
     )
 
 -- what a process does next by the effect of its call, where a kernel is kept that is alike the one after it
-pub next_by_alike : (t u : Store) (k : KernelState) (p : ℕ) (s : Process) (i kernel tables object state taken : ℕ) → Grows t u → IsSettled k → IsEffect t k p s i (To tables object state taken)
-    → ((o : Place) (x : OpenTables) → slice_get t.kernels.objects object ≡ Some o → slice_get t.kernels.tables tables ≡ Some x → IsSettled (with_operand k p i o x)
-    → (j : KernelState) × IsExactly u kernel j × IsAlike (with_operand k p i o x) j × IsSettled j)
-    → IsNext u k p s (next.To kernel state taken)
-next_by_alike t u k p s i kernel tables object state taken g settled h there =
-    let kept = there h.1 h.0 h.3.1 h.3.0 (subst IsSettled h.5 (steps_settled k p s settled)) in (
+pub next_by_changed : (t u : Store) (m : Mover) (i kernel tables object state taken : ℕ) → Grows t u → IsChanged t.kernels u.kernels m i object tables kernel
+    → IsNextBy t u m i (To tables object state taken) (next.To kernel state taken)
+next_by_changed t u m i kernel tables object state taken g there k s at settled h =
+    let kept = there k h.1 h.0 at h.3.1 h.3.0 (subst IsSettled h.5 (steps_settled k m.pid s settled)) in (
       h.2,
       (kept.0, kept.1, subst (λ j. IsAlike j kept.0) (sym h.5) kept.2, kept.3),
       state_grows t u state h.2 g h.4,
@@ -106,19 +104,15 @@ footprint_grows t u k p footprint g h = record {
 
 -- the move of a process by a step that was made for its call
 pub move_by_footprint : (t u : Store) (m : Mover) (n : Next) (footprint : Footprint) (e : Effect) (j : KernelState) → Grows t u → IsExactly t m.kernel j → footprint.state ≡ m.state → HasFootprint t j m.pid footprint → IsFootprintEffect t footprint e
-    → IsNextBy t u m footprint.place e n → IsMoveFrom u m n
-move_by_footprint t u m n footprint e j g exact same has h by k s at settled here =
-    let k-is : j ≡ k = same_some j k (slice_get u.kernels.kernels m.kernel) (g.kernels.kernels m.kernel j exact) at in
-    let state-is : IsState u footprint.state s = subst (λ i. IsState u i s) (sym same) here in
-    let s-is : h.0 ≡ s = same_some h.0 s (option_map process_view (slice_get u.states.processes footprint.state)) (state_grows t u footprint.state h.0 g h.4) state-is in
-    let fixed : IsSettled j = subst IsSettled (sym k-is) settled in
-    let there = same_footprint t j m.pid footprint h.0 h.1 h.2 h.3 h.4 h.5 h.6 has in
-    let next = by j h.0 exact fixed (h.7 j m.pid fixed there.0 there.1) in
-    subst (λ x. IsNext u x m.pid s n) k-is (subst (λ r. IsNext u j m.pid r n) s-is next)
-
-pub not_true : (b : Bool) → IsTrue (not b) → b ≡ false
-not_true true h = sym h
-not_true false h = refl
+    → IsNextBy t u m footprint.place e n → IsMove u m n
+move_by_footprint t u m n footprint e j g exact same has h by =
+    let there = same_footprint t j m.pid footprint h.0 h.1 h.2 h.3 h.4 h.5 h.6 has in (
+      j,
+      h.0,
+      g.kernels.kernels m.kernel j exact,
+      subst (λ i. IsState u i h.0) same (state_grows t u footprint.state h.0 g h.4),
+      λ settled. by j h.0 exact settled (h.7 j m.pid settled there.0 there.1),
+    )
 
 -- a process goes on where its step isn't nothing
 pub effect_goes_on : (t : Store) (k : KernelState) (p : ℕ) (s : Process) (i : ℕ) (e : Effect) → (e ≡ Nothing → ⊥) → IsEffect t k p s i e → IsNext t k p s next.Limit

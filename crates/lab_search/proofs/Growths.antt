@@ -1,5 +1,5 @@
 -- Stores that grow.
-use Rattle.std.proofs.Common.{All, inl, inr, ◌⊎◌, Bool, true, false, ℕ, ◌≡◌, List, [], ◌∷◌, ◌++◌, Option, Some, None, refl, sym, ap, subst, ◌∙◌, slice_get, length}
+use Rattle.std.proofs.Common.{All, inl, inr, ◌⊎◌, Bool, true, false, IsTrue, ℕ, ◌≡◌, List, [], ◌∷◌, ◌++◌, Option, Some, None, refl, sym, ap, subst, ◌∙◌, slice_get, length}
 use Rattle.std.specs.Option.{option_map}
 use Rattle.ipc_kernel.specs.Kernel.{KernelState}
 use Rattle.lab_sched.specs.declared.process.Process.{Process as Kept}
@@ -11,16 +11,17 @@ use Rattle.lab_search.specs.declared.store.Store.{Store}
 use Rattle.lab_search.specs.declared.store.Next.{Next}
 use Rattle.lab_search.specs.declared.store.Next.TheVariants.{To}
 use Rattle.lab_search.specs.declared.footprints.Footprint.{Footprint}
+use Rattle.lab_search.specs.declared.footprints.Footprints.{Footprints}
 use Rattle.lab_search.specs.declared.footprints.FootprintEffect.{FootprintEffect}
 use Rattle.lab_search.specs.declared.footprints.Effect.{Effect}
 use Rattle.lab_search.specs.declared.footprints.Effect.TheVariants as effect
 use Rattle.lab_search.specs.declared.known.Move.{Move}
 use Rattle.lab_search.specs.declared.known.Moves.{Moves}
 use Rattle.lab_search.specs.declared.known.Mover.{Mover}
-use Rattle.ipc_store.specs.Kept.{GrowsKept}
+use Rattle.ipc_store.specs.Kept.{KeptKernels, GrowsKept}
 use Rattle.ipc_kernel.specs.declared.place.Place.{Place}
 use Rattle.ipc_kernel.specs.declared.process.OpenTables.{OpenTables}
-use Rattle.lab_states.specs.CollapsedStates.{Sharing, IsSameOrMore}
+use Rattle.lab_states.specs.CollapsedStates.{IsSameOrMore}
 use Rattle.lab_search.specs.Reduced.{HasAmpleStep, IsExpandedIn}
 use Rattle.lab_search.specs.Stored.{IsState, IsKernel, IsRow, IsAt, LeadsTo, IsStore, IsNext, IsMove, AreMoves, AreParts, IsEffect, IsFootprintEffect, AreFootprintEffects, HasEdge, HasEdgeIfEnabled, IsExpanded}
 use Rattle.lab_worlds.specs.Stepped.{IsReady}
@@ -29,13 +30,16 @@ use Rattle.lab_worlds.specs.Private.Kept.{Keeps}
 use Rattle.std.proofs.lemmas.List.Elements.{All-push, All-weaker}
 use Rattle.lab_worlds.proofs.Pushes.{both_weaker, keeps_push, get_pushed}
 
+pub kept_more : (t u v : KeptKernels) → GrowsKept t u → GrowsKept u v → GrowsKept t v
+kept_more t u v g h = record {
+  objects = λ i x e. h.objects i x (g.objects i x e);
+  tables = λ i x e. h.tables i x (g.tables i x e);
+  kernels = λ i x e. h.kernels i x (g.kernels i x e);
+}
+
 pub grows_more : (t u v : Store) → Grows t u → Grows u v → Grows t v
 grows_more t u v g h = record {
-  kernels = record {
-    objects = λ i x e. h.kernels.objects i x (g.kernels.objects i x e);
-    tables = λ i x e. h.kernels.tables i x (g.kernels.tables i x e);
-    kernels = λ i x e. h.kernels.kernels i x (g.kernels.kernels i x e);
-  };
+  kernels = kept_more t.kernels u.kernels v.kernels g.kernels h.kernels;
   states = λ i x e. h.states i x (g.states i x e);
   rows = λ i x e. h.rows i x (g.rows i x e);
   edges = λ i x e. h.edges i x (g.edges i x e);
@@ -45,9 +49,12 @@ pub later_more : (t u v : Store) → IsLater t u → IsLater u v → IsLater t v
 later_more t u v g h = record { grows = grows_more t u v g.grows h.grows; store = h.store }
 
 -- a store is what it was where nothing was added
+pub kept_same : (t : KeptKernels) → GrowsKept t t
+kept_same t = record { objects = λ i x e. e; tables = λ i x e. e; kernels = λ i x e. e }
+
 pub grows_same : (t : Store) → Grows t t
 grows_same t = record {
-  kernels = record { objects = λ i x e. e; tables = λ i x e. e; kernels = λ i x e. e };
+  kernels = kept_same t.kernels;
   states = λ i x e. e;
   rows = λ i x e. e;
   edges = λ i x e. e;
@@ -104,6 +111,11 @@ pub alone_grows : (t u : Store) (i : ℕ) → Grows t u → HasAmpleStep t i →
 unfolding edge_grows
 alone_grows t u i g (w, at, p, own, x, later) = (w, at_grows t u i w g at, p, own, edge_grows t u i w p g x, later)
 
+-- each step that goes on has an edge, so it needs no independent one
+pub expanded_in : (reduced : Bool) (t : Store) (i : ℕ) → IsExpanded t i → IsExpandedIn reduced t i
+expanded_in false t i h = h
+expanded_in true t i h = inl h
+
 pub are_expanded_in_grows : (reduced : Bool) (t u : Store) (i : ℕ) → Grows t u → IsExpandedIn reduced t i → IsExpandedIn reduced u i
 are_expanded_in_grows false t u i g h = expanded_grows t u i g h
 are_expanded_in_grows true t u i g (inl h) = inl (expanded_grows t u i g h)
@@ -131,7 +143,7 @@ footprints_grow t u ts g h =
     All-weaker (λ (m : FootprintEffect). IsFootprintEffect t m.footprint m.effect) (λ (m : FootprintEffect). IsFootprintEffect u m.footprint m.effect) (λ m old. footprint_effect_grows t u m.footprint m.effect g old) ts h
 
 -- a list that is the same, or has one element more, of which this holds
-abbrev IsGrown : {A : Type 0} → (A → Type 0) → List A → List A → Type 0
+abbrev pub IsGrown : {A : Type 0} → (A → Type 0) → List A → List A → Type 0
 IsGrown {A} P xs ys = (ys ≡ xs) ⊎ ((x : A) × (ys ≡ xs ++ x ∷ []) × P x)
 
 grown_keeps : {A : Type 0} (P : A → Type 0) (xs ys : List A) → IsGrown P xs ys → Keeps xs ys
@@ -142,17 +154,27 @@ grown_all : {A : Type 0} (P Q : A → Type 0) (xs ys : List A) → IsGrown P xs 
 grown_all P Q xs ys (inl same) weaker all = subst (All Q) (sym same) (All-weaker P Q weaker xs all)
 grown_all P Q xs ys (inr more) weaker all = subst (All Q) (sym more.1) (All-push Q xs more.0 (All-weaker P Q weaker xs all) (weaker more.0 more.2))
 
-abbrev HasWorld : Store → Row → Type 0
+-- where there is perhaps one element more
+pub grown_by : {A : Type 0} (P : A → Type 0) (xs ys : List A) (x : A) → P x → IsSameOrMore xs ys x → IsGrown P xs ys
+grown_by P xs ys x here (inl same) = inl same
+grown_by P xs ys x here (inr more) = inr (x, more, here)
+
+-- where an element may have been pushed, by whether it was
+pub grown_if : {A : Type 0} (P : A → Type 0) (done : Bool) (xs ys : List A) (x : A) → P x → (IsTrue done → ys ≡ xs ++ x ∷ []) → (done ≡ false → ys ≡ xs) → IsGrown P xs ys
+grown_if P true xs ys x here pushed same = inr (x, pushed refl, here)
+grown_if P false xs ys x here pushed same = inl (same refl)
+
+abbrev pub HasWorld : Store → Row → Type 0
 HasWorld t r = (w : WorldState) × IsRow t r w
 
-abbrev Leads : Store → Edge → Type 0
+abbrev pub Leads : Store → Edge → Type 0
 Leads t e = LeadsTo t e.from e.pid e.to
 
-abbrev AreKnownIn : Store → Moves → Type 0
+abbrev pub AreKnownIn : Store → Moves → Type 0
 AreKnownIn t ms = AreMoves t ms.made.items × AreFootprintEffects t ms.footprints.made.items
 
 -- a store with more kernels, other moves, and perhaps a state, a row and an edge more
-later_by : (t u : Store) → IsStore t → GrowsKept t.kernels u.kernels → IsGrown IsReady t.states.processes u.states.processes → IsGrown (HasWorld t) t.rows u.rows → IsGrown (Leads t) t.edges u.edges
+pub later_by : (t u : Store) → IsStore t → GrowsKept t.kernels u.kernels → IsGrown IsReady t.states.processes u.states.processes → IsGrown (HasWorld t) t.rows u.rows → IsGrown (Leads t) t.edges u.edges
     → AreKnownIn t u.moves → IsLater t u
 later_by t u s kernels states rows edges known =
     let g : Grows t u = record {
@@ -171,44 +193,20 @@ later_by t u s kernels states rows edges known =
       };
     }
 
--- the same kernels, the same states, and the same moves
-same_kernels : (t u : Store) → u.kernels ≡ t.kernels → GrowsKept t.kernels u.kernels
-same_kernels t u same = subst (λ ks. GrowsKept t.kernels ks) (sym same) (record { objects = λ i x e. e; tables = λ i x e. e; kernels = λ i x e. e })
+-- the same moves
+pub still_known : (t : Store) → IsStore t → AreKnownIn t t.moves
+still_known t s = (s.known.moves, s.known.footprints)
 
-same_states : (t u : Store) → u.states ≡ t.states → IsGrown IsReady t.states.processes u.states.processes
-same_states t u same = inl (ap (λ (x : Sharing). x.processes) same)
+-- one move more
+pub move_added : (t : Store) (ms : Moves) (m : Mover) (n : Next) → IsStore t → IsMove t m n → ms.footprints ≡ t.moves.footprints → ((u : Store) → AreMoves u t.moves.made.items → IsMove u m n → AreMoves u ms.made.items)
+    → AreKnownIn t ms
+move_added t ms m n s move footprints known = (known t s.known.moves move, subst (λ (x : Footprints). AreFootprintEffects t x.made.items) (sym footprints) s.known.footprints)
 
-still_known : (t u : Store) → IsStore t → u.moves ≡ t.moves → AreKnownIn t u.moves
-still_known t u s same = subst (AreKnownIn t) (sym same) (s.known.moves, s.known.footprints)
-
--- more kernels
-pub kernels_grown : (t u : Store) → IsStore t → GrowsKept t.kernels u.kernels → u.states ≡ t.states → u.rows ≡ t.rows → u.edges ≡ t.edges → u.moves ≡ t.moves → IsLater t u
-kernels_grown t u s kernels states rows edges moves = later_by t u s kernels (same_states t u states) (inl rows) (inl edges) (still_known t u s moves)
-
--- the same rows
-pub rows_same : (t u : Store) → IsStore t → u.rows ≡ t.rows → u.kernels ≡ t.kernels → u.states ≡ t.states → u.edges ≡ t.edges → u.moves ≡ t.moves → IsLater t u
-rows_same t u s rows kernels states edges moves = kernels_grown t u s (same_kernels t u kernels) states rows edges moves
-
--- a state that is kept
-pub states_kept : (t u : Store) (k : Kept) → IsStore t → IsReady k → IsSameOrMore t.states.processes u.states.processes k → u.kernels ≡ t.kernels → u.rows ≡ t.rows → u.edges ≡ t.edges → u.moves ≡ t.moves → IsLater t u
-states_kept t u k s ready states kernels rows edges moves =
-    later_by t u s (same_kernels t u kernels) (elim states [ inl same ↦ inl same | inr more ↦ inr (k, more, ready) ]) (inl rows) (inl edges) (still_known t u s moves)
-
--- one row more
-pub rows_pushed : (t u : Store) (r : Row) → IsStore t → ((w : WorldState) × IsRow t r w) → u.rows ≡ t.rows ++ r ∷ [] → u.kernels ≡ t.kernels → u.states ≡ t.states
-    → u.edges ≡ t.edges → u.moves ≡ t.moves → IsLater t u
-rows_pushed t u r s stands rows kernels states edges moves = later_by t u s (same_kernels t u kernels) (same_states t u states) (inr (r, rows, stands)) (inl edges) (still_known t u s moves)
+-- nothing is looked for any more
+pub closed : (t u : Store) → IsStore t → u ≡ record t { row_index = u.row_index } → IsLater t u
+closed t u s same =
+    subst (IsLater t) (sym same) (later_by t (record t { row_index = u.row_index }) s (kept_same t.kernels) (inl refl) (inl refl) (inl refl) (still_known t s))
 
 pub row_pushed : (t u : Store) (r : Row) (w : WorldState) (n : ℕ) → Grows t u → u.rows ≡ t.rows ++ r ∷ [] → n ≡ length t.rows → IsRow t r w → IsAt u n w
 row_pushed t u r w n g rows is h =
     (r, ap (λ xs. slice_get xs n) rows ∙ ap (λ m. slice_get (t.rows ++ r ∷ []) m) is ∙ get_pushed t.rows r, row_grows t u r w g h)
-
--- one edge more
-pub edges_pushed : (t u : Store) (e : Edge) → IsStore t → LeadsTo t e.from e.pid e.to → u.edges ≡ t.edges ++ e ∷ [] → u.kernels ≡ t.kernels → u.states ≡ t.states → u.rows ≡ t.rows
-    → u.moves ≡ t.moves → IsLater t u
-edges_pushed t u e s leads edges kernels states rows moves = later_by t u s (same_kernels t u kernels) (same_states t u states) (inl rows) (inr (e, edges, leads)) (still_known t u s moves)
-
--- more moves, or more steps
-pub moves_kept : (t u : Store) → IsStore t → u.kernels ≡ t.kernels → u.states ≡ t.states → u.rows ≡ t.rows → u.edges ≡ t.edges → AreMoves t u.moves.made.items → AreFootprintEffects t u.moves.footprints.made.items
-    → IsLater t u
-moves_kept t u s kernels states rows edges moves footprints = later_by t u s (same_kernels t u kernels) (same_states t u states) (inl rows) (inl edges) (moves, footprints)

@@ -1,5 +1,5 @@
 -- Processes that stand at calls of their own, and searches that take no name away.
-use Rattle.std.proofs.Common.{ℕ, ◌≡◌, Bool, true, false, Option, Some, None, refl, sym, ap, subst, ◌∙◌, slice_get, IsTrue}
+use Rattle.std.proofs.Common.{ℕ, ◌≡◌, Bool, true, false, Some, refl, sym, ap, subst, ◌∙◌, slice_get, IsTrue}
 use Rattle.std.specs.Option.{option_map}
 use Rattle.ipc_kernel.specs.Kernel.{KernelState}
 use Rattle.ipc_kernel.specs.declared.call.Call.{Call}
@@ -11,13 +11,13 @@ use Rattle.lab_conditions.specs.Conditions.{StandsAt}
 use Rattle.lab_worlds.specs.Calls.{Both}
 use Rattle.lab_search.specs.declared.store.Store.{Store}
 use Rattle.lab_states.specs.Rows.{Row}
-use Rattle.lab_search.specs.Stored.{IsState, IsExactly, IsRow, IsAt}
+use Rattle.lab_search.specs.Stored.{IsState, IsExactly, IsAt}
 use Rattle.lab_worlds.specs.Independent.{IsIndependent, unlinks, KeepsNames}
 use Rattle.lab_search.specs.Private.Reduced.{StatesKeepNames}
-use Rattle.lab_worlds.proofs.AfterLocalSteps.{same_some}
+use Rattle.lab_search.proofs.FirstWorlds.{row_at}
 use Rattle.lab_search.proofs.Growths.{state_kept}
 use Rattle.lab_worlds.proofs.Pushes.{all_at}
-use Rattle.lab_search.proofs.StepsOfRows.{process_at}
+use Rattle.lab_search.proofs.StepsOfRows.{both_right, process_at}
 use Rattle.lab_worlds.proofs.OwnCalls.{standing_independent}
 use Rattle.lab_worlds.specs.Closed.{HasAdvance}
 use Rattle.lab_search.specs.Reduced.{AreExpandedIn, IsSearchedIn}
@@ -36,21 +36,16 @@ pub independent_at : (t : Store) (w : WorldState) (at p kernel state : ℕ) → 
     → ((s : Process) → IsExactly t kernel w.kernel → slice_get w.processes p ≡ Some s → IsState t state s → IsIndependent w.kernel (step_effect_in w p)) → IsAt t at w
     → IsIndependent w.kernel (step_effect_in w p)
 independent_at t w at p kernel state placed independent here =
-    let row : here.0 ≡ placed.0 = same_some here.0 placed.0 (slice_get t.rows at) here.1 placed.1 in
-    let is : IsRow t placed.0 w = subst (λ r. IsRow t r w) row here.2 in
+    let is = row_at t at placed.0 w placed.1 here in
     let s = process_at t placed.0 w p state is placed.3 in
     independent s.0 (subst (λ k. IsExactly t k w.kernel) placed.2 is.kernel) s.1 s.2
 
 -- where no state takes a name away, no process of a world does
 pub worlds_keep : (t : Store) → StatesKeepNames t → (i : ℕ) (w : WorldState) (p : ℕ) → IsAt t i w → KeepsNames w p
 worlds_keep t all i w p here s at =
-    let found = by (slice_get here.0.states p) (subst (λ o. Both (IsState t) (slice_get here.0.states p) o) at (here.2.states p)) in
-    let kept = state_kept t found.0 s found.1 in
+    let found = both_right (IsState t) s (slice_get here.0.states p) (subst (λ o. Both (IsState t) (slice_get here.0.states p) o) at (here.2.states p)) in
+    let kept = state_kept t found.0 s found.2 in
     ap unlinks (sym kept.2) ∙ all_at (λ x. unlinks (process_view x) ≡ false) t.states.processes found.0 kept.0 all kept.1
-  where
-    by : (o : Option ℕ) → Both (IsState t) o (Some s) → (n : ℕ) × IsState t n s
-    by None h = absurd h
-    by (Some n) h = (n, h)
 
 -- what a search holds whose rows were tried
 pub searched_in : (reduced : Bool) (start : WorldState) (t : Store) → HasAdvance (IsAt t 0) start → AreExpandedIn reduced t → (IsTrue reduced → StatesKeepNames t) → IsSearchedIn reduced start t

@@ -2,12 +2,9 @@
 use Rattle.std.proofs.Common.{ℕ, zero, suc, ◌+◌, ◌-◌, ◌<◌, ◌≤◌, ◌≡◌, arith, List, [], ◌∷◌, Option, Some, None, refl, sym, ap, subst, ◌∙◌, length, slice_get, inl, inr, ◌⊎◌}
 use Rattle.lc3_machine.specs.Process.{Process as Machine}
 use Rattle.ipc_kernel.specs.Kernel.{KernelState}
-use Rattle.ipc_kernel.specs.declared.call.Call.{Call}
-use Rattle.ipc_kernel.specs.declared.call.Answer.{Answer}
-use Rattle.ipc_kernel.specs.declared.call.Answer.TheVariants.{Done, Wait}
-use Rattle.ipc_kernel.specs.Answer.{answer}
+use Rattle.ipc_kernel.specs.declared.call.Answer.TheVariants.{Done}
 use Rattle.ipc_kernel.specs.Alike.{IsAlike, IsConsistent}
-use Rattle.lab_sched.specs.Worlds.{Process, Running, Waiting, Ended, WorldState, moves, next_action, StepEffect, nothing, local_step, kernel_step, step_effect, step_effect_in, first_try, retry, step}
+use Rattle.lab_sched.specs.Worlds.{Process, Running, WorldState, moves, next_action, StepEffect, kernel_step, step_effect, step_effect_in, step}
 use Rattle.lab_sched.specs.LocalRun.{AreLocal}
 use Rattle.lab_sched.proofs.ListPlaces.{get_past}
 use Rattle.lab_sched.proofs.Executions.{effect_local}
@@ -22,8 +19,9 @@ use Rattle.lab_worlds.specs.Independent.{IsIndependent}
 use Rattle.lab_search.specs.Reduced.{HasAmpleStep, IsSearchedByReduction}
 use Rattle.lab_worlds.proofs.Pushes.{all_at}
 use Rattle.lab_worlds.proofs.FewestCalls.{calls_in}
-use Rattle.lab_search.proofs.FirstWorlds.{at_unique}
-use Rattle.lab_worlds.proofs.AfterLocalSteps.{same_by_gets}
+use Rattle.lab_search.proofs.FirstWorlds.{at_unique, edge_at}
+use Rattle.lab_worlds.proofs.AfterLocalSteps.{same_by_gets, same_some}
+use Rattle.lab_worlds.proofs.UnwaitingWorlds.{StepOf, step_of, still, by_itself, by_call, by_answer}
 use Rattle.lab_worlds.proofs.AlikeWorlds.{same_effect}
 use Rattle.lab_worlds.proofs.IndependentSteps.{independent_goes}
 use Rattle.lab_search.proofs.StandingWorlds.{Place, Stands, StandsAfter, GoesNearer, GoesAlong, TakesAt, measure, nearer_falls, along_falls, both_there, local_stands, along_stands}
@@ -33,7 +31,7 @@ abbrev pub left : Store → Place → ℕ
 left t s = measure (λ i. length t.rows - i) s
 
 -- a process that goes on is there
-pub goes_there : (w : WorldState) (p : ℕ) → GoesOn (step_effect_in w p) → (x : Process) × (slice_get w.processes p ≡ Some x)
+goes_there : (w : WorldState) (p : ℕ) → GoesOn (step_effect_in w p) → (x : Process) × (slice_get w.processes p ≡ Some x)
 goes_there w p goes = by (slice_get w.processes p) refl
   where
     by : (o : Option Process) → slice_get w.processes p ≡ o → (x : Process) × (slice_get w.processes p ≡ Some x)
@@ -41,17 +39,16 @@ goes_there w p goes = by (slice_get w.processes p) refl
     by (Some x) e = (x, e)
 
 -- a step of a process at a call by which it goes on is a call
-pub one_call : (w : WorldState) (p : ℕ) (x : Process) → slice_get w.processes p ≡ Some x → IsAtCall x → GoesOn (step_effect_in w p) → calls_in p (step_effect_in w p) ≡ 1
-one_call w p x a at goes = ap (λ o. calls_in p (step_effect w.kernel p o)) a ∙ by x at (subst (λ o. GoesOn (step_effect w.kernel p o)) a goes)
+one_call : (w : WorldState) (p : ℕ) (x : Process) → slice_get w.processes p ≡ Some x → IsAtCall x → GoesOn (step_effect_in w p) → calls_in p (step_effect_in w p) ≡ 1
+one_call w p x a at goes = by (step_of w p)
   where
-    again : (m : Machine) (c : Call) (r : Answer) → GoesOn (retry m c r) → calls_in p (retry m c r) ≡ 1
-    again m c Wait h = absurd h
-    again m c (Done r) h = refl
-
-    by : (x : Process) → IsAtCall x → GoesOn (step_effect w.kernel p (Some x)) → calls_in p (step_effect w.kernel p (Some x)) ≡ 1
-    by (Running m) at goes = ap (λ y. calls_in p (first_try w.kernel p m y)) at.1
-    by (Waiting m c) at goes = again m c (answer w.kernel p c).0 goes
-    by (Ended e) at goes = absurd goes
+    by : StepOf w p → calls_in p (step_effect_in w p) ≡ 1
+    by (still e) = absurd (subst GoesOn e goes)
+    by (by_itself m q b acts e) =
+        let asks = (subst IsAtCall (same_some x (Running m) (slice_get w.processes p) a b) at).1 in
+        absurd (cc)
+    by (by_call m c r b asks is e) = ap (calls_in p) e
+    by (by_answer m c r b is e) = ap (calls_in p) e
 
 -- where the world stands after a step of process p, which leads to a row that is no deeper than its calls tell
 pub record StandsNext (t : Store) (w : WorldState) (p : ℕ) (s : Place) : Type 0 where
@@ -123,10 +120,8 @@ along_next t w p s one u stands h = record {
 
 -- where each object has a name in kernels that are alike, the same steps are independent
 independent_alike : OwnAlike → (k j : KernelState) (t : StepEffect) → IsConsistent k → IsAlike k j → IsIndependent j t → IsIndependent k t
-independent_alike law k j nothing c a h = h
-independent_alike law k j (local_step n) c a h = tt
 independent_alike law k j (kernel_step m d (Done r)) c a h = sym (law k j d c a).0 ∙ h
-independent_alike law k j (kernel_step m d Wait) c a h = h
+independent_alike law k j _ c a h = h
 
 module _ (alike : OwnAlike) (t : Store) (start : WorldState) (searched : IsSearchedByReduction start t) where
   -- what can be taken where a world stands
@@ -179,14 +174,7 @@ module _ (alike : OwnAlike) (t : Store) (start : WorldState) (searched : IsSearc
               along_next t w p s (one_call w p h.0 h.1 (at_call p h.0 h.1) goes) h.2.0 h.2.1 h.2.2
 
           by : IsExpanded t s.at ⊎ HasAmpleStep t s.at → TakesAlone t w s ⊎ TakesAny t w s
-          by (inl done) =
-              let is : s.advance ≡ done.0 = at_unique t s.at s.advance done.0 stands.here done.1 in
-              inr (record {
-                alike = world;
-                each = λ p goes.
-                    let there = subst (λ y. GoesOn (step_effect_in y p)) is (subst GoesOn (sym (effect p)) goes) in
-                    next_by p goes (subst (λ y. HasEdge t s.at y p) (sym is) (done.2 p there));
-              })
+          by (inl done) = inr (record { alike = world; each = λ p goes. next_by p goes (edge_at t s.at p s.advance done stands.here (subst GoesOn (sym (effect p)) goes)) })
           by (inr (v, at, p, own, edge, later)) = by_one (at_unique t s.at s.advance v stands.here at)
             where
               by_one : s.advance ≡ v → TakesAlone t w s ⊎ TakesAny t w s

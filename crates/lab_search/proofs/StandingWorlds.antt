@@ -1,12 +1,8 @@
 -- Where worlds stand among the rows of a search: the row of their advance, and the local steps up to it.
 use Rattle.std.proofs.Common.{ℕ, zero, suc, ◌+◌, ◌*◌, ◌<◌, ◌≤◌, ◌≡◌, List, [], ◌∷◌, Option, Some, None, refl, sym, ap, subst, ◌∙◌, arith, length, slice_get, set, count_by, inl, inr, ◌⊎◌, rules}
-use Rattle.std.proofs.lemmas.Bool.Decides.{eqb_tells}
 use Rattle.lc3_machine.specs.Process.{Process as Machine}
-use Rattle.lab_sched.specs.Worlds.{Process, Running, Waiting, Ended, WorldState, NextAction, moves, calls, next_action, process_after_answer, StepEffect, nothing, local_step, kernel_step, step_effect, step_effect_in, first_try, retry, after, step, IsEffective}
-use Rattle.ipc_kernel.specs.declared.call.Call.{Call}
-use Rattle.ipc_kernel.specs.declared.call.Answer.{Answer}
+use Rattle.lab_sched.specs.Worlds.{Process, Running, Waiting, WorldState, moves, next_action, process_after_answer, StepEffect, nothing, local_step, kernel_step, step_effect, step_effect_in, after, step, IsEffective}
 use Rattle.ipc_kernel.specs.declared.call.Answer.TheVariants.{Done, Wait}
-use Rattle.ipc_kernel.specs.Answer.{answer}
 use Rattle.lab_worlds.specs.Unwaiting.{GoesOn}
 use Rattle.lab_sched.specs.Verdicts.{is_running}
 use Rattle.lab_sched.specs.LocalRun.{AreLocal}
@@ -20,9 +16,10 @@ use Rattle.lab_worlds.specs.Calls.{IsAtCall, IsAhead, Both, Alongside}
 use Rattle.lab_worlds.specs.Closed.{HasAdvance}
 use Rattle.lab_search.specs.Stored.{IsAt, HasEdge, IsSearched}
 use Rattle.lab_worlds.specs.Stepped.{IsReached, AreReached}
-use Rattle.lab_worlds.proofs.UnwaitingWorlds.{effect_at}
+use Rattle.lab_worlds.proofs.UnwaitingWorlds.{StepOf, step_of, still, by_itself, by_call, by_answer}
+use Rattle.lab_worlds.proofs.Pushes.{at_or_other}
 use Rattle.lab_worlds.proofs.AfterLocalSteps.{none_local}
-use Rattle.lab_search.proofs.FirstWorlds.{at_unique}
+use Rattle.lab_search.proofs.FirstWorlds.{edge_from}
 use Rattle.ipc_kernel.specs.Alike.{IsAlike, IsConsistent}
 use Rattle.ipc_store.proofs.Alikes.{alike_then}
 use Rattle.lab_worlds.proofs.AlikeWorlds.{effect_alike, kernel_alike, consistent_after}
@@ -59,27 +56,16 @@ running_goes w p = by (step_effect_in w p)
 -- where a process begins to wait, it runs no more
 pub running_waits : (w : WorldState) (p : ℕ) → IsEffective (step_effect_in w p) → (GoesOn (step_effect_in w p) → ⊥) → running (step w p) + 1 ≡ running w
 unfolding process_after_answer
-running_waits w p h g = by (slice_get w.processes p) refl
+running_waits w p h g = by (step_of w p)
   where
-    expanded_in : (m : Machine) (c : Call) (a : Answer) → slice_get w.processes p ≡ Some (Running m) → step_effect_in w p ≡ kernel_step m c a → running (step w p) + 1 ≡ running w
-    expanded_in m c Wait at e =
+    by : StepOf w p → running (step w p) + 1 ≡ running w
+    by (still e) = absurd (subst IsEffective e h)
+    by (by_itself m q at acts e) = absurd (g (subst GoesOn (sym e) tt))
+    by (by_call m c Wait at asks is e) =
         let sums = count_set is_running w.processes p (Running m) (Waiting m c) at in
         ap (λ t. running (after w p t) + 1) e ∙ (omega (arith, sums))
-    expanded_in m c (Done r) at e = absurd (g (subst GoesOn (sym e) tt))
-
-    again : (m : Machine) (c : Call) (a : Answer) → step_effect_in w p ≡ retry m c a → running (step w p) + 1 ≡ running w
-    again m c Wait e = absurd (subst IsEffective e h)
-    again m c (Done r) e = absurd (g (subst GoesOn (sym e) tt))
-
-    runs : (m : Machine) (a : NextAction) → next_action m ≡ a → slice_get w.processes p ≡ Some (Running m) → running (step w p) + 1 ≡ running w
-    runs m (moves q) e at = absurd (g (subst GoesOn (sym (effect_at w p (Some (Running m)) at ∙ ap (first_try w.kernel p m) e)) tt))
-    runs m (calls c) e at = expanded_in m c (answer w.kernel p c).0 at (effect_at w p (Some (Running m)) at ∙ ap (first_try w.kernel p m) e)
-
-    by : (o : Option Process) → slice_get w.processes p ≡ o → running (step w p) + 1 ≡ running w
-    by None a = absurd (subst IsEffective (effect_at w p None a) h)
-    by (Some (Running m)) a = runs m (next_action m) refl a
-    by (Some (Waiting m c)) a = again m c (answer w.kernel p c).0 (effect_at w p (Some (Waiting m c)) a)
-    by (Some (Ended e)) a = absurd (subst IsEffective (effect_at w p (Some (Ended e)) a) h)
+    by (by_call m c (Done r) at asks is e) = absurd (g (subst GoesOn (sym e) tt))
+    by (by_answer m c r at is e) = absurd (g (subst GoesOn (sym e) tt))
 
 -- a process takes so many local steps to the state in which it is at a call
 abbrev pub TakesAt : Option ℕ → Option Process → Option Process → Type 0
@@ -214,11 +200,9 @@ standing_effect t w p x s a at stands =
 -- the local steps after a step of process p, which has other ones left then
 takes_set : (ks : List ℕ) (ss us : List Process) (p k j : ℕ) → slice_get ks p ≡ Some k → TakesAt (Some j) (slice_get ss p) (slice_get us p)
     → ((i : ℕ) → (p ≡ i → ⊥) → TakesAt (slice_get ks i) (slice_get ss i) (slice_get us i)) → Takes (set ks p j) ss us
-takes_set ks ss us p k j at here others i = elim (eqb_tells p i) [
-  | inl same ↦ subst (λ n. TakesAt (slice_get (set ks p j) n) (slice_get ss n) (slice_get us n)) same.1
-      (subst (λ o. TakesAt o (slice_get ss p) (slice_get us p)) (sym (get-set_same ks p j (get_past ks p k at))) here)
-  | inr other ↦ subst (λ o. TakesAt o (slice_get ss i) (slice_get us i)) (sym (get-set_other ks p i j other.1)) (others i other.1)
-]
+takes_set ks ss us p k j at here others i = at_or_other (λ n. TakesAt (slice_get (set ks p j) n) (slice_get ss n) (slice_get us n)) p i
+    (subst (λ o. TakesAt o (slice_get ss p) (slice_get us p)) (sym (get-set_same ks p j (get_past ks p k at))) here)
+    (λ other. subst (λ o. TakesAt o (slice_get ss i) (slice_get us i)) (sym (get-set_other ks p i j other)) (others i other))
 
 module _ (t : Store) where
   -- after a local step
@@ -307,26 +291,19 @@ module _ (t : Store) (start : WorldState) (searched : IsSearched start t) where
   -- the same where each step has an edge
   call_stands : (w : WorldState) (p : ℕ) (x : Process) (s : Place) → slice_get w.processes p ≡ Some x → IsAtCall x → GoesOn (step_effect_in w p) → Stands t w s → StandsAfter t w p s
   call_stands w p x s a at goes stands =
-      let done = searched.expanded s.at (get_past t.rows s.at stands.here.0 stands.here.1) in
-      let is : s.advance ≡ done.0 = at_unique t s.at s.advance done.0 stands.here done.1 in
-      let same = standing_effect t w p x s a at stands in
-      let edge = subst (λ y. HasEdge t s.at y p) (sym is) (done.2 p (subst (λ y. GoesOn (step_effect_in y p)) is (subst GoesOn (sym same) goes))) in
+      let edge = edge_from t s.at p s.advance searched.expanded stands.here (subst GoesOn (sym (standing_effect t w p x s a at stands)) goes) in
       let next = along_stands t w p x s a at stands edge in
       (next.0, next.1, inr next.2)
 
   -- after a step by which a process goes on
   pub step_stands : (w : WorldState) (p : ℕ) (s : Place) → GoesOn (step_effect_in w p) → Stands t w s → StandsAfter t w p s
-  step_stands w p s effective stands = by (slice_get w.processes p) refl
+  step_stands w p s effective stands = by (step_of w p)
     where
-      running : (m : Machine) (a : NextAction) → next_action m ≡ a → slice_get w.processes p ≡ Some (Running m) → StandsAfter t w p s
-      running m (moves q) e a = let next = local_stands t w p m q s a e stands in (next.0, next.1, inl next.2)
-      running m (calls c) e a = call_stands w p (Running m) s a (c, e) effective stands
-
-      by : (o : Option Process) → slice_get w.processes p ≡ o → StandsAfter t w p s
-      by None a = absurd (subst (λ o. GoesOn (step_effect w.kernel p o)) a effective)
-      by (Some (Running m)) a = running m (next_action m) refl a
-      by (Some (Waiting m c)) a = call_stands w p (Waiting m c) s a tt effective stands
-      by (Some (Ended e)) a = call_stands w p (Ended e) s a tt effective stands
+      by : StepOf w p → StandsAfter t w p s
+      by (still e) = absurd (subst GoesOn e effective)
+      by (by_itself m q a acts e) = let next = local_stands t w p m q s a acts stands in (next.0, next.1, inl next.2)
+      by (by_call m c r a asks is e) = call_stands w p (Running m) s a (c, asks) effective stands
+      by (by_answer m c r a is e) = call_stands w p (Waiting m c) s a tt effective stands
 
   -- before the first step
   pub start_stands : IsConsistent start.kernel → (s : Place) × Stands t start s × (length s.taken ≡ length start.processes)

@@ -29,8 +29,8 @@ use Rattle.lab_sched.specs.Held.{process_view, IsHeld, step_of}
 use Rattle.lab_sched.specs.LocalRun.{IsLocalStep, AreLocal}
 use Rattle.lab_worlds.specs.Calls.{IsAtCall}
 use Rattle.lab_worlds.specs.Unwaiting.{GoesOn}
-use Rattle.lab_worlds.specs.declared.trying.Made.{Made}
-use Rattle.lab_worlds.specs.declared.trying.Attempt.TheVariants.{Came}
+use Rattle.lab_worlds.specs.declared.trying.Attempt.{Attempt}
+use Rattle.lab_worlds.specs.declared.trying.Attempt.TheVariants.{Still, Runs, Came}
 use Rattle.lab_states.specs.declared.collapsed_states.CollapsedState.{CollapsedState}
 use Rattle.lab_search.specs.declared.store.Store.{Store}
 use Rattle.lab_states.specs.CollapsedStates.{behind, kept_behind, whole_of}
@@ -157,12 +157,6 @@ goes_same _ o = refl
 same_goes : (k : KernelState) (p : ℕ) (s : Process) (o : List ℕ) → GoesOn (step_effect k p (Some (behind o s))) ≡ GoesOn (step_effect k p (Some s))
 same_goes k p s o = ap GoesOn (same_step k p s o) ∙ goes_same (step_effect k p (Some s)) o
 
-pub goes_behind : (k : KernelState) (p : ℕ) (s : Process) (o : List ℕ) → GoesOn (step_effect k p (Some s)) → GoesOn (step_effect k p (Some (behind o s)))
-goes_behind k p s o h = subst (λ X. X) (sym (same_goes k p s o)) h
-
-pub went_behind : (k : KernelState) (p : ℕ) (s : Process) (o : List ℕ) → GoesOn (step_effect k p (Some (behind o s))) → GoesOn (step_effect k p (Some s))
-went_behind k p s o h = subst (λ X. X) (same_goes k p s o) h
-
 same_kernel : (k : KernelState) (p : ℕ) (t : StepEffect) (o : List ℕ) → kernel_after k p (effect_behind o t) ≡ kernel_after k p t
 same_kernel k p nothing o = refl
 same_kernel k p _ o = refl
@@ -242,14 +236,22 @@ seen_behind k o = seen_output k _
 pub ready_behind : (k : Kept) (o : List ℕ) → IsReady k → IsReady (kept_behind o k)
 ready_behind k o ready = (ready_held k o ready.0, subst IsAtCall (sym (seen_behind k o)) (at_call_behind (process_view k) o ready.1))
 
--- a process that has written more before comes to the same, but for what was written before
-pub stepped_behind : (k : KernelState) (p : ℕ) (s : Process) (made : Made) (o : List ℕ) → IsStepped k p s (Came made) → IsStepped k p (behind o s) (Came (record made { process = kept_behind o made.process }))
-stepped_behind k p s made o h = (
+-- what came of a step of a process that has written more before
+abbrev pub attempt_with : List ℕ → Attempt → Attempt
+attempt_with o Still = Still
+attempt_with o Runs = Runs
+attempt_with o (Came made) = Came (record made { process = kept_behind o made.process })
+
+-- it is the same, but for what was written before
+stepped_behind : (k : KernelState) (p : ℕ) (s : Process) (a : Attempt) (o : List ℕ) → IsStepped k p s a → IsStepped k p (behind o s) (attempt_with o a)
+stepped_behind k p s Still o h = λ goes. h (subst (λ X. X) (same_goes k p s o) goes)
+stepped_behind k p s Runs o h = subst (λ X. X) (sym (same_goes k p s o)) h
+stepped_behind k p s (Came made) o h = (
   h.0 ∙ sym (kernel_behind k p s o),
   ready_behind made.process o h.1,
   subst (λ x. IsReached x (process_view (kept_behind o made.process))) (sym (process_behind k p s o))
       (subst (λ x. IsReached (behind o (step_of k p s).process) x) (sym (seen_behind made.process o)) (reached_behind (step_of k p s).process (process_view made.process) o h.2)),
-  goes_behind k p s o h.3,
+  subst (λ X. X) (sym (same_goes k p s o)) h.3,
 )
 
 -- the state behind an output that is kept
@@ -257,9 +259,13 @@ state_behind : (t : Store) (i : ℕ) (s : CollapsedState) → slice_get t.states
 state_behind t i s at = ap (option_map process_view) at ∙ ap (λ x. Some x) (seen_behind s.process (output_at t s.before))
 
 -- what comes of a step of its process
-pub attempt_behind : (t u : Store) (m : Mover) (s : CollapsedState) (k : KernelState) (a : KeptAttempt) → IsExactly t m.kernel k → IsSettled k → slice_get t.states.processes m.state ≡ Some (whole_of t.states.outputs s)
-    → IsKeptStep u k m.pid (behind (output_at t s.before) (process_view s.process)) a → IsKeptAttempt t u m a
-attempt_behind t u m s k a exactly settled whole step = (k, behind (output_at t s.before) (process_view s.process), exactly, state_behind t m.state s whole, settled, step)
+pub attempt_behind : (t u : Store) (m : Mover) (s : CollapsedState) (q : Kept) (k : KernelState) (a came : Attempt) (kept : KeptAttempt) → q ≡ s.process → IsExactly t m.kernel k → IsSettled k
+    → slice_get t.states.processes m.state ≡ Some (whole_of t.states.outputs s) → IsStepped k m.pid (process_view q) a → a ≡ came
+    → (IsStepped k m.pid (behind (output_at t s.before) (process_view s.process)) (attempt_with (output_at t s.before) came) → IsKeptStep u k m.pid (behind (output_at t s.before) (process_view s.process)) kept) → IsKeptAttempt t u m kept
+attempt_behind t u m s q k a came kept same exactly settled whole stepped is step =
+    let o = output_at t s.before in
+    let tried = subst (IsStepped k m.pid (process_view s.process)) is (subst (λ x. IsStepped k m.pid (process_view x) a) same stepped) in
+    (k, behind o (process_view s.process), exactly, state_behind t m.state s whole, settled, step (stepped_behind k m.pid (process_view s.process) came o tried))
 
 pub held_apart : (t : Store) (i : ℕ) (s : CollapsedState) → IsStore t → slice_get t.states.processes i ≡ Some (whole_of t.states.outputs s) → IsHeld s.process
 held_apart t i s is at = was_held s.process (output_at t s.before) (all_at IsReady t.states.processes i (whole_of t.states.outputs s) is.states at).0

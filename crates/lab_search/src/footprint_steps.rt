@@ -1,15 +1,43 @@
 //! Memoized transitions: steps at calls that work on one object, made once for each footprint.
-ghost use Rattle.std.specs.Prelude.{◌≡◌, IsTrue, IfOk, IfSome, OnOk};
+ghost use Rattle.std.specs.Prelude.{◌≡◌, IfOk, IfSome, OnOk};
 ghost use Rattle.ipc_kernel.specs.Kernel.{KernelState};
-ghost use Rattle.lab_search.specs.declared.store.Next.TheVariants.{Limit};
+ghost use Rattle.ipc_store.specs.Kept.{GrowsKept};
 ghost use Rattle.lab_search.specs.Stored.{IsExactly, IsStore, AreKnown};
-ghost use Rattle.lab_search.specs.Private.Stored.{IsLater, IsMoveFrom, IsNextBy};
+ghost use Rattle.lab_search.specs.Private.Stored.{IsLater, IsMoveFrom, IsChanged, IsNextBy};
 ghost use Rattle.lab_search.specs.Private.FootprintEffect.{HasFootprint};
 
 use crate::footprints::{Effect, Footprint};
 use crate::known::Mover;
 use crate::store::{Next, Store};
+use ipc_store::Kernels;
 use std::alloc::AllocError;
+
+/// The number of the kernel of a mover with this object in a place and these tables of its process, or
+/// of one that is alike where the object is made there. It is kept if it wasn't.
+fn keep_changed(
+    kernels: &mut Kernels,
+    mover: Mover,
+    place: u8,
+    object: u32,
+    tables: u32,
+) -> Result<Option<u32>, AllocError>
+    ensures grows { OnOk result (GrowsKept kernels.old kernels.new) }
+    ensures alike { IfOk result (λ kept.
+        IfSome kept (IsChanged kernels.old kernels.new mover place object tables)) }
+{
+    let pid = mover.pid as usize;
+    if let Some(kernel) = kernels.find_with(mover.kernel, pid, place, object, tables) {
+        return Ok(Some(kernel));
+    }
+    if let Some(kernel) = kernels.keep_with(mover.kernel, pid, place, object, tables)? {
+        return Ok(Some(kernel));
+    }
+    if kernels.object_at(mover.kernel, place) == Some(object) {
+        return Ok(None);
+    }
+    let kept = kernels.keep_with_new(mover.kernel, pid, place, object, tables)?;
+    Ok(kept)
+}
 
 impl Store {
     /// The call that works on one object at which a process stands, if it stands at such a call.
@@ -31,94 +59,6 @@ impl Store {
         })
     }
 
-    /// What a process does next by the effect of its call on the object in a place, if the kernel
-    /// after it is kept.
-    fn next_by(&self, mover: Mover, place: u8, effect: Effect) -> Option<Next>
-        ensures next { IfSome result (IsNextBy self.now self.now mover place effect) }
-    {
-        match effect {
-            Effect::Nothing => Some(Next::Nothing),
-            Effect::Limit => Some(Next::Limit),
-            Effect::To {
-                tables,
-                object,
-                state,
-                taken,
-            } => {
-                let kernel = self
-                    .kernels
-                    .find_with(mover.kernel, mover.pid as usize, place, object, tables)?;
-                Some(Next::To {
-                    kernel,
-                    state,
-                    taken,
-                })
-            }
-        }
-    }
-
-    /// The same, where the kernel after it is kept if it wasn't and the call makes no object.
-    fn keep_next_in(
-        &mut self,
-        mover: Mover,
-        place: u8,
-        effect: Effect,
-    ) -> Result<Option<Next>, AllocError>
-        requires store { IsStore self.old }
-        ensures later { OnOk result (IsLater self.old self.new) }
-        ensures next { IfOk result (λ found.
-            IfSome found (IsNextBy self.old self.new mover place effect)) }
-    {
-        if let Some(next) = self.next_by(mover, place, effect) {
-            return Ok(Some(next));
-        }
-        let Effect::To { tables, object, .. } = effect else {
-            return Ok(None);
-        };
-        self.kernels
-            .keep_with(mover.kernel, mover.pid as usize, place, object, tables)?;
-        Ok(self.next_by(mover, place, effect))
-    }
-
-    /// What a process does next by the effect of its call that makes an object in a place, where a
-    /// kernel that is alike the one after it is kept if it wasn't.
-    fn keep_next_made(
-        &mut self,
-        mover: Mover,
-        place: u8,
-        effect: Effect,
-    ) -> Result<Option<Next>, AllocError>
-        requires store { IsStore self.old }
-        ensures later { OnOk result (IsLater self.old self.new) }
-        ensures next { IfOk result (λ found.
-            IfSome found (IsNextBy self.old self.new mover place effect)) }
-    {
-        let Effect::To {
-            tables,
-            object,
-            state,
-            taken,
-        } = effect
-        else {
-            return Ok(None);
-        };
-        if self.kernels.object_at(mover.kernel, place) == Some(object) {
-            return Ok(None);
-        }
-        let pid = mover.pid as usize;
-        let kept = self
-            .kernels
-            .keep_with_new(mover.kernel, pid, place, object, tables)?;
-        let Some(kernel) = kept else {
-            return Ok(None);
-        };
-        Ok(Some(Next::To {
-            kernel,
-            state,
-            taken,
-        }))
-    }
-
     /// What a process does next by the effect of its call on what a place holds, where the kernel
     /// after it, or one that is alike, is kept if it wasn't.
     pub(crate) fn keep_next_by(
@@ -132,11 +72,26 @@ impl Store {
         ensures next { IfOk result (λ found.
             IfSome found (IsNextBy self.old self.new mover place effect)) }
     {
-        if let Some(next) = self.keep_next_in(mover, place, effect)? {
-            return Ok(Some(next));
+        match effect {
+            Effect::Nothing => Ok(Some(Next::Nothing)),
+            Effect::Limit => Ok(Some(Next::Limit)),
+            Effect::To {
+                tables,
+                object,
+                state,
+                taken,
+            } => {
+                let Some(kernel) = keep_changed(&mut self.kernels, mover, place, object, tables)?
+                else {
+                    return Ok(None);
+                };
+                Ok(Some(Next::To {
+                    kernel,
+                    state,
+                    taken,
+                }))
+            }
         }
-        let next = self.keep_next_made(mover, place, effect)?;
-        Ok(next)
     }
 
     /// What a process does next, if it has ended or this move was made.
@@ -148,19 +103,5 @@ impl Store {
         }
         let next = self.moves.find(mover)?;
         Some(next)
-    }
-
-    /// Whether a process goes on, if it is known.
-    pub(crate) fn known_to_go_on(&self, mover: Mover) -> Option<bool>
-        ensures yes { AreKnown self.now
-            → IfSome result (λ goes. IsTrue goes → IsMoveFrom self.now mover Limit) }
-    {
-        if let Some(footprint) = self.footprint_at(mover) {
-            if let Some(effect) = self.moves.footprints.find(footprint) {
-                return Some(!effect.is_nothing());
-            }
-        }
-        let next = self.made_next(mover)?;
-        Some(!next.is_nothing())
     }
 }

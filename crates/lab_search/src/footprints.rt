@@ -96,11 +96,9 @@ impl Footprints {
     {
         let mut number = self.index.newest(footprint.digest());
         while number > 0 {
-            let at = number - 1;
-            if let Some(made) = self.made.get(at) {
-                if made.footprint.is_same(footprint) {
-                    return Some(made.effect);
-                }
+            let made = self.made.get(number - 1)?;
+            if made.footprint.is_same(footprint) {
+                return Some(made.effect);
             }
             number = self.index.older(number);
         }
@@ -111,12 +109,11 @@ impl Footprints {
         ensures known { OnOk result ((t : Kept) → AreFootprintEffects t self.old.made.items
             → IsFootprintEffect t footprint effect → AreFootprintEffects t self.new.made.items) }
     {
-        self.index.add(footprint.digest())?;
         self.made.push(FootprintEffect { footprint, effect })?;
+        self.index.add(footprint.digest())?;
         Ok(())
     }
 
-    /// About how many bytes they take.
     pub(crate) fn size(&self) -> usize {
         size_of::<FootprintEffect>()
             .saturating_add(Index::ENTRY)

@@ -6,7 +6,7 @@ ghost use Rattle.lab_search.specs.Stored.{IsMove, AreMoves};
 use crate::footprints::Footprints;
 use crate::store::Next;
 use ipc_store::Index;
-use lab_states::place_of as number_of;
+use lab_states::{place_of as number_of, put};
 use std::alloc::{AllocError, Global};
 use std::mem::size_of;
 
@@ -69,6 +69,16 @@ impl Move {
     }
 }
 
+/// Puts a number at a place, for which room is made if there is none.
+fn put_at(numbers: &mut Vec<u32>, place: usize, number: u32) -> Result<(), AllocError> {
+    if place >= numbers.len() {
+        let room = place.saturating_add(EACH).max(numbers.len() / 4 * 5);
+        numbers.resize(room, 0)?;
+    }
+    put(numbers, place, number);
+    Ok(())
+}
+
 impl Moves {
     pub(crate) fn new(alloc: Global, index: Index) -> Moves
         ensures moves { result.made.items ≡ [] }
@@ -100,34 +110,18 @@ impl Moves {
         None
     }
 
-    /// Puts the number of the next move, as the newest, at a place.
-    fn put_next(&mut self, place: usize) -> Result<(), AllocError>
-        ensures made { self.new.made ≡ self.old.made }
-        ensures footprints { self.new.footprints ≡ self.old.footprints }
-    {
-        let number = number_of(self.made.len())?.saturating_add(1);
-        if place >= self.newest.len() {
-            let room = place.saturating_add(EACH).max(self.newest.len() / 4 * 5);
-            self.newest.resize(room, 0)?;
-        }
-        if let Some(newest) = self.newest.get_mut(place) {
-            *newest = number;
-        }
-        Ok(())
-    }
-
     pub(crate) fn keep(&mut self, mover: Mover, next: Next) -> Result<(), AllocError>
         ensures footprints { OnOk result (self.new.footprints ≡ self.old.footprints) }
         ensures known { OnOk result ((t : Kept) → AreMoves t self.old.made.items
             → IsMove t mover next → AreMoves t self.new.made.items) }
     {
         let older = self.newest(mover);
-        self.put_next(mover.newest_at())?;
+        let number = number_of(self.made.len())?.saturating_add(1);
+        put_at(&mut self.newest, mover.newest_at(), number)?;
         self.made.push(Move { mover, older, next })?;
         Ok(())
     }
 
-    /// About how many bytes they take.
     pub(crate) fn size(&self) -> usize {
         size_of::<Move>()
             .saturating_mul(self.made.len())

@@ -2,7 +2,7 @@
 ghost use Rattle.std.specs.Prelude.{IfOk, IfSome, OnOk};
 ghost use Rattle.ipc_kernel.specs.Kernel.{KernelState};
 ghost use Rattle.lab_search.specs.Stored.{IsExactly, IsStore, IsMove, IsFootprintEffect};
-ghost use Rattle.lab_search.specs.Private.Stored.{IsLater, IsMoveFrom, IsKeptAttempt};
+ghost use Rattle.lab_search.specs.Private.Stored.{IsLater, IsKeptAttempt};
 ghost use Rattle.lab_search.specs.Private.FootprintEffect.{HasFootprint};
 
 use crate::footprints::{Effect, Footprint};
@@ -11,7 +11,6 @@ use crate::store::{Next, Store};
 use ipc_kernel::Kernel;
 use lab_states::CollapsedState;
 use lab_worlds::{Attempt, ExploreFault, Made, try_step};
-use std::alloc::AllocError;
 
 /// How many worlds there are at least for each kernel where kernels are come to often.
 const RETURNS: usize = 4;
@@ -55,7 +54,8 @@ impl Store {
                     process,
                     taken,
                 } = made;
-                let state = self.keep_behind(CollapsedState { before, process })?;
+                let behind = CollapsedState { before, process };
+                let state = self.states.keep_behind(self.alloc, behind)?;
                 Ok(KeptAttempt::Came {
                     kernel,
                     state,
@@ -160,7 +160,7 @@ impl Store {
         requires store { IsStore self.old }
         requires kernel { (k : KernelState) × IsExactly self.old mover.kernel k }
         ensures later { OnOk result (IsLater self.old self.new) }
-        ensures next { IfOk result (λ found. IfSome found (IsMoveFrom self.new mover)) }
+        ensures next { IfOk result (λ found. IfSome found (IsMove self.new mover)) }
     {
         let Some(footprint) = self.footprint_at(mover) else {
             return Ok(None);
@@ -169,34 +169,19 @@ impl Store {
         Ok(self.keep_next_by(mover, footprint.place, effect)?)
     }
 
-    /// Keeps a move over a kernel that is kept, if its state is, where kernels are come to often.
-    fn keep_move(&mut self, mover: Mover, next: Next) -> Result<(), AllocError>
-        requires store { IsStore self.old }
-        requires kernel { (k : KernelState) × IsExactly self.old mover.kernel k }
-        requires next { IsMoveFrom self.old mover next }
-        ensures later { OnOk result (IsLater self.old self.new) }
-        ensures next { OnOk result (IsMoveFrom self.new mover next) }
-    {
-        let Some(_) = self.states.collapsed(mover.state as usize) else {
-            return Ok(());
-        };
-        if self.rows.len() < self.kernels.len().saturating_mul(RETURNS) {
-            return Ok(());
-        }
-        self.moves.keep(mover, next)?;
-        Ok(())
-    }
-
-    /// What a process does next. Each such move, and each step at a call that works on one object, is
-    /// made once.
+    /// What a process does next. Each such move is made once, and so is each step at a call that works on
+    /// one object, whose move is kept only where kernels are come to often.
     pub(crate) fn make_move(&mut self, mover: Mover, most: u32) -> Result<Next, ExploreFault>
         requires store { IsStore self.old }
         requires kernel { (k : KernelState) × IsExactly self.old mover.kernel k }
         ensures later { OnOk result (IsLater self.old self.new) }
-        ensures next { IfOk result (IsMoveFrom self.new mover) }
+        ensures next { IfOk result (IsMove self.new mover) }
     {
         if let Some(next) = self.make_footprint_effect(mover, most)? {
-            self.keep_move(mover, next)?;
+            if self.rows.len() < self.kernels.len().saturating_mul(RETURNS) {
+                return Ok(next);
+            }
+            self.moves.keep(mover, next)?;
             return Ok(next);
         }
         let next = self.make_next(mover, most)?;

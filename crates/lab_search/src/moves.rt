@@ -3,7 +3,7 @@ ghost use Rattle.std.specs.Prelude.{◌≡◌, ◌<◌, IsTrue, IfOk, IfSome, On
 ghost use Rattle.lab_sched.specs.Worlds.{WorldState};
 ghost use Rattle.lab_search.specs.declared.store.Next.TheVariants.{Limit};
 ghost use Rattle.lab_search.specs.Stored.{IsStore, AreKnown, LeadsTo, HasEdge, IsNextAt, IsAt, HasEdgeIfEnabled, IsExpanded};
-ghost use Rattle.lab_search.specs.Private.Stored.{IsLater, IsStep};
+ghost use Rattle.lab_search.specs.Private.Stored.{IsLater};
 
 use crate::known::Mover;
 use crate::rows::Change;
@@ -39,7 +39,14 @@ impl Store {
             → IsNextAt self.now at pid Limit) }
     {
         let (kernel, state) = self.places(at, pid)?;
-        self.known_to_go_on(Mover { kernel, pid, state })
+        let mover = Mover { kernel, pid, state };
+        if let Some(footprint) = self.footprint_at(mover) {
+            if let Some(effect) = self.moves.footprints.find(footprint) {
+                return Some(!effect.is_nothing());
+            }
+        }
+        let next = self.made_next(mover)?;
+        Some(!next.is_nothing())
     }
 
     /// Whether each move from the world of a row was made, and is none.
@@ -93,29 +100,7 @@ impl Store {
             return Ok(false);
         };
         let pushed = self.edges.push(edge)?;
-        if !pushed {
-            return Ok(false);
-        }
-        Ok(true)
-    }
-
-    /// Keeps the world to which a process goes on from that of a row, if there are fewer than `most`;
-    /// with the number of its row, if it is kept now.
-    pub(crate) fn keep_after(
-        &mut self,
-        change: Change,
-        most: u32,
-    ) -> Result<Option<usize>, ExploreFault>
-        requires store { IsStore self.old }
-        requires step { IsStep self.old change }
-        ensures later { OnOk result (IsLater self.old self.new) }
-        ensures row { IfOk result (λ kept. IfSome kept (LeadsTo self.new change.at change.pid)) }
-    {
-        if let Some(to) = self.find_after(change) {
-            return Ok(Some(to));
-        }
-        let kept = self.keep_row_after(change, most)?;
-        Ok(kept)
+        Ok(pushed)
     }
 
     /// Tries process `pid` from the world of a row, and keeps the world where it comes, and the edge to

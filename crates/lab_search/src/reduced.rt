@@ -4,7 +4,7 @@ ghost use Rattle.std.specs.Prelude.{ℕ, ◌≡◌, true, Some, IsTrue, IfOk, If
 ghost use Rattle.lab_sched.specs.Worlds.{Process as Seen, WorldState, step_effect_in};
 ghost use Rattle.lab_worlds.specs.Independent.{IsIndependent};
 ghost use Rattle.lab_states.specs.Rows.{Row};
-ghost use Rattle.lab_search.specs.Reduced.{HasAmpleStep, IsExpandedIn};
+ghost use Rattle.lab_search.specs.Reduced.{IsExpandedIn};
 ghost use Rattle.lab_search.specs.Stored.{IsExactly, IsState, IsAt, IsStore};
 ghost use Rattle.lab_search.specs.Private.Stored.{IsLater};
 
@@ -57,20 +57,6 @@ impl Store {
         None
     }
 
-    /// Tries a process alone from the world of a row of which the step depends on no other's, if there is
-    /// one, and keeps the edge where it leads to a later row; with whether it is kept now.
-    fn try_independent(&mut self, at: usize, limits: Limits) -> Result<bool, ExploreFault>
-        requires store { IsStore self.old }
-        ensures later { OnOk result (IsLater self.old self.new) }
-        ensures alone { IfOk result (λ kept. IsTrue kept → HasAmpleStep self.new at) }
-    {
-        let Some(pid) = self.independent_process(at) else {
-            return Ok(false);
-        };
-        let kept = self.try_process(at, pid, limits, true)?;
-        Ok(kept)
-    }
-
     /// Tries each process from the world of a row, or in a search that is reduced one alone of which the
     /// step depends on no other's, where it leads to a later row; with whether that could be done.
     pub(crate) fn expand_in(
@@ -87,7 +73,10 @@ impl Store {
         if !reduced {
             return self.expand(at, limits);
         }
-        let alone = self.try_independent(at, limits)?;
+        let Some(pid) = self.independent_process(at) else {
+            return self.expand(at, limits);
+        };
+        let alone = self.try_process(at, pid, limits, true)?;
         if alone {
             return Ok(true);
         }

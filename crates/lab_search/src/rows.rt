@@ -2,8 +2,8 @@
 ghost use Rattle.std.specs.Prelude.{◌≡◌, Some, IsTrue, length, slice_get, slice_set, IfOk, IfSome, OnOk};
 ghost use Rattle.lab_sched.specs.Worlds.{WorldState};
 ghost use Rattle.lab_states.specs.Rows.{Row, row_of};
-ghost use Rattle.lab_search.specs.Stored.{IsRow, IsAt, IsStore};
-ghost use Rattle.lab_search.specs.Private.Stored.{changed, IsAfter, IsLater};
+ghost use Rattle.lab_search.specs.Stored.{IsRow, IsAt, IsStore, LeadsTo};
+ghost use Rattle.lab_search.specs.Private.Stored.{IsAfter, IsLater, IsStep};
 
 use crate::store::Store;
 use ipc_store::are_with;
@@ -67,26 +67,24 @@ impl Store {
         self.row_index.add(digest_of(row))?;
         self.parents.push(Parent { row: 0, pid: 0 })?;
         let pushed = self.rows.push(row)?;
-        if !pushed {
-            return Ok(false);
-        }
-        Ok(true)
+        Ok(pushed)
     }
 
-    /// Keeps the row after a change, if there are fewer than `most`; with its number, if it is kept.
-    pub(crate) fn keep_row_after(
+    /// Keeps the world to which a process goes on from that of a row, if there are fewer than `most`;
+    /// with the number of its row, if it is kept now.
+    pub(crate) fn keep_after(
         &mut self,
         change: Change,
         most: u32,
     ) -> Result<Option<usize>, AllocError>
         requires store { IsStore self.old }
-        requires row { (r : Row) → slice_get self.old.rows change.at ≡ Some r
-            → (w : WorldState) × IsRow self.old (changed r change) w }
+        requires step { IsStep self.old change }
         ensures later { OnOk result (IsLater self.old self.new) }
-        ensures kept { IfOk result (λ kept. IfSome kept (λ i. (r : Row)
-            × (slice_get self.old.rows change.at ≡ Some r)
-            × (slice_get self.new.rows i ≡ Some (changed r change)))) }
+        ensures row { IfOk result (λ kept. IfSome kept (LeadsTo self.new change.at change.pid)) }
     {
+        if let Some(to) = self.find_after(change) {
+            return Ok(Some(to));
+        }
         let number = self.rows.len();
         if number >= most as usize {
             return Ok(None);

@@ -2,32 +2,17 @@
 ghost use Rattle.std.specs.Prelude.{◌≡◌, All, IsTrue, false, map, IfOk, IfSome, OnOk};
 ghost use Rattle.lab_sched.specs.Held.{process_view, IsHeld};
 ghost use Rattle.lab_worlds.specs.Closed.{HasAdvance};
-ghost use Rattle.lab_states.specs.Rows.{row_of};
 ghost use Rattle.lab_search.specs.Reduced.{AreExpandedIn, IsSearchedIn};
 ghost use Rattle.lab_search.specs.Private.Reduced.{StatesKeepNames};
 ghost use Rattle.lab_search.specs.Stored.{IsAt, IsStore};
-ghost use Rattle.lab_search.specs.Private.Stored.{IsLater, IsLocalSuccessor, AreInitialStates};
+ghost use Rattle.lab_search.specs.Private.Stored.{IsLater};
 
 use crate::moves::both;
 use crate::store::Store;
 use ipc_kernel::Kernel;
 use lab_sched::Process;
-use lab_worlds::{Ahead, ExploreFault, Limits, Observer, advance, discard};
-use std::alloc::{AllocError, Global};
-
-/// The state that a process comes to by so many local steps, by its place.
-#[derive(Clone, Copy, Drop)]
-pub struct LocalSuccessor {
-    pub state: u32,
-    pub taken: u32,
-}
-
-/// The states that processes begin with, at their first calls, and the local steps to them.
-#[derive(Drop)]
-pub struct InitialStates {
-    pub states: Vec<u32>,
-    pub firsts: Vec<u32>,
-}
+use lab_worlds::{ExploreFault, Limits, Observer, advance, discard};
+use std::alloc::Global;
 
 /// What a search found: the worlds and the moves between them, the local steps of each process before
 /// them, and whether these are all, or in a reduced search as many as show every end. If they aren't,
@@ -42,53 +27,38 @@ pub struct Search {
 }
 
 impl Store {
-    /// Keeps the state that a process comes to by all its local steps, if it may take so many.
-    fn keep_first(
-        &mut self,
-        process: &Process,
-        most: u32,
-    ) -> Result<Option<LocalSuccessor>, ExploreFault>
-        requires store { IsStore self.old }
-        requires held { IsHeld process.now }
-        ensures later { OnOk result (IsLater self.old self.new) }
-        ensures successor { IfOk result (λ successor. IfSome successor (λ x.
-            IsLocalSuccessor self.new x.state (process_view process.now))) }
-    {
-        let Ahead {
-            process,
-            taken,
-            at_call,
-        } = advance(self.alloc, process.copy(self.alloc)?, most)?;
-        if !at_call {
-            discard(process);
-            return Ok(None);
-        }
-        let state = self.states.keep(self.alloc, process)?;
-        Ok(Some(LocalSuccessor { state, taken }))
-    }
-
-    /// Keeps the states that processes come to by all their local steps, if they may take so many.
+    /// Keeps the first world, in which each process stands at its first call, if each comes there; with the
+    /// local steps of each before it.
     fn begin(
         &mut self,
         processes: &[Process],
-        most: u32,
-    ) -> Result<Option<InitialStates>, ExploreFault>
+        kernel: &Kernel,
+        limits: Limits,
+    ) -> Result<Option<Vec<u32>>, ExploreFault>
         requires store { IsStore self.old }
         requires held { All IsHeld processes.now }
         ensures later { OnOk result (IsLater self.old self.new) }
-        ensures initial { IfOk result (λ initial. IfSome initial (λ x.
-            AreInitialStates self.new x.states.items (map process_view processes.now))) }
+        ensures begins { IfOk result (λ firsts. IfSome firsts (λ _. HasAdvance (IsAt self.new 0)
+            (record { processes = map process_view processes.now; kernel = kernel.now }))) }
     {
-        let mut states = Vec::new(self.alloc);
+        let number = self.keep_alike(kernel)?;
+        let mut row = vec![in self.alloc; number]?;
         let mut firsts = Vec::new(self.alloc);
         for process in processes {
-            let Some(successor) = self.keep_first(process, most)? else {
+            let ahead = advance(self.alloc, process.copy(self.alloc)?, limits.steps)?;
+            if !ahead.at_call {
+                discard(ahead);
                 return Ok(None);
-            };
-            states.push(successor.state)?;
-            firsts.push(successor.taken)?;
+            }
+            let state = self.states.keep(self.alloc, ahead.process)?;
+            row.push(state)?;
+            firsts.push(ahead.taken)?;
         }
-        Ok(Some(InitialStates { states, firsts }))
+        let kept = self.keep_first_row(row.as_slice(), limits.worlds)?;
+        if !kept {
+            return Ok(None);
+        }
+        Ok(Some(firsts))
     }
 
     /// Whether no process is about to take a name away in a state that is kept, where that matters.
@@ -130,85 +100,7 @@ impl Store {
     }
 }
 
-fn first_row(alloc: Global, kernel: u32, states: &[u32]) -> Result<Vec<u32>, AllocError>
-    ensures kernel { IfOk result (λ row. (row_of row.items).kernel ≡ kernel) }
-    ensures states { IfOk result (λ row. (row_of row.items).states ≡ states.now) }
-{
-    let mut row = vec![in alloc; kernel]?;
-    row.extend_from_slice(states)?;
-    Ok(row)
-}
-
 impl Search {
-    fn new(alloc: Global, processes: usize, reduced: bool) -> Result<Search, AllocError>
-        ensures reduced { IfOk result (λ s. s.reduced ≡ reduced) }
-        ensures store { IfOk result (λ s. IsStore s.store) }
-        ensures open { IfOk result (λ s. s.complete ≡ false) }
-    {
-        Ok(Search {
-            store: Store::new(alloc, processes)?,
-            firsts: Vec::new(alloc),
-            reduced,
-            complete: false,
-            refused: false,
-        })
-    }
-
-    /// Keeps the first world, in which each process stands at its first call, if each comes there;
-    /// with whether it is kept.
-    fn begin(
-        &mut self,
-        processes: &[Process],
-        kernel: &Kernel,
-        limits: Limits,
-    ) -> Result<bool, ExploreFault>
-        requires store { IsStore self.old.store }
-        requires open { self.old.complete ≡ false }
-        requires held { All IsHeld processes.now }
-        ensures store { OnOk result (IsStore self.new.store) }
-        ensures open { OnOk result (self.new.complete ≡ false) }
-        ensures reduced { OnOk result (self.new.reduced ≡ self.old.reduced) }
-        ensures begins { IfOk result (λ kept. IsTrue kept → HasAdvance (IsAt self.new.store 0)
-            (record { processes = map process_view processes.now; kernel = kernel.now })) }
-    {
-        let kernel = self.store.keep_alike(kernel)?;
-        let Some(initial) = self.store.begin(processes, limits.steps)? else {
-            return Ok(false);
-        };
-        let InitialStates { states, firsts } = initial;
-        self.firsts = firsts;
-        let first = first_row(self.store.alloc, kernel, states.as_slice())?;
-        let kept = self.store.keep_first_row(first.as_slice(), limits.worlds)?;
-        Ok(kept)
-    }
-
-    /// Tries what is to be tried from each world, as far as the limits and the memory allow.
-    fn go_on<O: Observer>(&mut self, limits: Limits, observer: &mut O) -> Result<(), ExploreFault>
-        requires store { IsStore self.old.store }
-        requires open { self.old.complete ≡ false }
-        ensures later { OnOk result (IsTrue self.new.complete
-            → IsLater self.old.store self.new.store) }
-        ensures reduced { OnOk result (self.new.reduced ≡ self.old.reduced) }
-        ensures expanded_in { OnOk result (IsTrue self.new.complete
-            → AreExpandedIn self.old.reduced self.new.store) }
-        ensures names { OnOk result (IsTrue self.new.complete → IsTrue self.old.reduced
-            → StatesKeepNames self.new.store) }
-    {
-        let expanded = self.store.expand_all(limits, observer, self.reduced);
-        self.store.close();
-        match expanded {
-            Ok(whole) => {
-                self.complete = whole;
-                Ok(())
-            }
-            Err(ExploreFault::NoMemory) => {
-                self.refused = true;
-                Ok(())
-            }
-            Err(fault) => Err(fault),
-        }
-    }
-
     /// Keeps every world that processes over a kernel can come to, as far as the limits and the memory
     /// allow.
     fn fill<O: Observer>(
@@ -227,12 +119,23 @@ impl Search {
             (record { processes = map process_view processes.now; kernel = kernel.now })
             self.new.store) }
     {
-        let kept = self.begin(processes, kernel, limits)?;
-        if !kept {
+        let Some(firsts) = self.store.begin(processes, kernel, limits)? else {
             return Ok(());
+        };
+        self.firsts = firsts;
+        let expanded = self.store.expand_all(limits, observer, self.reduced);
+        self.store.close();
+        match expanded {
+            Ok(whole) => {
+                self.complete = whole;
+                Ok(())
+            }
+            Err(ExploreFault::NoMemory) => {
+                self.refused = true;
+                Ok(())
+            }
+            Err(fault) => Err(fault),
         }
-        self.go_on(limits, observer)?;
-        Ok(())
     }
 }
 
@@ -252,7 +155,13 @@ fn search_in<O: Observer>(
     ensures complete { IfOk result (λ s. IsTrue s.complete → IsSearchedIn reduced
         (record { processes = map process_view processes.now; kernel = kernel.now }) s.store) }
 {
-    let mut search = Search::new(alloc, processes.len(), reduced)?;
+    let mut search = Search {
+        store: Store::new(alloc, processes.len())?,
+        firsts: Vec::new(alloc),
+        reduced,
+        complete: false,
+        refused: false,
+    };
     match search.fill(processes, kernel, limits, observer) {
         Ok(()) => Ok(search),
         Err(fault) => {

@@ -1,17 +1,14 @@
 //! The state space as it is stored.
 ghost use Rattle.std.specs.Prelude.{◌≡◌, false, IsTrue, IfOk, OnOk};
 ghost use Rattle.ipc_kernel.specs.Kernel.{IsSettled};
-ghost use Rattle.lab_sched.specs.Held.{process_view};
-ghost use Rattle.lab_worlds.specs.Stepped.{IsReady};
-ghost use Rattle.lab_states.specs.CollapsedStates.{whole_of, IsWithin};
 ghost use Rattle.lab_search.specs.declared.store.Next.TheVariants.{Nothing};
-ghost use Rattle.lab_search.specs.Stored.{IsExactly, IsState, IsKernel, IsStore};
+ghost use Rattle.lab_search.specs.Stored.{IsExactly, IsKernel, IsStore};
 ghost use Rattle.lab_search.specs.Private.Stored.{IsLater};
 
 use crate::known::Moves;
 use ipc_kernel::Kernel;
 use ipc_store::{Index, Kernels, arranged};
-use lab_states::{CollapsedState, Edges, Parents, Rows, States};
+use lab_states::{Edges, Parents, Rows, States};
 use std::alloc::{AllocError, Global};
 
 /// What a process does next.
@@ -87,29 +84,11 @@ impl Store {
 
     /// Lets go of what only a search needs that goes on. No world, state or kernel is looked for any more.
     pub(crate) fn close(&mut self)
-        ensures kernels { self.new.kernels ≡ self.old.kernels }
-        ensures states { self.new.states ≡ self.old.states }
-        ensures rows { self.new.rows ≡ self.old.rows }
-        ensures edges { self.new.edges ≡ self.old.edges }
-        ensures moves { self.new.moves ≡ self.old.moves }
+        ensures same { self.new ≡ record self.old { row_index = self.new.row_index } }
     {
         self.kernels.forget(self.alloc);
         self.states.forget(self.alloc);
         self.row_index = Index::none(self.alloc);
-    }
-
-    /// Keeps the state of a process at a call, which has written an output that is kept and its own
-    /// behind that; with its place.
-    pub(crate) fn keep_behind(&mut self, collapsed: CollapsedState) -> Result<u32, AllocError>
-        requires store { IsStore self.old }
-        requires within { IsWithin self.old.states.outputs collapsed }
-        requires ready { IsReady (whole_of self.old.states.outputs collapsed) }
-        ensures later { OnOk result (IsLater self.old self.new) }
-        ensures state { IfOk result (λ i.
-            IsState self.new i (process_view (whole_of self.old.states.outputs collapsed))) }
-    {
-        let place = self.states.keep_behind(self.alloc, collapsed)?;
-        Ok(place)
     }
 
     /// Keeps a kernel as it is; with its number.

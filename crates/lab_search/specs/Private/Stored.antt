@@ -1,7 +1,11 @@
 -- What a search keeps: kernels, states of processes, and worlds as places among these.
 use Rattle.std.specs.Prelude.{ℕ, ◌≡◌, List, [], Some, get_or, slice_get, slice_set}
 use Rattle.ipc_kernel.specs.Kernel.{KernelState, IsSettled}
-use Rattle.ipc_store.specs.Kept.{GrowsKept}
+use Rattle.ipc_kernel.specs.Alike.{IsAlike}
+use Rattle.ipc_kernel.specs.Operands.{with_operand}
+use Rattle.ipc_kernel.specs.declared.place.Place.{Place}
+use Rattle.ipc_kernel.specs.declared.process.OpenTables.{OpenTables}
+use Rattle.ipc_store.specs.Kept.{KeptKernels, GrowsKept}
 use Rattle.lab_sched.specs.Worlds.{Process, step_effect}
 use Rattle.lab_sched.specs.Held.{step_of}
 use Rattle.lab_worlds.specs.Calls.{IsAhead, Alongside}
@@ -53,6 +57,15 @@ abbrev pub IsMoveFrom : Store → Mover → Next → Type 0
 IsMoveFrom t m next =
     (k : KernelState) (s : Process) → IsExactly t m.kernel k → IsSettled k → IsState t m.state s
     → IsNext t k m.pid s next
+
+-- the kernel with number i among later ones is alike that of a mover, but for the object with this number in a place and the tables
+-- with this number, where that is settled
+abbrev pub IsChanged : KeptKernels → KeptKernels → Mover → ℕ → ℕ → ℕ → ℕ → Type 0
+IsChanged t u m place object tables i =
+    (k : KernelState) (o : Place) (x : OpenTables) → slice_get t.kernels m.kernel ≡ Some k
+    → slice_get t.objects object ≡ Some o → slice_get t.tables tables ≡ Some x
+    → IsSettled (with_operand k m.pid place o x)
+    → (j : KernelState) × (slice_get u.kernels i ≡ Some j) × IsAlike (with_operand k m.pid place o x) j × IsSettled j
 
 -- what comes of an effect on the object in a place is what the process does next, as a later store has it
 abbrev pub IsNextBy : Store → Store → Mover → ℕ → Effect → Next → Type 0

@@ -1,14 +1,14 @@
-use Rattle.std.proofs.Common.{All, refl, ◌-◌, sym, subst}
+use Rattle.std.proofs.Common.{refl, ◌-◌, subst}
 use Rattle.lab_search.specs.declared.footprints.FootprintEffect.{FootprintEffect}
 use Rattle.lab_search.specs.Stored.{IsFootprintEffect}
+use Rattle.lab_worlds.proofs.Pushes.{all_at, got}
 use Rattle.lab_search.proofs.footprints.Footprints.find.Goals as goal
 
 pub returns-then-is_same : goal.returns-then-is_same
 returns-then-is_same c = record {
   known = λ t known.
-      let made = c.in-Some.made.now in
-      let found = c.in-Some.ensures.lookup.3 in
-      let each = subst (All (λ (m : FootprintEffect). IsFootprintEffect t m.footprint m.effect)) (sym c.deref.ensures.value) known in
-      let here = subst (λ (m : FootprintEffect). IsFootprintEffect t m.footprint m.effect) (sym (found.1 made)) (each (c.loop-number.number - 1) made found.0) in
-      subst (λ x. IsFootprintEffect t x made.effect) (c.if-is_same.ensures.same refl) here;
+      let made = c.in_ok-made.made.now in
+      let found = c.in_ok-made.ensures.lookup.3 in
+      let at = got c.deref.result.now c.args.self.now.made.items (c.loop-number.number - 1) made c.deref.ensures.value found.0 (found.1 made) in
+      subst (λ x. IsFootprintEffect t x made.effect) (c.if-is_same.ensures.same refl) (all_at (λ (m : FootprintEffect). IsFootprintEffect t m.footprint m.effect) c.args.self.now.made.items _ made known at);
 }

@@ -1,13 +1,29 @@
-use Rattle.std.proofs.Common.{inl, inr, subst, sym}
+use Rattle.std.proofs.Common.{IsTrue, inr, refl, subst, sym}
+use Rattle.std.proofs.lemmas.Result.{IfOk-weaker}
 use Rattle.lab_search.specs.Reduced.{IsExpandedIn}
-use Rattle.lab_search.proofs.Growths.{later_more}
+use Rattle.lab_search.specs.Stored.{IsAt, IsExpanded}
+use Rattle.lab_worlds.proofs.Pushes.{all_at}
+use Rattle.lab_search.proofs.Growths.{HasWorld, at_grows, expanded_in, later_more}
 use Rattle.lab_search.proofs.store.Store.expand_in.Goals as goal
 
 pub returns-then-alone-clause-expanded_in : goal.returns-then-alone-clause-expanded_in
-returns-then-alone-clause-expanded_in c is = subst (λ b. IsExpandedIn b c.try_independent.new.self c.args.at) (sym c.if-not-reduced.false) (inr (c.in_ok-alone.ensures.alone c.if-alone.true))
+returns-then-alone-clause-expanded_in c is =
+    let t = c.args.self.now in
+    let u = c.try_process.new.self in
+    let r = c.in-Some.ensures.row in
+    let w = all_at (HasWorld t) t.rows c.args.at r.0 c.requires.store.rows r.1 in
+    let here : IsAt t c.args.at w.0 = (r.0, r.1, w.1) in
+    let edge = c.in_ok-alone.ensures.onward c.if-alone.true refl w.0 here in
+    subst (λ b. IsExpandedIn b u c.args.at) (sym c.if-not-reduced.false)
+    (inr (w.0, at_grows t u c.args.at w.0 c.in_ok-alone.ensures.later.grows here, c.in-Some.pid, c.in-Some.ensures.independent w.0 here, edge.0, edge.1))
+
+pub returns-in_default-clause-expanded_in : goal.returns-in_default-clause-expanded_in
+returns-in_default-clause-expanded_in c =
+    let u = c.expand-in_default.new.self in
+    IfOk-weaker c.expand-in_default.result (λ whole. IsTrue whole → IsExpanded u c.args.at) _ (λ whole h is. expanded_in c.args.reduced u c.args.at (h is)) c.expand-in_default.ensures.expanded
 
 pub returns-clause-expanded_in : goal.returns-clause-expanded_in
-returns-clause-expanded_in c is = subst (λ b. IsExpandedIn b c.expand-2.new.self c.args.at) (sym c.if-not-reduced.false) (inl (c.in_ok-expanded.ensures.expanded is))
+returns-clause-expanded_in c is = expanded_in c.args.reduced _ c.args.at (c.in_ok-expanded.ensures.expanded is)
 
 pub returns-clause-later : goal.returns-clause-later
-returns-clause-later c = later_more c.args.self.now c.try_independent.new.self c.expand-2.new.self c.in_ok-alone.ensures.later c.in_ok-expanded.ensures.later
+returns-clause-later c = later_more c.args.self.now c.try_process.new.self _ c.in_ok-alone.ensures.later c.in_ok-expanded.ensures.later

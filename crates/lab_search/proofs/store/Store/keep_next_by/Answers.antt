@@ -1,15 +1,19 @@
-use Rattle.std.proofs.lemmas.Option.{IfSome_then}
-use Rattle.lab_search.proofs.Growths.{later_more, effect_grows}
+use Rattle.std.proofs.Common.{inl, refl}
+use Rattle.lab_search.proofs.Growths.{later_by, still_known}
+use Rattle.lab_search.proofs.FootprintLemmas.{next_by_changed}
 use Rattle.lab_search.proofs.store.Store.keep_next_by.Goals as goal
 
-pub returns-clause-later : goal.returns-clause-later
-returns-clause-later c = later_more c.args.self.now c.keep_next_in.new.self c.keep_next_made.new.self c.in_ok-next.ensures.later c.in_ok-next-2.ensures.later
+pub returns-in_default-clause-later : goal.returns-in_default-clause-later
+returns-in_default-clause-later c = later_by c.args.self.now _ c.requires.store c.in_ok-kernel-in-To.ensures.grows (inl refl) (inl refl) (inl refl) (still_known c.args.self.now c.requires.store)
 
-pub returns-clause-next : goal.returns-clause-next
-returns-clause-next c =
+pub returns-in-Some : goal.returns-in-Some
+returns-in-Some c =
     let t = c.args.self.now in
-    let u = c.keep_next_in.new.self in
     let m = c.args.mover in
-    let g = c.in_ok-next.ensures.later.grows in
-    IfSome_then c.in_ok-next-2.next c.in_ok-next-2.ensures.next (λ n h k s at settled e.
-    h k s (g.kernels.kernels m.kernel k at) settled (effect_grows t u k m.pid s c.args.place c.args.effect g e))
+    let grows = c.in_ok-kernel-in-To.ensures.grows in
+    let later = later_by t _ c.requires.store grows (inl refl) (inl refl) (inl refl) (still_known t c.requires.store) in
+    record {
+      later = later;
+      next = rw c.in-To.is
+          (next_by_changed t _ m c.args.place c.in-Some.kernel c.in-To.tables c.in-To.object c.in-To.state c.in-To.taken later.grows (rw c.in-Some.is at c.in_ok-kernel-in-To.ensures.alike));
+    }

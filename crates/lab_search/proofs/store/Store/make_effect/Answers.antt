@@ -8,19 +8,15 @@ use Rattle.lab_search.proofs.store.Store.make_effect.Goals as goal
 
 pub returns-in-Still-clause-footprint_effect : goal.returns-in-Still-clause-footprint_effect
 returns-in-Still-clause-footprint_effect c =
-    let t = c.args.self.now in
-    let u = c.try_move.new.self in
     let h = c.in_ok-try_move.ensures.attempt in
-    let still = subst (IsKeptStep u h.0 c.args.mover.pid h.1) c.in-Still.is h.5 in
-    footprint_effect_made t u h.0 c.args.mover.pid h.1 c.args.footprint effect.Nothing c.in_ok-try_move.ensures.later.grows h.4 h.3 (c.requires.operand h.0 h.2) still
+    footprint_effect_made c.args.self.now c.try_move.new.self h.0 c.args.mover.pid h.1 c.args.footprint effect.Nothing c.in_ok-try_move.ensures.later.grows h.4 h.3 (c.requires.operand h.0 h.2)
+    (subst (IsKeptStep c.try_move.new.self h.0 c.args.mover.pid h.1) c.in-Still.is h.5)
 
 pub returns-in-Runs-clause-footprint_effect : goal.returns-in-Runs-clause-footprint_effect
 returns-in-Runs-clause-footprint_effect c =
-    let t = c.args.self.now in
-    let u = c.try_move.new.self in
     let h = c.in_ok-try_move.ensures.attempt in
-    let runs = subst (IsKeptStep u h.0 c.args.mover.pid h.1) c.in-Runs.is h.5 in
-    footprint_effect_made t u h.0 c.args.mover.pid h.1 c.args.footprint effect.Limit c.in_ok-try_move.ensures.later.grows h.4 h.3 (c.requires.operand h.0 h.2) runs
+    footprint_effect_made c.args.self.now c.try_move.new.self h.0 c.args.mover.pid h.1 c.args.footprint effect.Limit c.in_ok-try_move.ensures.later.grows h.4 h.3 (c.requires.operand h.0 h.2)
+    (subst (IsKeptStep c.try_move.new.self h.0 c.args.mover.pid h.1) c.in-Runs.is h.5)
 
 pub returns-in-Some-object_at-clause-later : goal.returns-in-Some-object_at-clause-later
 returns-in-Some-object_at-clause-later c =

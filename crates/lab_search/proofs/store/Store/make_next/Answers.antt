@@ -9,15 +9,13 @@ use Rattle.lab_search.proofs.store.Store.make_next.Goals as goal
 
 pub returns-in-Still-clause-next : goal.returns-in-Still-clause-next
 returns-in-Still-clause-next c =
-    let u = c.try_move.new.self in
-    move_of_attempt c.args.self.now u u c.args.mover Still next.Nothing c.in_ok-try_move.ensures.later.grows
-    (subst (IsKeptAttempt c.args.self.now u c.args.mover) c.in-Still.is c.in_ok-try_move.ensures.attempt) (λ still. still)
+    move_of_attempt c.args.self.now c.try_move.new.self c.try_move.new.self c.args.mover Still next.Nothing c.in_ok-try_move.ensures.later.grows
+    (subst (IsKeptAttempt c.args.self.now c.try_move.new.self c.args.mover) c.in-Still.is c.in_ok-try_move.ensures.attempt) (λ still. still)
 
 pub returns-in-Runs-clause-next : goal.returns-in-Runs-clause-next
 returns-in-Runs-clause-next c =
-    let u = c.try_move.new.self in
-    move_of_attempt c.args.self.now u u c.args.mover Runs next.Limit c.in_ok-try_move.ensures.later.grows
-    (subst (IsKeptAttempt c.args.self.now u c.args.mover) c.in-Runs.is c.in_ok-try_move.ensures.attempt) (λ runs. runs)
+    move_of_attempt c.args.self.now c.try_move.new.self c.try_move.new.self c.args.mover Runs next.Limit c.in_ok-try_move.ensures.later.grows
+    (subst (IsKeptAttempt c.args.self.now c.try_move.new.self c.args.mover) c.in-Runs.is c.in_ok-try_move.ensures.attempt) (λ runs. runs)
 
 pub returns-in_ok-number-in-Came-clause-later : goal.returns-in_ok-number-in-Came-clause-later
 returns-in_ok-number-in-Came-clause-later c =

@@ -1,51 +1,41 @@
-use Rattle.std.proofs.Common.{subst, sym}
+use Rattle.std.proofs.Common.{inl, refl, subst, sym}
 use Rattle.lab_sched.specs.Held.{process_view, IsHeld}
 use Rattle.lab_states.specs.CollapsedStates.{kept_behind}
-use Rattle.lab_worlds.specs.Stepped.{IsStepped}
+use Rattle.lab_worlds.specs.declared.trying.Attempt.TheVariants as attempt
+use Rattle.lab_worlds.specs.Stepped.{IsReady, IsStepped}
 use Rattle.lab_search.specs.declared.making.KeptAttempt.TheVariants.{Still, Runs, Came}
+use Rattle.lab_search.specs.declared.store.Store.{Store}
 use Rattle.lab_search.specs.Private.Stored.{output_at}
-use Rattle.lab_search.proofs.StepsBehind.{attempt_behind, goes_behind, held_apart, ready_behind, stepped_behind, went_behind}
+use Rattle.lab_search.proofs.Growths.{grown_by, kept_same, later_by, still_known}
+use Rattle.lab_search.proofs.StepsBehind.{attempt_behind, held_apart, ready_behind}
 use Rattle.lab_search.proofs.store.Store.try_move.Goals as goal
 
 pub try_step-requires : goal.try_step-requires
 try_step-requires c = record { held = subst IsHeld (sym c.in_ok-process.ensures.equal) (held_apart c.args.self.now c.args.mover.state c.in-Some.collapsed.now c.requires.store c.in-Some.ensures.whole) }
 
-pub keep_behind-requires-clause-ready : goal.keep_behind-requires-clause-ready
-keep_behind-requires-clause-ready c =
-    let k = c.in-Some-2.kernel in
-    let s = process_view c.in_ok-process.process in
-    let stepped = subst (λ x. IsStepped k c.args.mover.pid s x) c.in-Came.is c.in_ok-try_step.ensures.stepped in
-    ready_behind c.in-Came.made.process (output_at c.args.self.now c.in-Some.collapsed.now.before) stepped.1
-
 pub returns-in-Still-clause-attempt : goal.returns-in-Still-clause-attempt
 returns-in-Still-clause-attempt c =
-    let t = c.args.self.now in
-    let collapsed = c.in-Some.collapsed.now in
-    let k = c.in-Some-2.kernel in
-    let tried = subst (λ q. IsStepped k c.args.mover.pid (process_view q) c.in_ok-try_step.field-0) c.in_ok-process.ensures.equal c.in_ok-try_step.ensures.stepped in
-    let still = subst (IsStepped k c.args.mover.pid (process_view collapsed.process)) c.in-Still.is tried in
-    attempt_behind t t c.args.mover collapsed k Still (rw c.in-Some-2.is at c.in_ok-kernel.ensures.kept) (rw c.in-Some-2.is at c.in_ok-kernel.ensures.settled) c.in-Some.ensures.whole
-    (λ goes. still (went_behind k c.args.mover.pid (process_view collapsed.process) (output_at t collapsed.before) goes))
+    attempt_behind c.args.self.now c.args.self.now c.args.mover c.in-Some.collapsed.now c.in_ok-process.process c.in-Some-2.kernel c.in_ok-try_step.field-0 attempt.Still Still c.in_ok-process.ensures.equal
+    (rw c.in-Some-2.is at c.in_ok-kernel.ensures.kept) (rw c.in-Some-2.is at c.in_ok-kernel.ensures.settled) c.in-Some.ensures.whole c.in_ok-try_step.ensures.stepped c.in-Still.is (λ h. h)
 
 pub returns-in-Runs-clause-attempt : goal.returns-in-Runs-clause-attempt
 returns-in-Runs-clause-attempt c =
-    let t = c.args.self.now in
-    let collapsed = c.in-Some.collapsed.now in
-    let k = c.in-Some-2.kernel in
-    let tried = subst (λ q. IsStepped k c.args.mover.pid (process_view q) c.in_ok-try_step.field-0) c.in_ok-process.ensures.equal c.in_ok-try_step.ensures.stepped in
-    let runs = subst (IsStepped k c.args.mover.pid (process_view collapsed.process)) c.in-Runs.is tried in
-    attempt_behind t t c.args.mover collapsed k Runs (rw c.in-Some-2.is at c.in_ok-kernel.ensures.kept) (rw c.in-Some-2.is at c.in_ok-kernel.ensures.settled) c.in-Some.ensures.whole
-    (goes_behind k c.args.mover.pid (process_view collapsed.process) (output_at t collapsed.before) runs)
+    attempt_behind c.args.self.now c.args.self.now c.args.mover c.in-Some.collapsed.now c.in_ok-process.process c.in-Some-2.kernel c.in_ok-try_step.field-0 attempt.Runs Runs c.in_ok-process.ensures.equal
+    (rw c.in-Some-2.is at c.in_ok-kernel.ensures.kept) (rw c.in-Some-2.is at c.in_ok-kernel.ensures.settled) c.in-Some.ensures.whole c.in_ok-try_step.ensures.stepped c.in-Runs.is (λ h. h)
 
-pub returns-in_ok-state-in-Came-clause-attempt : goal.returns-in_ok-state-in-Came-clause-attempt
-returns-in_ok-state-in-Came-clause-attempt c =
+pub returns-in_ok-state-in-Came : goal.returns-in_ok-state-in-Came
+returns-in_ok-state-in-Came c =
     let t = c.args.self.now in
-    let collapsed = c.in-Some.collapsed.now in
     let k = c.in-Some-2.kernel in
-    let o = output_at t collapsed.before in
-    let come = c.in-Came.made in
-    let tried = subst (λ q. IsStepped k c.args.mover.pid (process_view q) c.in_ok-try_step.field-0) c.in_ok-process.ensures.equal c.in_ok-try_step.ensures.stepped in
-    let made = stepped_behind k c.args.mover.pid (process_view collapsed.process) come o (subst (IsStepped k c.args.mover.pid (process_view collapsed.process)) c.in-Came.is tried) in
-    attempt_behind t c.keep_behind.new.self c.args.mover collapsed k (Came come.kernel c.in_ok-state-in-Came.state come.taken)
-    (rw c.in-Some-2.is at c.in_ok-kernel.ensures.kept) (rw c.in-Some-2.is at c.in_ok-kernel.ensures.settled) c.in-Some.ensures.whole
-    (process_view (kept_behind o come.process), made.0, c.in_ok-state-in-Came.ensures.state, made.2, made.3)
+    let made = c.in-Came.made in
+    let state = c.in_ok-state-in-Came in
+    let u : Store = record t { states = c.keep_behind.new.self } in
+    let whole = kept_behind (output_at t c.in-Some.collapsed.now.before) made.process in
+    let stepped = subst (IsStepped k c.args.mover.pid (process_view c.in_ok-process.process)) c.in-Came.is c.in_ok-try_step.ensures.stepped in
+    let states = grown_by IsReady t.states.processes _ whole (ready_behind made.process (output_at t c.in-Some.collapsed.now.before) stepped.1) state.ensures.kept in
+    record {
+      later = later_by t u c.requires.store (kept_same t.kernels) states (inl refl) (inl refl) (still_known t c.requires.store);
+      attempt = attempt_behind t u c.args.mover c.in-Some.collapsed.now c.in_ok-process.process k c.in_ok-try_step.field-0 (attempt.Came made) (Came made.kernel state.state made.taken) c.in_ok-process.ensures.equal
+          (rw c.in-Some-2.is at c.in_ok-kernel.ensures.kept) (rw c.in-Some-2.is at c.in_ok-kernel.ensures.settled) c.in-Some.ensures.whole c.in_ok-try_step.ensures.stepped c.in-Came.is
+          (λ h. (process_view whole, h.0, state.ensures.state, h.2, h.3));
+    }
