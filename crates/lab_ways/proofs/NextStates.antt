@@ -5,7 +5,7 @@ use Rattle.std.proofs.lemmas.Bool.{or_parts}
 use Rattle.std.specs.List.{list_any}
 use Rattle.lc3_machine.specs.Process.{Process as Machine}
 use Rattle.ipc_kernel.specs.declared.call.Call.{Call}
-use Rattle.ipc_kernel.specs.declared.call.Call.TheVariants.{MqOpen, MqClose, MqUnlink, MqSend, MqReceive, MqGetattr, MqSetattr, SemOpen, SemClose, SemUnlink, SemWait, SemTrywait, SemPost, SemGetvalue, Exit}
+use Rattle.ipc_kernel.specs.declared.call.Call.TheVariants.{MqClose, MqSend, MqReceive, MqGetattr, MqSetattr, SemClose, SemWait, SemTrywait, SemPost, SemGetvalue}
 use Rattle.ipc_kernel.specs.declared.call.Answer.{Answer}
 use Rattle.ipc_kernel.specs.declared.call.Answer.TheVariants.{Done, Wait}
 use Rattle.ipc_kernel.specs.declared.process.Slot.{Slot}
@@ -49,21 +49,17 @@ semaphore_alike f g k j r p s =
 
 -- so has the object of a call
 name_alike : (k j : KernelState) (p : ℕ) (c : Call) → IsAlike k j → name_called j p c ≡ name_called k p c
-name_alike k j p (MqOpen name flags attr) a = refl
 name_alike k j p (MqClose d) a = queue_alike a.0 a.1 k j a.2 p d
-name_alike k j p (MqUnlink name) a = refl
 name_alike k j p (MqSend d words prio) a = queue_alike a.0 a.1 k j a.2 p d
 name_alike k j p (MqReceive d len) a = queue_alike a.0 a.1 k j a.2 p d
 name_alike k j p (MqGetattr d) a = queue_alike a.0 a.1 k j a.2 p d
 name_alike k j p (MqSetattr d flags) a = queue_alike a.0 a.1 k j a.2 p d
-name_alike k j p (SemOpen name flags value) a = refl
 name_alike k j p (SemClose s) a = semaphore_alike a.0 a.1 k j a.2 p s
-name_alike k j p (SemUnlink name) a = refl
 name_alike k j p (SemWait s) a = semaphore_alike a.0 a.1 k j a.2 p s
 name_alike k j p (SemTrywait s) a = semaphore_alike a.0 a.1 k j a.2 p s
 name_alike k j p (SemPost s) a = semaphore_alike a.0 a.1 k j a.2 p s
 name_alike k j p (SemGetvalue s) a = semaphore_alike a.0 a.1 k j a.2 p s
-name_alike k j p Exit a = refl
+name_alike k j p _ a = refl
 
 on_alike : (o : Option (List ℕ)) (k j : KernelState) (p : ℕ) (c : Call) → IsAlike k j → is_on o j p c ≡ is_on o k p c
 on_alike None k j p c a = refl
@@ -100,9 +96,8 @@ by_alike (NoneBut xs) s k j p c a = ap (λ b. if is_exit c || b then s else 1) (
 
 -- so does a step
 pub next_alike : (x : Wanted) (s : ℕ) (k j : KernelState) (p : ℕ) (t : StepEffect) → IsAlike k j → next_state x s j p t ≡ next_state x s k p t
-next_alike x s k j p nothing a = refl
-next_alike x s k j p (local_step n) a = refl
 next_alike x s k j p (kernel_step m c r) a = ap (λ n. if is_process x.process p && is_success r then n else s) (by_alike x.pattern s k j p c a)
+next_alike x s k j p _ a = refl
 
 -- a call that waits is not read
 unread : (b : Bool) (n s : ℕ) → (if b && false then n else s) ≡ s
@@ -139,9 +134,8 @@ no_step x s k p (kernel_step m c (Done r)) none = absurd (none tt)
 
 -- nor does one that is no call
 pub uncalled : (x : Wanted) (s : ℕ) (k : KernelState) (p : ℕ) (t : StepEffect) → calls_in p t ≡ 0 → next_state x s k p t ≡ s
-uncalled x s k p nothing none = refl
-uncalled x s k p (local_step n) none = refl
 uncalled x s k p (kernel_step m c a) none = absurd (omega (arith, none))
+uncalled x s k p _ none = refl
 
 -- a call whose name no kind has is of none
 uncalled_kinds : (xs : List CallKind) (k : KernelState) (p : ℕ) (c : Call) → list_any (λ x. is_called x.service c) xs ≡ false → is_of_any xs k p c ≡ false

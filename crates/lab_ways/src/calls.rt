@@ -3,7 +3,7 @@ ghost use Rattle.std.specs.Prelude.{◌≡◌, ◌&&◌, ◌<◌, bytes_eq, leng
 ghost use Rattle.std.specs.List.{list_any};
 ghost use Rattle.std.specs.Option.{option_copied};
 ghost use Rattle.ipc_kernel.specs.Places.{place_at, is_name};
-ghost use Rattle.lab_ways.specs.Calls.{call_name, object_name, queue_behind, semaphore_behind, name_called, is_called, is_on, is_of, is_of_any, is_success};
+ghost use Rattle.lab_ways.specs.Calls.{call_name, object_name, name_called, is_called, is_on, is_of, is_of_any, is_success};
 
 use ipc_kernel::{Answer, Call, Kernel, Reply};
 use ipc_names::Name;
@@ -44,14 +44,12 @@ fn is_text(text: &str, other: &str) -> bool
     text == other
 }
 
-/// Whether a name is this one.
 fn is_name(name: &Name, other: Option<&Name>) -> bool
     ensures same { result ≡ is_name name.now (option_copied other.entry) }
 {
     other.is_some_and(|other| is_text(name.text(), other.text()))
 }
 
-/// Whether the object in a place has this name.
 fn is_named(kernel: &Kernel, place: u8, name: &Name) -> bool
     ensures same { result ≡ is_name name.now (object_name (place_at kernel.now.places place)) }
 {
@@ -64,27 +62,6 @@ fn is_named(kernel: &Kernel, place: u8, name: &Name) -> bool
     }
 }
 
-/// Whether the queue behind a descriptor has this name.
-fn is_queue_behind(kernel: &Kernel, pid: usize, mqd: u16, name: &Name) -> bool
-    requires process { pid < length kernel.now.processes }
-    ensures same { result ≡ is_name name.now (queue_behind kernel.now pid mqd) }
-{
-    kernel
-        .mqd(pid, mqd)
-        .is_some_and(|held| is_named(kernel, held.place, name))
-}
-
-/// Whether the semaphore behind a slot has this name.
-fn is_semaphore_behind(kernel: &Kernel, pid: usize, slot: u16, name: &Name) -> bool
-    requires process { pid < length kernel.now.processes }
-    ensures same { result ≡ is_name name.now (semaphore_behind kernel.now pid slot) }
-{
-    kernel
-        .slot(pid, slot)
-        .is_some_and(|held| is_named(kernel, held.place, name))
-}
-
-/// Whether a call is on the object of this name.
 pub(crate) fn calls_name(kernel: &Kernel, pid: usize, call: &Call, name: &Name) -> bool
     requires process { pid < length kernel.now.processes }
     ensures same { result ≡ is_name name.now (name_called kernel.now pid call.now) }
@@ -98,12 +75,16 @@ pub(crate) fn calls_name(kernel: &Kernel, pid: usize, call: &Call, name: &Name) 
         | Call::MqSend { mqd, .. }
         | Call::MqReceive { mqd, .. }
         | Call::MqGetattr { mqd }
-        | Call::MqSetattr { mqd, .. } => is_queue_behind(kernel, pid, *mqd, name),
+        | Call::MqSetattr { mqd, .. } => kernel
+            .mqd(pid, *mqd)
+            .is_some_and(|held| is_named(kernel, held.place, name)),
         Call::SemClose { slot }
         | Call::SemWait { slot }
         | Call::SemTrywait { slot }
         | Call::SemPost { slot }
-        | Call::SemGetvalue { slot } => is_semaphore_behind(kernel, pid, *slot, name),
+        | Call::SemGetvalue { slot } => kernel
+            .slot(pid, *slot)
+            .is_some_and(|held| is_named(kernel, held.place, name)),
         Call::Exit => false,
     }
 }
@@ -118,7 +99,6 @@ pub(crate) fn is_success(answer: &Answer) -> bool
     }
 }
 
-/// Whether a call is that of a service.
 pub(crate) fn is_called(service: Service, call: &Call) -> bool
     ensures value { result ≡ is_called service call.now }
 {
@@ -136,7 +116,6 @@ impl CallKind {
         }
     }
 
-    /// Whether a call of process `pid` is of this kind.
     pub(crate) fn is_of(&self, kernel: &Kernel, pid: usize, call: &Call) -> bool
         requires process { pid < length kernel.now.processes }
         ensures value { result ≡ is_of self.now kernel.now pid call.now }
@@ -152,7 +131,6 @@ pub(crate) fn are_called(kinds: &[CallKind], call: &Call) -> bool
     kinds.iter().any(|kind| is_called(kind.service, call))
 }
 
-/// Whether a call of process `pid` is of one of these kinds.
 pub(crate) fn is_of_any(kinds: &[CallKind], kernel: &Kernel, pid: usize, call: &Call) -> bool
     requires process { pid < length kernel.now.processes }
     ensures value { result ≡ is_of_any kinds.now kernel.now pid call.now }

@@ -2,7 +2,7 @@
 ghost use Rattle.std.specs.Prelude.{ℕ, ◌<◌, IsTrue, IfOk};
 ghost use Rattle.lab_search.specs.Stored.{IsStore};
 ghost use Rattle.lab_explore.specs.Visits.{IsVisited};
-ghost use Rattle.lab_ways.specs.Private.Marked.{IsMarked, KeepsMark, KeepsMarks, KeepsMarksAt, IsRight, AreRightAt, AreShown};
+ghost use Rattle.lab_ways.specs.Private.Marked.{IsMarked, KeepsMarks, KeepsMarksAt, IsRight, AreRightAt, AreShown};
 
 use crate::judging::state_along;
 use crate::marking::Marks;
@@ -24,24 +24,6 @@ fn is_unmarked(marks: &Marks, row: usize, state: u32) -> bool
     marks.get(row, state) == Some(0)
 }
 
-fn keeps_mark(
-    store: &Store,
-    wanted: &Wanted,
-    marks: &Marks,
-    edge: &Edge,
-    state: u32,
-) -> Result<bool, ExploreFault>
-    ensures yes { IfOk result (λ is. IsTrue is
-        → KeepsMark wanted.now store.now marks.now edge.now state) }
-{
-    if is_unmarked(marks, edge.from as usize, state) {
-        return Ok(true);
-    }
-    let alloc = *marks.reached.allocator();
-    let next = state_along(store, alloc, wanted, edge, state)?;
-    Ok((next as usize) < marks.states && is_marked(marks, edge.to as usize, next))
-}
-
 fn keeps_marks(
     store: &Store,
     wanted: &Wanted,
@@ -51,8 +33,13 @@ fn keeps_marks(
     ensures yes { IfOk result (λ is. IsTrue is
         → KeepsMarks wanted.now store.now marks.now edge.now) }
 {
+    let alloc = *marks.reached.allocator();
     for state in 0..place_of(marks.states)? {
-        if !keeps_mark(store, wanted, marks, edge, state)? {
+        if is_unmarked(marks, edge.from as usize, state) {
+            continue;
+        }
+        let next = state_along(store, alloc, wanted, edge, state)?;
+        if next as usize >= marks.states || !is_marked(marks, edge.to as usize, next) {
             return Ok(false);
         }
     }
@@ -106,7 +93,6 @@ fn are_right_at(
     Ok(true)
 }
 
-/// Whether all pairs are right.
 fn are_right(visited: &Visited, wanted: &Wanted, marks: &Marks) -> Result<bool, ExploreFault>
     requires store { IsStore visited.now.store }
     ensures yes { IfOk result (λ is. IsTrue is

@@ -27,26 +27,12 @@ pub(crate) struct Marks {
 }
 
 impl Marks {
-    /// No pair. An error is want of memory, or too many states.
-    fn new(alloc: Global, rows: usize, states: usize) -> Result<Marks, AllocError> {
-        if states > MOST_STATES {
-            return Err(AllocError);
-        }
-        let count = rows.checked_mul(states).ok_or(AllocError)?;
-        Ok(Marks {
-            states,
-            marks: vec![in alloc; 0; count]?,
-            reached: Vec::new(alloc),
-        })
-    }
-
     fn place(&self, row: usize, state: u32) -> Option<usize>
         ensures place { IfSome result (λ place. place ≡ row * self.now.states + state) }
     {
         row.checked_mul(self.states)?.checked_add(state as usize)
     }
 
-    /// The mark of a pair.
     pub fn get(&self, row: usize, state: u32) -> Option<u32>
         ensures mark { IfSome result (λ mark.
             slice_get self.now.marks.items (row * self.now.states + state) ≡ Some mark) }
@@ -91,21 +77,6 @@ impl Marks {
         Ok(())
     }
 
-    /// Marks the pairs that are reached from the first row and state 0, those by fewer edges first, up to
-    /// one with a state that isn't allowed.
-    fn fill(&mut self, store: &Store, wanted: &Wanted) -> Result<(), ExploreFault> {
-        for place in 0..self.marks.len() {
-            let Some(pair) = self.reached.get(place).copied() else {
-                return Ok(());
-            };
-            if !wanted.pattern.allows(pair.state) {
-                return Ok(());
-            }
-            self.follow(store, wanted, pair, place_of(place)?)?;
-        }
-        Ok(())
-    }
-
     /// The edges by which a pair was reached, the last of which comes first.
     pub fn path_to(
         &self,
@@ -131,16 +102,33 @@ impl Marks {
     }
 }
 
-/// The pairs that are reached from the first row and state 0.
+/// Marks the pairs that are reached from the first row and state 0, those by fewer edges first, up to one
+/// with a state that isn't allowed. An error is want of memory, or too many states.
 pub(crate) fn mark(store: &Store, alloc: Global, wanted: &Wanted) -> Result<Marks, ExploreFault> {
-    let mut marks = Marks::new(alloc, store.rows.len(), wanted.pattern.states())?;
-    let first = Reached {
+    let states = wanted.pattern.states();
+    if states > MOST_STATES {
+        return Err(ExploreFault::NoMemory);
+    }
+    let count = store.rows.len().checked_mul(states).ok_or(AllocError)?;
+    let mut marks = Marks {
+        states,
+        marks: vec![in alloc; 0; count]?,
+        reached: Vec::new(alloc),
+    };
+    marks.add(Reached {
         row: 0,
         state: 0,
         edge: 0,
         before: 0,
-    };
-    marks.add(first)?;
-    marks.fill(store, wanted)?;
+    })?;
+    for place in 0..count {
+        let Some(pair) = marks.reached.get(place).copied() else {
+            return Ok(marks);
+        };
+        if !wanted.pattern.allows(pair.state) {
+            return Ok(marks);
+        }
+        marks.follow(store, wanted, pair, place_of(place)?)?;
+    }
     Ok(marks)
 }

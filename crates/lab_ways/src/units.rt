@@ -24,14 +24,11 @@ fn gives(call: &Call) -> bool
     is_called(Service::SemPost, call)
 }
 
-/// Whether a call takes or gives back a unit, by its name.
 pub(crate) fn moves_units(call: &Call) -> bool
     ensures value { result ≡ (is_called SemWait call.now || is_called SemTrywait call.now
         || is_called SemPost call.now) }
 {
-    is_called(Service::SemWait, call)
-        || is_called(Service::SemTrywait, call)
-        || is_called(Service::SemPost, call)
+    takes(call) || gives(call)
 }
 
 /// Whether a unit of the semaphore is held after a call, 1 or 0.

@@ -3,7 +3,7 @@ ghost use Rattle.std.specs.Prelude.{IfOk, OnOk};
 ghost use Rattle.lab_explore.specs.Visits.{start_of, IsVisited};
 ghost use Rattle.lab_ways.specs.declared.wanted.Wanted.{Wanted as Asked};
 ghost use Rattle.lab_ways.specs.Ways.{IsWayWithout};
-ghost use Rattle.lab_ways.specs.Private.Marked.{KeepsWatched, ComesToEnd};
+ghost use Rattle.lab_ways.specs.Private.Marked.{KeepsWatched};
 
 use crate::wanted::Wanted;
 use crate::watching::WatchedWalk;
@@ -69,59 +69,36 @@ fn settle(
     Ok(())
 }
 
-/// Goes along edges to rest, where what is asked must not be so.
-fn go_to_rest(
-    visited: &Visited,
-    wanted: &Wanted,
-    path: &[Edge],
-    walk: &mut WatchedWalk,
-) -> Result<(), ExploreFault>
-    ensures against { OnOk result (ComesToEnd wanted.now walk.old walk.new) }
+/// The way along edges to rest, where what is asked must not be so.
+fn way_to_rest(visited: &Visited, wanted: &Wanted, path: &[Edge]) -> Result<Schedule, ExploreFault>
+    requires visited { IsVisited visited.now }
+    ensures way { IfOk result (λ s. IsWayWithout wanted.now (start_of visited.now) s) }
 {
+    let mut walk = WatchedWalk::start(visited)?;
     let mut local = visited.firsts.clone()?;
-    go_along(visited, wanted, path, &mut local, walk)?;
-    settle(*local.allocator(), wanted, local.as_slice(), walk)?;
+    go_along(visited, wanted, path, &mut local, &mut walk)?;
+    settle(*local.allocator(), wanted, local.as_slice(), &mut walk)?;
     if !walk.rests_unaccepted(wanted) {
         return Err(ExploreFault::Unvouched);
     }
-    Ok(())
+    Ok(walk.walk.schedule)
 }
 
-/// Goes along edges, the last step of which must lead to a state that isn't allowed.
-fn go_to_break(
-    visited: &Visited,
-    wanted: &Wanted,
-    path: &[Edge],
-    walk: &mut WatchedWalk,
-) -> Result<(), ExploreFault>
-    ensures against { OnOk result (ComesToEnd wanted.now walk.old walk.new) }
+/// The way along edges, the last step of which must lead to a state that isn't allowed.
+fn way_to_break(visited: &Visited, wanted: &Wanted, path: &[Edge]) -> Result<Schedule, ExploreFault>
+    requires visited { IsVisited visited.now }
+    ensures way { IfOk result (λ s. IsWayWithout wanted.now (start_of visited.now) s) }
 {
     let (last, before) = path.split_first().ok_or(ExploreFault::Unvouched)?;
+    let mut walk = WatchedWalk::start(visited)?;
     let mut local = visited.firsts.clone()?;
-    go_along(visited, wanted, before, &mut local, walk)?;
-    go_to_edge(visited, last, &mut local, walk)?;
+    go_along(visited, wanted, before, &mut local, &mut walk)?;
+    go_to_edge(visited, last, &mut local, &mut walk)?;
     walk.break_off(*local.allocator(), wanted, last.pid as usize)?;
-    Ok(())
+    Ok(walk.walk.schedule)
 }
 
-/// Goes along edges to a state that isn't allowed, if such a one is to come, or else to rest.
-fn go_to_end(
-    visited: &Visited,
-    wanted: &Wanted,
-    path: &[Edge],
-    breaks: bool,
-    walk: &mut WatchedWalk,
-) -> Result<(), ExploreFault>
-    ensures against { OnOk result (ComesToEnd wanted.now walk.old walk.new) }
-{
-    if breaks {
-        go_to_break(visited, wanted, path, walk)
-    } else {
-        go_to_rest(visited, wanted, path, walk)
-    }
-}
-
-/// The way along edges to a state that isn't allowed, or to rest.
+/// The way along edges to a state that isn't allowed, if such a one is to come, or else to rest.
 pub(crate) fn way_along(
     visited: &Visited,
     wanted: &Wanted,
@@ -131,7 +108,9 @@ pub(crate) fn way_along(
     requires visited { IsVisited visited.now }
     ensures way { IfOk result (λ s. IsWayWithout wanted.now (start_of visited.now) s) }
 {
-    let mut walk = WatchedWalk::start(visited)?;
-    go_to_end(visited, wanted, path, breaks, &mut walk)?;
-    Ok(walk.walk.schedule)
+    if breaks {
+        way_to_break(visited, wanted, path)
+    } else {
+        way_to_rest(visited, wanted, path)
+    }
 }

@@ -5,7 +5,7 @@ ghost use Rattle.ipc_kernel.specs.Kernel.{KernelState};
 ghost use Rattle.ipc_kernel.specs.declared.call.Answer.{Answer as Given};
 ghost use Rattle.lab_conditions.specs.Refusals.{is_process};
 ghost use Rattle.lab_ways.specs.Calls.{is_success};
-ghost use Rattle.lab_ways.specs.Wanted.{is_of_next, next_turn, next_by, next_answered, is_allowed, is_accepted};
+ghost use Rattle.lab_ways.specs.Wanted.{next_turn, next_by, next_answered, is_allowed, is_accepted};
 
 use crate::calls::{CallKind, are_called, is_called, is_of_any, is_success};
 use crate::units::{are_held, moves_units, next_units};
@@ -46,16 +46,6 @@ fn one_more(number: u32) -> Result<u32, ExploreFault>
     number.checked_add(1).ok_or(ExploreFault::NoMemory)
 }
 
-/// Whether a call is of the kind whose turn it is.
-fn is_of_next(kinds: &[CallKind], turn: u32, kernel: &Kernel, pid: usize, call: &Call) -> bool
-    requires process { pid < length kernel.now.processes }
-    ensures value { result ≡ is_of_next kinds.now turn kernel.now pid call.now }
-{
-    kinds
-        .get(turn as usize)
-        .is_some_and(|kind| kind.is_of(kernel, pid, call))
-}
-
 fn next_turn(
     kinds: &[CallKind],
     turn: u32,
@@ -69,14 +59,16 @@ fn next_turn(
     if !is_of_any(kinds, kernel, pid, call) {
         return Ok(turn);
     }
-    if is_of_next(kinds, turn, kernel, pid, call) {
+    let next = kinds
+        .get(turn as usize)
+        .is_some_and(|kind| kind.is_of(kernel, pid, call));
+    if next {
         return one_more(turn);
     }
     one_more(place_of(kinds.len())?)
 }
 
 impl Pattern {
-    /// How many states there are.
     pub(crate) fn states(&self) -> usize {
         match self {
             Pattern::AtLeast(_, count) => (*count as usize).saturating_add(1),

@@ -60,24 +60,16 @@ impl WatchedWalk {
         Ok(())
     }
 
-    /// Takes a step, which must be local.
-    fn go_local(&mut self, pid: usize) -> Result<(), ExploreFault>
-        ensures watched { OnOk result ((x : Asked) → KeepsWatched x self.old self.new) }
-    {
-        let before = self.walk.calls;
-        self.walk.go(pid)?;
-        if self.walk.calls != before {
-            return Err(ExploreFault::Unvouched);
-        }
-        Ok(())
-    }
-
     /// Takes so many local steps.
     pub fn go_on(&mut self, pid: usize, count: u32) -> Result<(), ExploreFault>
         ensures watched { OnOk result ((x : Asked) → KeepsWatched x self.old self.new) }
     {
         for _ in 0..count {
-            self.go_local(pid)?;
+            let before = self.walk.calls;
+            self.walk.go(pid)?;
+            if self.walk.calls != before {
+                return Err(ExploreFault::Unvouched);
+            }
         }
         Ok(())
     }

@@ -1,10 +1,10 @@
 //! Whether what is asked of calls is so on every way.
 ghost use Rattle.std.specs.Prelude.{IfOk};
-ghost use Rattle.lab_explore.specs.Visits.{start_of, IsVisited, IsWhole};
+ghost use Rattle.lab_explore.specs.Visits.{start_of, IsWhole};
 ghost use Rattle.lab_ways.specs.Ways.{AreWays, AreAllWays};
 
 use crate::checking::{are_shown, first_against};
-use crate::marking::{Marks, mark};
+use crate::marking::mark;
 use crate::walking::way_along;
 use crate::wanted::Wanted;
 use lab_explore::{Visited, visit};
@@ -23,29 +23,8 @@ pub enum Ways {
     Unknown,
 }
 
-/// A way on which what is asked isn't so, as the marks have it, if there is one.
-fn way_against(
-    visited: &Visited,
-    alloc: Global,
-    wanted: &Wanted,
-    marks: &Marks,
-) -> Result<Ways, ExploreFault>
-    requires visited { IsVisited visited.now }
-    ensures found { IfOk result (AreWays (start_of visited.now) wanted.now) }
-{
-    let Some(place) = first_against(visited, wanted, marks) else {
-        return Ok(Ways::Unknown);
-    };
-    let Some(pair) = marks.reached.get(place) else {
-        return Ok(Ways::Unknown);
-    };
-    let path = marks.path_to(alloc, &visited.store.edges, place)?;
-    let breaks = !wanted.pattern.allows(pair.state);
-    let schedule = way_along(visited, wanted, path.as_slice(), breaks)?;
-    Ok(Ways::Without(schedule))
-}
-
-/// What a search shows of what is asked.
+/// What a search shows of what is asked: that it is so, or a way on which it isn't, as the marks have it,
+/// if there is one.
 fn ways_of(visited: &Visited, alloc: Global, wanted: &Wanted) -> Result<Ways, ExploreFault>
     requires whole { IsWhole visited.now }
     ensures found { IfOk result (AreWays (start_of visited.now) wanted.now) }
@@ -54,7 +33,16 @@ fn ways_of(visited: &Visited, alloc: Global, wanted: &Wanted) -> Result<Ways, Ex
     if are_shown(visited, wanted, &marks)? {
         return Ok(Ways::Always);
     }
-    way_against(visited, alloc, wanted, &marks)
+    let Some(place) = first_against(visited, wanted, &marks) else {
+        return Ok(Ways::Unknown);
+    };
+    let Some(pair) = marks.reached.get(place) else {
+        return Ok(Ways::Unknown);
+    };
+    let breaks = !wanted.pattern.allows(pair.state);
+    let path = marks.path_to(alloc, &visited.store.edges, place)?;
+    let schedule = way_along(visited, wanted, path.as_slice(), breaks)?;
+    Ok(Ways::Without(schedule))
 }
 
 /// What a search shows of all that is asked, in order.
