@@ -4,7 +4,7 @@ use Rattle.ipc_kernel.specs.Alike.{IsConsistent}
 use Rattle.ipc_store.proofs.CommutingCalls.{own_calls_commute, stay_named, own_alike}
 use Rattle.lab_worlds.specs.Calls.{AreAlike}
 use Rattle.lab_worlds.proofs.AlikeWorlds.{world_then, world_back, one_verdict, consistent_run}
-use Rattle.lab_sched.specs.Worlds.{Process, Running, Waiting, Ended, WorldState, run, entries}
+use Rattle.lab_sched.specs.Worlds.{Process, Waiting, WorldState, run, entries}
 use Rattle.lab_sched.specs.Schedules.{steps_of}
 use Rattle.lab_sched.specs.Verdicts.{IsVerdict, IsWaiting, HasEnded, AreStuck, is_waiting}
 use Rattle.lab_sched.specs.declared.verdict.Verdict.{Verdict}
@@ -98,9 +98,8 @@ end_pushed t i d w e xs ys is here few there =
     (length xs, e, ap (λ zs. slice_get zs (length xs)) is ∙ get_pushed xs e, subst (λ v. AreAlike v (unwaiting e.world)) (at_unique t i here.0 w here.1 there) here.2, few)
 
 waits_on : (s : Process) → IsWaiting s → HasEnded s → ⊥
-waits_on (Running m) waits ended = waits
 waits_on (Waiting m c) waits ended = ended
-waits_on (Ended e) waits ended = waits
+waits_on _ waits ended = waits
 
 -- the verdict of a world that is stuck
 stuck_verdict : (w : WorldState) (v : Verdict) → AreStuck w → IsVerdict w v → v ≡ verdict.Stuck

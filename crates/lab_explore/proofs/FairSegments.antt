@@ -6,7 +6,7 @@ use Rattle.std.proofs.lemmas.Bool.{cases_lt}
 use Rattle.std.proofs.Math.Nat.{mul-le-mul_left}
 use Rattle.std.proofs.lemmas.List.{length-set}
 use Rattle.std.proofs.lemmas.List.Sums.{count_by-le-length}
-use Rattle.lab_sched.specs.Worlds.{Process, Running, Waiting, Ended, WorldState, step_effect, step_effect_in, first_try, step, run, IsEffective}
+use Rattle.lab_sched.specs.Worlds.{Process, Running, WorldState, step_effect, step_effect_in, first_try, step, run, IsEffective}
 use Rattle.lab_sched.specs.Execution.{AreEffective, count}
 use Rattle.lab_sched.specs.LocalRun.{AreLocal}
 use Rattle.lab_sched.specs.Verdicts.{is_running}
@@ -19,7 +19,7 @@ use Rattle.lab_worlds.specs.Fairness.{IsFairTo, IsFairSegment, AreFairSegments, 
 use Rattle.lab_search.specs.Stored.{IsSearched}
 use Rattle.lab_states.specs.Falling.{rank_of, starved_of, IsFalling}
 use Rattle.lab_explore.specs.Private.Ranked.{AreRanked, HaveRanks}
-use Rattle.lab_worlds.proofs.Pushes.{all_at}
+use Rattle.lab_worlds.proofs.Pushes.{all_at, at_or_other}
 use Rattle.lab_search.proofs.StepCounts.{part_most, total_most, count_yes, count_no, count_first, contained_counts}
 use Rattle.lab_worlds.proofs.AfterLocalSteps.{same_some}
 use Rattle.lab_worlds.proofs.AlikeWorlds.{effect_alike}
@@ -52,13 +52,9 @@ module _ (t : Store) (start : WorldState) (ranks : List ℕ) (starved_processes 
   Goes x s u p = GoesNearer s u p ⊎ GoesAlong t s u p ⊎ Begins x s u p
 
   few_set : (ks : List ℕ) (p j : ℕ) → p < length ks → j ≤ b → ((q k : ℕ) → slice_get ks q ≡ Some k → k ≤ b) → (q k : ℕ) → slice_get (set ks p j) q ≡ Some k → k ≤ b
-  few_set ks p j within small few q k e = elim (eqb_tells p q) [
-    | inl same ↦
-        let is : Some j ≡ Some k = sym (get-set_same ks p j within) ∙ ap (λ i. slice_get (set ks p j) i) same.1 ∙ e in
-        let one : j ≡ k = cc in
-        subst (λ i. i ≤ b) one small
-    | inr other ↦ few q k (sym (get-set_other ks p q j other.1) ∙ e)
-  ]
+  few_set ks p j within small few q = at_or_other (λ i. (k : ℕ) → slice_get (set ks p j) i ≡ Some k → k ≤ b) p q
+      (λ k e. subst (λ i. i ≤ b) (same_some j k (slice_get (set ks p j) p) (get-set_same ks p j within) e) small)
+      (λ other k e. few q k (sym (get-set_other ks p q j other) ∙ e))
 
   -- after an effective step
   moved : (x : WorldState) (p : ℕ) (s : Place) → IsIn x s → IsEffective (step_effect_in x p) → (u : Place) × IsIn (step x p) u × Goes x s u p
@@ -131,13 +127,8 @@ module _ (t : Store) (start : WorldState) (ranks : List ℕ) (starved_processes 
 
       by : (a : Option ℕ) (c d : Option Process) → slice_get s.taken p ≡ a → slice_get (unwaiting x).processes p ≡ c → slice_get v.processes p ≡ d → TakesAt a c d → IsStarvedAt x s p
       by None None None e f g h = absurd (subst (λ o. GoesOn (step_effect x.kernel p o)) g goes)
-      by None None (Some u) e f g h = absurd h
-      by None (Some c) None e f g h = absurd h
-      by None (Some c) (Some u) e f g h = absurd h
-      by (Some k) None None e f g h = absurd h
-      by (Some k) None (Some u) e f g h = absurd h
-      by (Some k) (Some c) None e f g h = absurd h
       by (Some k) (Some c) (Some u) e f g h = (k, c, u, e, f, h.0, subst (λ o. GoesOn (step_effect x.kernel p o)) g goes)
+      by _ _ _ e f g h = absurd h
 
   -- so it goes on
   starved_goes : (x : WorldState) (s : Place) (p : ℕ) → IsIn x s → starved_of starved_processes (rank s) ≡ Some p → GoesOn (step_effect_in x p)
@@ -152,8 +143,7 @@ module _ (t : Store) (start : WorldState) (ranks : List ℕ) (starved_processes 
       by : (k : ℕ) (c : Process) → AreLocal k c at.2 → GoesOn (step_effect x.kernel p (Some c))
       by zero c h = subst (λ y. GoesOn (step_effect x.kernel p (Some y))) (sym h) at.6
       by (suc k) (Running m) h = let first = first_local k m at.2 h in subst GoesOn (sym (ap (first_try x.kernel p m) first.1)) tt
-      by (suc k) (Waiting m c) h = absurd h.1
-      by (suc k) (Ended e) h = absurd h.1
+      by (suc k) _ h = absurd h.1
 
   -- along steps that keep the rank its process always goes on, and so many of its steps are local
   abbrev IsKeptAlong : WorldState → Place → List ℕ → Place → ℕ → Type 0

@@ -26,24 +26,21 @@ so_back : (x : State) (k : KernelState) (p : ℕ) (s : Process) → AsksAgain s 
 so_back x k p (Running m) asks = refl
 so_back x k p (Ended e) asks = refl
 so_back state.Blocked k p (Waiting m c) asks = ap (λ a. option_any (must_wait k p) (call_next a)) asks
-so_back state.Ended k p (Waiting m c) asks = refl
-so_back state.Crashed k p (Waiting m c) asks = refl
 so_back (state.At first last) k p (Waiting m c) asks = ap (λ a. is_some (call_next a) && nat_le first m.pc && nat_le m.pc last) asks
+so_back _ k p (Waiting m c) asks = refl
 
 -- a process of which anything is so stands at a call
 running_calls : (x : State) (k : KernelState) (p : ℕ) (m : Machine) (a : NextAction) → next_action m ≡ a → is_so x k p (Running m) ≡ true → IsAtCall (Running m)
 running_calls x k p m (calls c) e so = (c, e)
 running_calls state.Blocked k p m (moves q) e so =
     let none : false ≡ true = sym (ap (λ b. option_any (must_wait k p) (call_next b)) e) ∙ so in absurd (cc)
-running_calls state.Ended k p m (moves q) e so = let none : false ≡ true = so in absurd (cc)
-running_calls state.Crashed k p m (moves q) e so = let none : false ≡ true = so in absurd (cc)
 running_calls (state.At first last) k p m (moves q) e so =
     let none : false ≡ true = sym (ap (λ b. is_some (call_next b) && nat_le first m.pc && nat_le m.pc last) e) ∙ so in absurd (cc)
+running_calls _ k p m (moves q) e so = let none : false ≡ true = so in absurd (cc)
 
 so_at_call : (x : State) (k : KernelState) (p : ℕ) (s : Process) → is_so x k p s ≡ true → IsAtCall s
 so_at_call x k p (Running m) so = running_calls x k p m (next_action m) refl so
-so_at_call x k p (Waiting m c) so = tt
-so_at_call x k p (Ended e) so = tt
+so_at_call x k p _ so = tt
 
 -- so it stands so in the world of the row that is met, too
 carries_on : (t : Store) (w : WorldState) (m : IsMet t w) → Carries w m.world

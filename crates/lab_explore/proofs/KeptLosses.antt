@@ -1,11 +1,7 @@
 -- What loses a message after any steps loses one along an edge.
-use Rattle.std.proofs.Common.{ℕ, ◌≡◌, ◌<◌, Some, refl, sym, ap, subst, ◌∙◌, slice_get, inl, inr, arith}
-use Rattle.lc3_machine.specs.Process.{Process as Machine}
-use Rattle.ipc_kernel.specs.declared.call.Call.{Call}
-use Rattle.ipc_kernel.specs.declared.call.Answer.{Answer}
-use Rattle.ipc_kernel.specs.declared.call.Answer.TheVariants.{Done, Wait}
-use Rattle.ipc_kernel.specs.Answer.{answer, is_receive}
-use Rattle.lab_sched.specs.Worlds.{Process, Running, Waiting, Ended, WorldState, NextAction, moves, calls, next_action, StepEffect, nothing, step_effect_in, first_try, retry, kernel_after, step, run}
+use Rattle.std.proofs.Common.{ℕ, ◌≡◌, ◌<◌, Some, sym, ap, subst, ◌∙◌, slice_get, inl, inr, arith}
+use Rattle.ipc_kernel.specs.Answer.{is_receive}
+use Rattle.lab_sched.specs.Worlds.{Process, Running, Waiting, WorldState, StepEffect, nothing, step_effect_in, kernel_after, step, run}
 use Rattle.lab_conditions.specs.Conditions.{option_any, call_next}
 use Rattle.lab_conditions.specs.declared.never.Never.TheVariants as never
 use Rattle.lab_conditions.specs.Losses.{messages, is_receiving, receives, Loses}
@@ -16,7 +12,8 @@ use Rattle.lab_worlds.specs.Reached.{NeverBreaks}
 use Rattle.lab_search.specs.Stored.{IsAt, IsSearched}
 use Rattle.lab_explore.specs.Private.Judged.{IsLoss, NoEdgeLoses}
 use Rattle.lab_worlds.proofs.Pushes.{all_at}
-use Rattle.lab_worlds.proofs.UnwaitingWorlds.{effect_at, tells, still_unwaiting}
+use Rattle.lab_worlds.proofs.AfterLocalSteps.{same_some}
+use Rattle.lab_worlds.proofs.UnwaitingWorlds.{tells, still_unwaiting, StepOf, step_of, still, by_itself, by_call, by_answer}
 use Rattle.lab_search.proofs.FirstWorlds.{reached_advance}
 use Rattle.lab_explore.proofs.MetWorlds.{IsStart, edge_from, met, call_met}
 
@@ -38,20 +35,17 @@ loss_goes w p h = elim (tells (step_effect_in w p)) [
 ]
 
 -- a process whose step receives no message isn't about to receive one
-retry_receives : (m : Machine) (c : Call) (a : Answer) → GoesOn (retry m c a) → receives (retry m c a) ≡ is_receive c
-retry_receives m c Wait h = absurd h
-retry_receives m c (Done r) h = refl
-
-running_receives : (w : WorldState) (p : ℕ) (m : Machine) (a : NextAction) → receives (first_try w.kernel p m a) ≡ option_any is_receive (call_next a)
-running_receives w p m (moves q) = refl
-running_receives w p m (calls c) = refl
-
 receives_here : (w : WorldState) (p : ℕ) (s : Process) → slice_get w.processes p ≡ Some s → GoesOn (step_effect_in w p) → receives (step_effect_in w p) ≡ is_receiving s
-receives_here w p (Running m) at goes = ap receives (effect_at w p (Some (Running m)) at) ∙ running_receives w p m (next_action m)
-receives_here w p (Waiting m c) at goes =
-    let is = effect_at w p (Some (Waiting m c)) at in
-    ap receives is ∙ retry_receives m c (answer w.kernel p c).0 (subst GoesOn is goes)
-receives_here w p (Ended e) at goes = ap receives (effect_at w p (Some (Ended e)) at)
+receives_here w p s at goes = by (step_of w p)
+  where
+    there : (u : Process) → slice_get w.processes p ≡ Some u → is_receiving u ≡ is_receiving s
+    there u now = ap is_receiving (same_some u s (slice_get w.processes p) now at)
+
+    by : StepOf w p → receives (step_effect_in w p) ≡ is_receiving s
+    by (still e) = absurd (subst GoesOn e goes)
+    by (by_itself m q now acts e) = ap receives e ∙ sym (ap (λ a. option_any is_receive (call_next a)) acts) ∙ there (Running m) now
+    by (by_call m c a now asks told e) = ap receives e ∙ sym (ap (λ a. option_any is_receive (call_next a)) asks) ∙ there (Running m) now
+    by (by_answer m c r now told e) = ap receives e ∙ there (Waiting m c) now
 
 -- where no edge of a whole search loses a message, no step does
 pub never_loses : (start : WorldState) (t : Store) → IsStart start → IsSearched start t → NoEdgeLoses t → NeverBreaks start never.Lost

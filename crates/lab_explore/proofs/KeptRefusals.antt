@@ -1,15 +1,11 @@
 -- A call that is refused after any steps is refused from the start on, or from the world of a row on.
-use Rattle.std.proofs.Common.{ℕ, ◌≡◌, true, false, IsTrue, List, [], ◌∷◌, Some, refl, sym, ap, subst, ◌∙◌, slice_get, inl, inr}
-use Rattle.std.proofs.lemmas.Bool.Decides.{eqb_tells}
+use Rattle.std.proofs.Common.{ℕ, ◌≡◌, true, false, IsTrue, List, [], ◌∷◌, Some, refl, sym, ap, subst, ◌∙◌, slice_get}
 use Rattle.lc3_machine.specs.Process.{Process as Machine}
 use Rattle.ipc_kernel.specs.declared.call.Call.{Call}
 use Rattle.ipc_kernel.specs.declared.call.Reply.{Reply}
-use Rattle.ipc_kernel.specs.declared.call.Answer.{Answer}
 use Rattle.ipc_kernel.specs.declared.call.Answer.TheVariants.{Done, Wait}
 use Rattle.lab_sched.specs.declared.stepped.Stepped.TheVariants as stepped
-use Rattle.lab_sched.specs.Worlds.{Process, Running, Waiting, Ended, WorldState, NextAction, moves, calls, next_action, StepEffect, nothing, local_step, kernel_step, step_effect, step_effect_in, first_try, retry, process_made, processes_with, process_after, process_after_answer, step, run, IsEffective}
-use Rattle.ipc_kernel.specs.Answer.{answer}
-use Rattle.ipc_kernel.specs.Kernel.{KernelState}
+use Rattle.lab_sched.specs.Worlds.{Process, Running, Waiting, WorldState, StepEffect, nothing, local_step, kernel_step, step_effect, step_effect_in, process_made, processes_with, process_after, process_after_answer, step, run, IsEffective}
 use Rattle.lab_sched.specs.Held.{asked_by, local_told, stepped_of}
 use Rattle.lab_sched.specs.LocalRun.{IsLocalStep}
 use Rattle.lab_sched.proofs.ListPlaces.{get-set_same, get_past}
@@ -21,8 +17,9 @@ use Rattle.lab_search.specs.declared.store.Store.{Store}
 use Rattle.lab_search.specs.Stored.{IsSearched}
 use Rattle.lab_worlds.specs.Unwaiting.{GoesOn}
 use Rattle.lab_worlds.specs.Reached.{NeverBreaks}
+use Rattle.lab_worlds.proofs.Pushes.{at_or_other}
 use Rattle.lab_worlds.proofs.AfterLocalSteps.{same_some}
-use Rattle.lab_worlds.proofs.UnwaitingWorlds.{effect_at}
+use Rattle.lab_worlds.proofs.UnwaitingWorlds.{effect_at, StepOf, step_of, still, by_itself, by_call, by_answer}
 use Rattle.lab_explore.specs.Private.Judged.{IsQuiet, IsCalmAt, BeginsQuietly, NoneRefuses}
 use Rattle.lab_explore.proofs.MetWorlds.{IsStart, IsMet, met, stepper, call_met}
 use Rattle.lab_explore.proofs.QuietSteps.{quiet_still, quiet_on}
@@ -47,26 +44,17 @@ answered r t w p m c a met calm meant is =
     )
 
 -- a process whose step is local
-local_of : (k : KernelState) (p : ℕ) (s : Process) (n : Machine) → step_effect k p (Some s) ≡ local_step n → IsLocalStep s (Running n)
-local_of k p (Running m) n is = running (next_action m) refl
-  where
-    running : (a : NextAction) → next_action m ≡ a → IsLocalStep (Running m) (Running n)
-    running (moves q) acts =
-        let moved : local_step q ≡ local_step n = sym (ap (first_try k p m) acts) ∙ is in
-        let same : q ≡ n = cc in
-        (q, acts, ap Running (sym same))
-    running (calls c) acts = let no : kernel_step m c (answer k p c).0 ≡ local_step n = sym (ap (first_try k p m) acts) ∙ is in absurd (cc)
-local_of k p (Waiting m c) n is = again (answer k p c).0 is
-  where
-    again : (a : Answer) → retry m c a ≡ local_step n → ⊥
-    again Wait same = absurd (cc)
-    again (Done r) same = absurd (cc)
-local_of k p (Ended e) n is = absurd (cc)
-
 stepper_local : (w : WorldState) (p : ℕ) (n : Machine) → step_effect_in w p ≡ local_step n → (s : Process) × (slice_get w.processes p ≡ Some s) × IsLocalStep s (Running n)
-stepper_local w p n is =
-    let s = stepper w p (subst IsEffective (sym is) tt) in
-    (s.0, s.1, local_of w.kernel p s.0 n (sym (effect_at w p (Some s.0) s.1) ∙ is))
+stepper_local w p n is = by (step_of w p)
+  where
+    by : StepOf w p → (s : Process) × (slice_get w.processes p ≡ Some s) × IsLocalStep s (Running n)
+    by (by_itself m q at acts e) =
+        let moved : local_step q ≡ local_step n = sym e ∙ is in
+        let same : n ≡ q = cc in
+        (Running m, at, (q, acts, ap Running same))
+    by (still e) = let no : nothing ≡ local_step n = sym e ∙ is in absurd (cc)
+    by (by_call m c a at asks told e) = let no : kernel_step m c a ≡ local_step n = sym e ∙ is in absurd (cc)
+    by (by_answer m c r at told e) = let no : kernel_step m c (Done r) ≡ local_step n = sym e ∙ is in absurd (cc)
 
 -- one that begins to wait
 quiet_waiting : (r : Refusal) (m : Machine) (c : Call) → IsQuiet r (process_after_answer m c Wait)
@@ -94,10 +82,8 @@ stepped_quiet r t w p met calm quiet meant s at = by (step_effect_in w p) refl
 
 -- all processes are
 quiet_after : (r : Refusal) (t : Store) (w : WorldState) (p : ℕ) → IsMet t w → AreCalm r t → AreQuiet r w → AreQuiet r (step w p)
-quiet_after r t w p met calm quiet q meant s at = elim (eqb_tells p q) [
-  | inl same ↦ subst (BeginsQuietly r (step w p)) same.1 (stepped_quiet r t w p met calm quiet) meant s at
-  | inr other ↦ quiet q meant s (sym (after_other w q p (step_effect_in w p) other.1) ∙ at)
-]
+quiet_after r t w p met calm quiet q =
+    at_or_other (BeginsQuietly r (step w p)) p q (stepped_quiet r t w p met calm quiet) (λ other meant s at. quiet q meant s (sym (after_other w q p (step_effect_in w p) other) ∙ at))
 
 quiet_run : (r : Refusal) (t : Store) → AreCalm r t → (w : WorldState) → ((ps : List ℕ) → IsMet t (run w ps)) → AreQuiet r w → (ps : List ℕ) → AreQuiet r (run w ps)
 unfolding run

@@ -1,25 +1,26 @@
 -- Worlds to which steps lead from the start, and the rows of a whole search that stand for their advances.
-use Rattle.std.proofs.Common.{ℕ, ◌≡◌, true, List, Option, Some, None, refl, sym, subst, ◌∙◌, slice_get, length, inl, inr}
+use Rattle.std.proofs.Common.{ℕ, ◌≡◌, true, List, [], Option, Some, None, arith, refl, sym, subst, ◌∙◌, slice_get, length, inl, inr}
 use Rattle.lc3_machine.specs.Process.{Process as Machine}
-use Rattle.ipc_kernel.specs.declared.call.Answer.TheVariants.{Done, Wait}
+use Rattle.ipc_kernel.specs.declared.call.Answer.TheVariants.{Done}
 use Rattle.ipc_kernel.specs.Alike.{IsAlike, IsConsistent}
 use Rattle.ipc_kernel.specs.Kernel.{empty_kernel}
 use Rattle.ipc_kernel.specs.Operands.{are_named}
 use Rattle.lab_sched.specs.declared.process.Process.{Process as Kept}
-use Rattle.lab_sched.specs.Worlds.{Process, WorldState, StepEffect, nothing, local_step, kernel_step, step_effect_in, kernel_after, step, run, IsEffective}
+use Rattle.lab_sched.specs.Worlds.{Process, WorldState, StepEffect, local_step, kernel_step, step_effect_in, kernel_after, step, run, IsEffective}
 use Rattle.lab_sched.specs.Starts.{AreStarts, initial_world}
 use Rattle.lab_sched.proofs.ListPlaces.{get_past}
 use Rattle.lab_states.specs.Rows.{Row}
 use Rattle.lab_search.specs.declared.store.Store.{Store}
 use Rattle.lab_search.specs.Stored.{IsState, IsRow, IsAt, HasEdge, AreExpanded, IsSearched}
-use Rattle.lab_search.proofs.FirstWorlds.{at_unique, reached_advance}
+use Rattle.lab_states.specs.declared.edges.Edge.{Edge}
+use Rattle.lab_states.specs.Depths.{AreDepths}
+use Rattle.lab_search.proofs.FirstWorlds.{at_unique, AreAtDepth, all_levels}
 use Rattle.lab_worlds.specs.Calls.{Both, IsAdvance}
-use Rattle.lab_worlds.specs.Closed.{HasAdvance}
 use Rattle.lab_worlds.specs.Unwaiting.{GoesOn, unwaiting, AskAgain}
 use Rattle.lab_worlds.proofs.AfterLocalSteps.{same_some}
 use Rattle.lab_worlds.proofs.AlikeWorlds.{consistent_run}
 use Rattle.lab_worlds.proofs.Beginnings.{starts_unwaiting, starts_ask, fresh_consistent, fresh_named}
-use Rattle.lab_worlds.proofs.HeldAdvances.{AreLevels, stays_or_steps, asks_run, reaches_world}
+use Rattle.lab_worlds.proofs.HeldAdvances.{stays_or_steps, asks_run, reaches_world}
 use Rattle.lab_worlds.proofs.UnwaitingWorlds.{effect_at, same_step}
 
 -- a laboratory before its first step
@@ -52,17 +53,9 @@ edge_from t i p w expanded here goes =
     let is : w ≡ done.0 = at_unique t i w done.0 here done.1 in
     subst (λ v. HasEdge t i v p) (sym is) (done.2 p (subst (λ v. GoesOn (step_effect_in v p)) is goes))
 
--- the rows, as levels of worlds
-abbrev IsSomeRow : Store → ℕ → WorldState → Type 0
-IsSomeRow t n v = (i : ℕ) × IsAt t i v
-
-row_levels : (t : Store) (start : WorldState) → IsStart start → IsSearched start t → AreLevels start (IsSomeRow t)
-row_levels t start is searched = record {
-  begins = let first = searched.begins in subst (HasAdvance (IsSomeRow t 0)) (sym is.same) (first.0, (0, first.1), first.2);
-  goes_on = λ n v p held goes.
-      let edge = edge_from t held.0 p v searched.expanded held.1 goes in
-      (edge.2, (edge.1.to, edge.5), reached_advance (step v p) edge.2 edge.6);
-}
+-- the rows have no depth where none is told
+no_depths : (es : List Edge) → AreDepths [] es
+no_depths es = record { first = refl; near = λ k d below. omega arith }
 
 -- a world whose advance is that of a row
 pub record IsMet (t : Store) (w : WorldState) : Type 0 where
@@ -75,15 +68,14 @@ pub record IsMet (t : Store) (w : WorldState) : Type 0 where
 
 pub met : (t : Store) (start : WorldState) → IsStart start → IsSearched start t → (ps : List ℕ) → IsMet t (run start ps)
 met t start is searched ps =
-    let held = reaches_world start (IsSomeRow t) is.consistent is.asks (row_levels t start is searched) ps in
+    let held = reaches_world start (AreAtDepth t []) is.consistent is.asks (all_levels t start [] is.same searched (no_depths t.edges)) ps in
     record { consistent = consistent_run ps start is.consistent; asks = asks_run ps start is.asks; row = held.1.1.0; world = held.1.0; there = held.1.1.1; advance = held.1.2 }
 
 -- a step that goes on is effective
 pub goes_effective : (t : StepEffect) → GoesOn t → IsEffective t
-goes_effective nothing h = h
 goes_effective (local_step n) h = tt
 goes_effective (kernel_step m c (Done r)) h = tt
-goes_effective (kernel_step m c Wait) h = absurd h
+goes_effective _ h = absurd h
 
 -- a process that has an effective step
 pub stepper : (w : WorldState) (p : ℕ) → IsEffective (step_effect_in w p) → (s : Process) × (slice_get w.processes p ≡ Some s)

@@ -4,7 +4,7 @@ use Rattle.lc3_machine.specs.Process.{Process as Machine}
 use Rattle.ipc_kernel.specs.Kernel.{KernelState}
 use Rattle.ipc_traps.specs.Asked.{Request}
 use Rattle.lab_sched.specs.declared.stepped.Stepped.{Stepped}
-use Rattle.lab_sched.specs.Worlds.{Process, Running, Waiting, Ended, local_step, step_effect, first_try}
+use Rattle.lab_sched.specs.Worlds.{Process, Running, local_step, step_effect, first_try}
 use Rattle.lab_sched.specs.Held.{asked_by, local_told, StepResult, step_result, HasStepped}
 use Rattle.lab_sched.specs.LocalRun.{IsLocalStep, AreLocal}
 use Rattle.lab_conditions.specs.declared.refusals.Refusal.{Refusal}
@@ -23,8 +23,7 @@ quiet_on r s v first quiet n u w h goes = quiet (suc n) u w (v, first, h) goes
 -- the effect of a local step
 local_effect : (k : KernelState) (p : ℕ) (s v : Process) → IsLocalStep s v → (n : Machine) × (step_effect k p (Some s) ≡ local_step n) × (v ≡ Running n)
 local_effect k p (Running m) v goes = (goes.0, ap (first_try k p m) goes.1, goes.2)
-local_effect k p (Waiting m c) v goes = absurd goes
-local_effect k p (Ended e) v goes = absurd goes
+local_effect k p _ v goes = absurd goes
 
 -- what is told of it
 said : (k j : KernelState) (p : ℕ) (s u v : Process) (told : Stepped) → HasStepped k p s j u told → IsLocalStep s v → (u ≡ v) × (told ≡ local_told (asked_by (Some s)))

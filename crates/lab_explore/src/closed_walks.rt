@@ -3,7 +3,8 @@
 use crate::visited::Visited;
 use lab_states::{Edge, Edges, Sets, going_from, only, shortest_path};
 use lab_worlds::{ClosedWalk, ExploreFault, WalkPart};
-use std::alloc::{AllocError, Global};
+use std::alloc::Global;
+use std::mem::replace;
 
 /// What is looked for on a way.
 #[derive(Clone, Copy)]
@@ -25,14 +26,6 @@ fn is_there(edges: &Edges, row: usize, goal: Goal) -> bool {
     }
 }
 
-/// Whether an edge is what is looked for, or leads to it.
-fn leads_there(edges: &Edges, edge: Edge, goal: Goal) -> bool {
-    match goal {
-        Goal::Step(pid) => edge.pid as u32 == pid,
-        _ => is_there(edges, edge.to as usize, goal),
-    }
-}
-
 /// A way inside a set, and the row to which it leads.
 #[derive(Drop)]
 struct Way<'a> {
@@ -45,17 +38,6 @@ struct Way<'a> {
 }
 
 impl<'a> Way<'a> {
-    /// The way that stays at a row.
-    fn at(alloc: Global, sets: &'a Sets, visited: &'a Visited, row: usize) -> Way<'a> {
-        Way {
-            sets,
-            visited,
-            row,
-            walk_parts: Vec::new(alloc),
-            moved: 0,
-        }
-    }
-
     /// Goes along edges, the last of which comes first.
     fn go(&mut self, path: &[Edge]) -> Result<(), ExploreFault> {
         for edge in path.iter().rev() {
@@ -78,7 +60,10 @@ impl<'a> Way<'a> {
         let alloc = *self.walk_parts.allocator();
         let set = sets.set_of(self.row);
         let path = shortest_path(alloc, edges, sets.of_rows.len(), self.row, |edge| {
-            (sets.set_of(edge.to as usize) == set).then(|| leads_there(edges, edge, goal))
+            (sets.set_of(edge.to as usize) == set).then(|| match goal {
+                Goal::Step(pid) => edge.pid as u32 == pid,
+                _ => is_there(edges, edge.to as usize, goal),
+            })
         })?;
         let Some(path) = path else {
             return Ok(false);
@@ -115,25 +100,30 @@ impl<'a> Way<'a> {
 }
 
 /// A closed walk from a row through its set that treats each of so many processes fairly, if the set does.
-pub(crate) fn closed_walk(
-    sets: &Sets,
+pub(crate) fn closed_walk<'a>(
+    sets: &'a Sets,
     alloc: Global,
-    visited: &Visited,
+    visited: &'a Visited,
     at: usize,
     count: u32,
 ) -> Result<Option<ClosedWalk>, ExploreFault> {
-    let mut way = Way::at(alloc, sets, visited, at);
+    let mut way = Way {
+        sets,
+        visited,
+        row: at,
+        walk_parts: Vec::new(alloc),
+        moved: 0,
+    };
     if !way.go_to_rests(count)? {
         return Ok(None);
     }
-    let mut more = Way::at(alloc, sets, visited, way.row);
-    more.moved = way.moved;
-    if !more.go_to_steps(count)? || !more.go_on(Goal::Row(at))? {
+    let first = replace(&mut way.walk_parts, Vec::new(alloc));
+    if !way.go_to_steps(count)? || !way.go_on(Goal::Row(at))? {
         return Ok(None);
     }
     Ok(Some(ClosedWalk {
         at,
-        first: way.walk_parts,
-        second: more.walk_parts,
+        first,
+        second: way.walk_parts,
     }))
 }

@@ -5,10 +5,12 @@ ghost use Rattle.lab_states.specs.Depths.{AreDepths};
 use lab_search::Store;
 use lab_states::{are_near, depth_of};
 use lab_worlds::ExploreFault;
-use std::alloc::{AllocError, Global};
+use std::alloc::Global;
 
-/// For each row the number of calls on the way to it.
-fn count_calls(store: &Store, alloc: Global) -> Result<Vec<u32>, AllocError> {
+/// The depth of each row, the number of calls on the way to it: no fewer lead there.
+pub fn depths_of(store: &Store, alloc: Global) -> Result<Vec<u32>, ExploreFault>
+    ensures depths { IfOk result (λ depths. AreDepths depths.items store.now.edges) }
+{
     let parents = store.parents.rows();
     let mut depths = Vec::with_capacity(alloc, parents.len())?;
     depths.push(0)?;
@@ -16,14 +18,6 @@ fn count_calls(store: &Store, alloc: Global) -> Result<Vec<u32>, AllocError> {
         let before = depth_of(depths.as_slice(), *parent as usize);
         depths.push(before.saturating_add(1))?;
     }
-    Ok(depths)
-}
-
-/// The depth of each row: no fewer calls lead there.
-pub fn depths_of(store: &Store, alloc: Global) -> Result<Vec<u32>, ExploreFault>
-    ensures depths { IfOk result (λ depths. AreDepths depths.items store.now.edges) }
-{
-    let depths = count_calls(store, alloc)?;
     let found = depths.as_slice();
     if depth_of(found, 0) != 0 || !are_near(found, &store.edges) {
         return Err(ExploreFault::Unvouched);

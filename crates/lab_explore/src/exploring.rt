@@ -5,10 +5,8 @@ ghost use Rattle.lab_worlds.specs.Ends.{AreEnds, HaveAllEnds, HaveFewestCalls, N
 ghost use Rattle.lab_worlds.specs.Reached.{AreReached, AreKept};
 ghost use Rattle.lab_worlds.specs.Lassos.{IsLasso, CanBeRepeated, AreEndless, AreBounded};
 ghost use Rattle.lab_worlds.specs.Fairness.{IsFairLasso, AreFairlyEndless, AreFairlyBounded};
-ghost use Rattle.lab_states.specs.Rising.{AreRising};
 ghost use Rattle.lab_explore.specs.Visits.{start_of, IsVisited, IsWhole};
 ghost use Rattle.lab_explore.specs.Private.Explored.{IsExplored};
-ghost use Rattle.lab_explore.specs.Private.Ranked.{HaveRanks};
 
 use crate::ends::Collected;
 use crate::fair::Lassos;
@@ -19,14 +17,6 @@ use lab_search::both;
 use lab_worlds::{Exploration, ExploreFault, Limits, Observer, Workers, discard};
 use std::alloc::Global;
 use std::thread::Threads;
-
-/// Whether a search may leave out worlds that no end needs: where nothing is asked of each world.
-fn may_be_reduced(nevers: &[Never], fair: bool) -> bool
-    ensures asked { 0 < length nevers.now → result ≡ false }
-    ensures fair { IsTrue fair → result ≡ false }
-{
-    nevers.is_empty() && !fair
-}
 
 /// Visits every world at calls that a laboratory can come to, as far as the limits and the memory
 /// allow, those with fewer calls first; where nothing is asked that another world could show, no
@@ -78,7 +68,8 @@ pub fn explore<O: Observer, R: Threads + Sync>(
     ensures fairly_bounded { IfOk result (λ found. IsTrue fair → IsTrue found.complete
         → found.lasso ≡ None → AreFairlyBounded fresh) }
 {
-    let reduced = may_be_reduced(nevers, fair);
+    // worlds that no end needs may be left out where nothing is asked of each world
+    let reduced = both(nevers.is_empty(), !fair);
     let visited = visit(alloc, fresh, limits, observer, reduced)?;
     // for ends there is what is left, and where that is little a sixteenth of the limit beyond it
     let left = limits.memory.saturating_sub(visited.store.size());
@@ -89,25 +80,6 @@ pub fn explore<O: Observer, R: Threads + Sync>(
 }
 
 impl Visited {
-    /// A lasso among the worlds that were visited, if there is one; one that is fair, if that is asked.
-    fn lassos(&self, alloc: Global, fair: bool) -> Result<Lassos, ExploreFault>
-        requires visited { IsVisited self.now }
-        ensures lasso { IfOk result (λ found.
-            IfSome found.lasso (λ r. IsLasso (start_of self.now) r)) }
-        ensures none { IfOk result (λ found.
-            fair ≡ false → found.lasso ≡ None → AreRising self.now.store.edges) }
-        ensures fair_lasso { IfOk result (λ found. IsTrue fair
-            → IfSome found.lasso (λ r. IsFairLasso (start_of self.now) r)) }
-        ensures no_fair_lasso { IfOk result (λ found. IsTrue fair → IsTrue found.shown
-            → found.lasso ≡ None → HaveRanks self.now.store) }
-    {
-        if fair {
-            return self.fair_lassos(alloc);
-        }
-        let lasso = self.lasso(alloc)?;
-        Ok(Lassos { lasso, shown: true })
-    }
-
     /// What was found, with the ends, as long as they take about so many bytes, steps to what must
     /// never be so, and a lasso, if there is one.
     fn report<R: Threads + Sync>(

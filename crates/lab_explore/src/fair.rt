@@ -1,10 +1,12 @@
 //! Fair lassos, and what shows that there is none.
-ghost use Rattle.std.specs.Prelude.{◌≡◌, None, IsTrue, IfOk, IfSome};
+ghost use Rattle.std.specs.Prelude.{◌≡◌, None, false, IsTrue, IfOk, IfSome};
 ghost use Rattle.lab_sched.specs.Worlds.{run};
 ghost use Rattle.lab_sched.specs.Schedules.{steps_of};
 ghost use Rattle.lab_worlds.specs.Calls.{AreAlike};
 ghost use Rattle.lab_worlds.specs.Fairness.{IsFairSegment, IsFairLasso};
+ghost use Rattle.lab_worlds.specs.Lassos.{IsLasso};
 ghost use Rattle.lab_worlds.specs.Walked.{IsWalk};
+ghost use Rattle.lab_states.specs.Rising.{AreRising};
 ghost use Rattle.lab_explore.specs.Visits.{start_of, IsVisited};
 ghost use Rattle.lab_explore.specs.Private.Ranked.{HaveRanks};
 
@@ -90,33 +92,36 @@ impl Visited {
         }
     }
 
-    /// Whether the ranks by sets show that there is no fair lasso.
-    fn shows_none(&self, alloc: Global, sets: &Sets) -> Result<bool, ExploreFault>
-        requires visited { IsVisited self.now }
-        ensures ranks { IfOk result (λ shown. IsTrue shown → HaveRanks self.now.store) }
-    {
-        if !self.complete {
-            return Ok(false);
-        }
-        let starved_processes = sets.starved_processes(alloc)?;
-        Ok(self.are_ranked(sets.of_rows.as_slice(), starved_processes.as_slice()))
-    }
-
-    /// A fair lasso among the worlds that were visited, if there is one.
-    pub(crate) fn fair_lassos(&self, alloc: Global) -> Result<Lassos, ExploreFault>
+    /// A lasso among the worlds that were visited, if there is one; one that is fair, if that is asked.
+    pub(crate) fn lassos(&self, alloc: Global, fair: bool) -> Result<Lassos, ExploreFault>
         requires visited { IsVisited self.now }
         ensures lasso { IfOk result (λ found.
-            IfSome found.lasso (λ r. IsFairLasso (start_of self.now) r)) }
-        ensures none { IfOk result (λ found. IsTrue found.shown → found.lasso ≡ None
-            → HaveRanks self.now.store) }
+            IfSome found.lasso (λ r. IsLasso (start_of self.now) r)) }
+        ensures none { IfOk result (λ found.
+            fair ≡ false → found.lasso ≡ None → AreRising self.now.store.edges) }
+        ensures fair_lasso { IfOk result (λ found. IsTrue fair
+            → IfSome found.lasso (λ r. IsFairLasso (start_of self.now) r)) }
+        ensures no_fair_lasso { IfOk result (λ found. IsTrue fair → IsTrue found.shown
+            → found.lasso ≡ None → HaveRanks self.now.store) }
     {
+        if !fair {
+            let lasso = self.lasso(alloc)?;
+            return Ok(Lassos { lasso, shown: true });
+        }
         let sets = Sets::new(alloc, &self.store.edges, self.store.rows.len())?;
         if let Some(at) = sets.first_fair() {
             let lasso = self.fair_lasso(alloc, &sets, at)?;
             let shown = lasso.is_some();
             return Ok(Lassos { lasso, shown });
         }
-        let shown = self.shows_none(alloc, &sets)?;
+        if !self.complete {
+            return Ok(Lassos {
+                lasso: None,
+                shown: false,
+            });
+        }
+        let starved_processes = sets.starved_processes(alloc)?;
+        let shown = self.are_ranked(sets.of_rows.as_slice(), starved_processes.as_slice());
         Ok(Lassos { lasso: None, shown })
     }
 }

@@ -1,6 +1,6 @@
 //! Edges along which messages are lost. Each kernel and each state is looked at once.
-ghost use Rattle.std.specs.Prelude.{◌≡◌, Some, None, false, map, slice_get, IfOk};
-ghost use Rattle.lab_sched.specs.Worlds.{Process as Seen, WorldState};
+ghost use Rattle.std.specs.Prelude.{◌≡◌, None, false, map, IfOk};
+ghost use Rattle.lab_sched.specs.Worlds.{WorldState};
 ghost use Rattle.lab_sched.specs.Held.{process_view};
 ghost use Rattle.lab_conditions.specs.Losses.{messages, is_receiving};
 ghost use Rattle.lab_search.specs.Stored.{IsAt};
@@ -60,25 +60,6 @@ fn messages_at(store: &Store, counts: &[usize], at: u32) -> Result<usize, Explor
     Ok(*count)
 }
 
-/// Whether process `pid` is about to receive a message in the world of a row.
-#[tactic(auto, using(crate::proofs::LossesOfRows::received_at))]
-fn receives_at(store: &Store, receiving: &[bool], at: u32, pid: u32) -> Result<bool, ExploreFault>
-    requires receiving { receiving.now
-        ≡ map (λ s. is_receiving (process_view s)) store.now.states.processes }
-    ensures receives { IfOk result (λ receives. (w : WorldState) (s : Seen)
-        → IsAt store.now at w → slice_get w.processes pid ≡ Some s
-        → receives ≡ is_receiving s) }
-{
-    let Some((_, state)) = store.places(at as usize, pid) else {
-        return Err(ExploreFault::Unvouched);
-    };
-    let Some(receives) = receiving.get(state as usize) else {
-        return Err(ExploreFault::Unvouched);
-    };
-    Ok(*receives)
-}
-
-/// Whether the step of an edge loses a message.
 fn is_loss(
     store: &Store,
     counts: &[usize],
@@ -95,11 +76,15 @@ fn is_loss(
     if after >= before {
         return Ok(false);
     }
-    let receives = receives_at(store, receiving, edge.from, edge.pid as u32)?;
-    Ok(!receives)
+    let Some((_, state)) = store.places(edge.from as usize, edge.pid as u32) else {
+        return Err(ExploreFault::Unvouched);
+    };
+    let Some(receives) = receiving.get(state as usize) else {
+        return Err(ExploreFault::Unvouched);
+    };
+    Ok(!*receives)
 }
 
-/// The first step along an edge that loses a message.
 pub(crate) fn first_loss(store: &Store, alloc: Global) -> Result<Option<Turn>, ExploreFault>
     ensures none { IfOk result (λ first. first ≡ None → NoEdgeLoses store.now) }
 {

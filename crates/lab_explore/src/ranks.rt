@@ -2,26 +2,12 @@
 //! That they are such is checked, edge by edge and row by row.
 ghost use Rattle.std.specs.Prelude.{IsTrue};
 ghost use Rattle.lab_search.specs.Stored.{IsStore};
-ghost use Rattle.lab_explore.specs.Private.Ranked.{IsKept, AreRanked};
+ghost use Rattle.lab_explore.specs.Private.Ranked.{AreRanked};
 
 use crate::visited::Visited;
 use lab_states::{are_falling, rank_at, starved_at};
 
 impl Visited {
-    /// Whether the process of the rank of a row, if it has one, goes on from the world of the row.
-    fn is_kept(&self, ranks: &[u32], starved_processes: &[Option<u8>], at: usize) -> bool
-        requires store { IsStore self.now.store }
-        ensures yes { IsTrue result → IsKept self.now.store ranks.now starved_processes.now at }
-    {
-        let Some(pid) = starved_at(starved_processes, rank_at(ranks, at)) else {
-            return true;
-        };
-        let Some(goes) = self.store.goes_on(at, pid as u32) else {
-            return false;
-        };
-        goes
-    }
-
     /// Whether ranks are such that no edge raises them, and the process of each goes on from each row of
     /// it and has no edge between two of these.
     pub(crate) fn are_ranked(&self, ranks: &[u32], starved_processes: &[Option<u8>]) -> bool
@@ -32,7 +18,13 @@ impl Visited {
             return false;
         }
         for at in 0..self.store.rows.len() {
-            if !self.is_kept(ranks, starved_processes, at) {
+            let Some(pid) = starved_at(starved_processes, rank_at(ranks, at)) else {
+                continue;
+            };
+            let Some(goes) = self.store.goes_on(at, pid as u32) else {
+                return false;
+            };
+            if !goes {
                 return false;
             }
         }

@@ -1,15 +1,13 @@
 //! Counterexamples of safety: what must never be so and is found by a search, each with steps from the start.
 ghost use Rattle.std.specs.Prelude.{◌≡◌, ◌<◌, None, IfOk, IfSome, IsTrue, length};
 ghost use Rattle.lab_worlds.specs.Walked.{IsWalk};
-ghost use Rattle.lab_worlds.specs.Reached.{LeadsTo, LeadsToStep, Violates, IsKept, AreReached, AreKept};
-ghost use Rattle.lab_search.specs.Stored.{IsLike};
+ghost use Rattle.lab_worlds.specs.Reached.{LeadsToStep, Violates, IsKept, AreReached, AreKept};
 ghost use Rattle.lab_explore.specs.Visits.{start_of, IsVisited, IsWhole};
-ghost use Rattle.lab_explore.specs.Private.Judged.{NoRowHolds};
 
 use crate::judging::first_where;
 use crate::losses::first_loss;
 use crate::visited::Visited;
-use lab_conditions::{Condition, Never};
+use lab_conditions::Never;
 use lab_sched::Schedule;
 use lab_worlds::{ExploreFault, Walk, Workers};
 use std::alloc::Global;
@@ -24,27 +22,6 @@ pub(crate) struct Turn {
 }
 
 impl Visited {
-    /// The steps that lead from the start to the first world that was found of which a condition
-    /// holds, if there is one.
-    fn reach_condition<R: Threads + Sync>(
-        &self,
-        alloc: Global,
-        condition: &Condition,
-        workers: &Workers<'_, R>,
-    ) -> Result<Option<Schedule>, ExploreFault>
-        requires visited { IsVisited self.now }
-        ensures reached { IfOk result (λ found. IfSome found (λ s.
-            LeadsTo (start_of self.now) condition.now s)) }
-        ensures none { IfOk result (λ found. found ≡ None
-            → NoRowHolds self.now.store condition.now) }
-    {
-        let Some(at) = first_where(&self.store, alloc, condition, workers)? else {
-            return Ok(None);
-        };
-        let walk = self.walk_to(alloc, at)?;
-        Ok(Some(walk.schedule))
-    }
-
     /// The walk to a row, or the one that stays at the start.
     fn walk_to_some(&self, alloc: Global, row: Option<usize>) -> Result<Walk, ExploreFault>
         requires visited { IsVisited self.now }
@@ -93,7 +70,13 @@ impl Visited {
             → IsKept (start_of self.now) never.now) }
     {
         match never {
-            Never::Holds(condition) => self.reach_condition(alloc, condition, workers),
+            Never::Holds(condition) => {
+                let Some(at) = first_where(&self.store, alloc, condition, workers)? else {
+                    return Ok(None);
+                };
+                let walk = self.walk_to(alloc, at)?;
+                Ok(Some(walk.schedule))
+            }
             Never::Lost => {
                 let turn = first_loss(&self.store, alloc)?;
                 self.schedule_against(alloc, never, turn)

@@ -16,7 +16,6 @@ use lab_search::Store;
 use lab_worlds::ExploreFault;
 use std::alloc::Global;
 
-/// Process `pid` over the kernel in the world of a row.
 fn alone_at(store: &Store, alloc: Global, at: usize, pid: u32) -> Result<Alone, ExploreFault>
     ensures held { IfOk result (λ alone. IsHeld alone.process) }
     ensures process { IfOk result (λ alone. alone.pid < length alone.kernel.processes) }
@@ -97,23 +96,6 @@ impl Visited {
         Ok(None)
     }
 
-    /// The first refused call from the worlds of the rows on.
-    fn refusal_in_rows(
-        &self,
-        alloc: Global,
-        refusal: &Refusal,
-    ) -> Result<Option<Turn>, ExploreFault>
-        ensures calm { IfOk result (λ turn. turn ≡ None → IsTrue self.now.complete
-            → (i p : ℕ) → IsCalmAt refusal.now self.now.store i p) }
-    {
-        for at in 0..self.store.rows.len() {
-            if let Some(turn) = self.refusal_at(alloc, refusal, at)? {
-                return Ok(Some(turn));
-            }
-        }
-        Ok(None)
-    }
-
     /// The refused call of process `pid` before its first call of the kernel, if its calls are meant.
     fn first_of_process(
         &self,
@@ -150,7 +132,6 @@ impl Visited {
         Ok(None)
     }
 
-    /// The first call that is refused.
     pub(crate) fn first_refusal(
         &self,
         alloc: Global,
@@ -162,7 +143,11 @@ impl Visited {
         if let Some(first) = self.refusal_first(alloc, refusal)? {
             return Ok(Some(first));
         }
-        let turn = self.refusal_in_rows(alloc, refusal)?;
-        Ok(turn)
+        for at in 0..self.store.rows.len() {
+            if let Some(turn) = self.refusal_at(alloc, refusal, at)? {
+                return Ok(Some(turn));
+            }
+        }
+        Ok(None)
     }
 }

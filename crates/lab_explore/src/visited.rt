@@ -4,7 +4,7 @@ ghost use Rattle.lab_explore.specs.Visits.{start_of, IsVisited, IsWhole};
 
 use ipc_kernel::Kernel;
 use lab_sched::{Fresh, Process};
-use lab_search::{Search, Store, search_all};
+use lab_search::{Store, search_all};
 use lab_worlds::{ExploreFault, Limits, Observer};
 use std::alloc::Global;
 
@@ -38,13 +38,7 @@ pub fn visit<O: Observer>(
 {
     let processes = fresh.processes();
     let kernel = Kernel::new(alloc, processes.len())?;
-    let Search {
-        store,
-        firsts,
-        reduced,
-        complete,
-        refused,
-    } = search_all(
+    let search = search_all(
         alloc,
         processes.as_slice(),
         &kernel,
@@ -54,10 +48,10 @@ pub fn visit<O: Observer>(
     )?;
     Ok(Visited {
         processes,
-        store,
-        firsts,
-        reduced,
-        complete,
-        refused,
+        store: search.store,
+        firsts: search.firsts,
+        reduced: search.reduced,
+        complete: search.complete,
+        refused: search.refused,
     })
 }

@@ -13,8 +13,8 @@ pub returns : goal.returns
 returns g c =
     let ps = c.processes-processes.result.items in
     let start = initial_world ps in
-    let found = c.in_ok-store.field-0 in
-    let told = c.in_ok-store.ensures in
+    let found = c.in_ok-search.search in
+    let told = c.in_ok-search.ensures in
     let count : c.len.result ≡ length c.as_slice.result.now = omega (arith, ap length c.as_slice.ensures.value) in
     let same = started start ps c.as_slice.result.now c.in_ok-kernel.kernel c.len.result refl c.as_slice.ensures.value count c.in_ok-kernel.ensures.empty in
     let visited : IsVisited (record { processes = c.processes-processes.result; store = found.store; firsts = found.firsts; reduced = found.reduced; complete = found.complete; refused = found.refused }) =

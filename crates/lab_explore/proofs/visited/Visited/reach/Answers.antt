@@ -1,24 +1,26 @@
 use Rattle.std.proofs.Common.{◌≡◌, None}
 use Rattle.std.proofs.lemmas.Result.{IfOk-weaker}
 use Rattle.lab_explore.specs.Visits.{start_of}
-use Rattle.lab_explore.specs.Private.Judged.{NoRowHolds}
+use Rattle.lab_explore.proofs.JudgedRows.{leads_to}
 use Rattle.lab_explore.proofs.KeptConditions.{never_holds}
 use Rattle.lab_explore.proofs.KeptLosses.{never_loses}
 use Rattle.lab_explore.proofs.KeptRefusals.{never_refuses}
 use Rattle.lab_explore.proofs.MetWorlds.{is_start}
 use Rattle.lab_explore.proofs.visited.Visited.reach.Goals as goal
 
-pub returns-in-Holds : goal.returns-in-Holds
-returns-in-Holds g c =
+pub returns-in_default-clause-none : goal.returns-in_default-clause-none
+returns-in_default-clause-none g c none whole =
     let self = c.args.self.now in
-    let condition = c.in-Holds.condition in
-    let told = c.reach_condition.ensures in
-    record {
-      reached = rw c.in-Holds.is told.reached;
-      none = IfOk-weaker c.reach_condition.result (λ found. found ≡ None → NoRowHolds self.store condition) _
-          (λ found h none whole. rw c.in-Holds.is (never_holds condition (start_of self) self.store (is_start self.processes.items c.requires.whole.visited.starts) (c.requires.whole.searched whole) (h none)))
-          told.none;
-    }
+    rw c.in-Holds.is
+    (never_holds c.in-Holds.condition (start_of self) self.store (is_start self.processes.items c.requires.whole.visited.starts) (c.requires.whole.searched whole) (c.in_ok-at-in-Holds.ensures.none c.in_default.is))
+
+pub returns-in_ok-walk-in-Holds-clause-reached : goal.returns-in_ok-walk-in-Holds-clause-reached
+returns-in_ok-walk-in-Holds-clause-reached g c =
+    let self = c.args.self.now in
+    let walk = c.in_ok-walk-in-Holds in
+    rw c.in-Holds.is
+    (leads_to c.in-Holds.condition (start_of self) self.store c.in-Some.at walk.walk (is_start self.processes.items c.requires.whole.visited.starts).consistent walk.ensures.walk walk.ensures.row
+    (rw c.in-Some.is at c.in_ok-at-in-Holds.ensures.some))
 
 pub returns-in_ok-turn-in-Lost : goal.returns-in_ok-turn-in-Lost
 returns-in_ok-turn-in-Lost g c =
