@@ -3,7 +3,7 @@ ghost use Rattle.std.specs.Prelude.{◌≡◌, ◌≤◌, ◌<◌, ◌++◌, ℕ
 ghost use Rattle.std.specs.List.{before_first, after_first};
 ghost use Rattle.std.specs.Option.{option_map};
 ghost use Rattle.lab_questions.specs.Private.Readings.{ended, left};
-ghost use Rattle.lab_questions.specs.Written.{is_quote, before, string_in, relation_in, process_in, subject_in, linked, heading_in, front_in, need_in, part_read, parts_read, need_read};
+ghost use Rattle.lab_questions.specs.Written.{is_quote, before, string_in, relation_in, process_in, subject_in, heading_in, front_in, need_in, part_read, parts_read, need_read};
 
 use crate::{Alternative, OutputNeed, OutputPart, OutputRelation};
 use lc3_table::{escape, is_string_byte};
@@ -101,39 +101,18 @@ fn subject_in(words: &[&[u8]]) -> Option<(usize, OutputRelation)>
     }
 }
 
-/// What the words before a string say.
-#[derive(Clone, Copy)]
-struct Heading {
-    /// Whether they begin an alternative.
-    begins: bool,
-    process: usize,
-    relation: OutputRelation,
-}
-
-fn heading_with(begins: bool, words: &[&[u8]]) -> Option<Heading>
-    ensures heading { option_map (λ h. (h.begins, h.process, h.relation)) result
-        ≡ linked begins (subject_in (map (λ word. word.now) words.now)) }
+/// Whether the words before a string begin an alternative, and the process and the relation in them.
+fn heading_in(first: bool, words: &[&[u8]]) -> Option<(bool, usize, OutputRelation)>
+    ensures heading { result ≡ heading_in first (map (λ word. word.now) words.now) }
 {
-    let (process, relation) = subject_in(words)?;
-    Some(Heading {
-        begins,
-        process,
-        relation,
-    })
-}
-
-fn heading_in(first: bool, words: &[&[u8]]) -> Option<Heading>
-    ensures heading { option_map (λ h. (h.begins, h.process, h.relation)) result
-        ≡ heading_in first (map (λ word. word.now) words.now) }
-{
-    if first {
-        return heading_with(true, words);
-    }
-    match words {
-        [word, rest @ ..] if is_word("or", word) => heading_with(true, rest),
-        [word, rest @ ..] if is_word("and", word) => heading_with(false, rest),
-        _ => None,
-    }
+    let (begins, subject) = match words {
+        _ if first => (true, words),
+        [word, rest @ ..] if is_word("or", word) => (true, rest),
+        [word, rest @ ..] if is_word("and", word) => (false, rest),
+        _ => return None,
+    };
+    let (process, relation) = subject_in(subject)?;
+    Some((begins, process, relation))
 }
 
 fn quote_in(text: &[u8]) -> Option<usize>
@@ -177,21 +156,18 @@ fn front_in<'a>(alloc: Global, first: bool, text: &'a [u8]) -> Result<Option<Fro
         return Ok(None);
     };
     let words = words_between(alloc, b" ", head)?;
-    let Some(heading) = heading_in(first, &words) else {
+    let Some((begins, process, relation)) = heading_in(first, &words) else {
         return Ok(None);
     };
     let Some(Quoted { bytes, rest }) = string_in(alloc, string)? else {
         return Ok(None);
     };
-    Ok(Some(Front {
-        begins: heading.begins,
-        part: OutputPart {
-            process: heading.process,
-            relation: heading.relation,
-            bytes,
-        },
-        rest,
-    }))
+    let part = OutputPart {
+        process,
+        relation,
+        bytes,
+    };
+    Ok(Some(Front { begins, part, rest }))
 }
 
 /// Adds a part to those of an alternative, or ends that and begins another with it.
