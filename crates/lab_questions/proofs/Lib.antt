@@ -7,9 +7,9 @@ pub mod OneText
 pub mod ToldEnds
 pub mod TextLemmas
 pub mod ClaimLemmas
-mod Watched
 mod Numbered
 mod OrderLemmas
+mod Watched
 pub mod ListLemmas
 pub mod AnswerLemmas
 mod OutputLemmas

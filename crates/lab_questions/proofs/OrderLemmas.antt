@@ -1,14 +1,15 @@
 -- Objects that stand in the order in which they are named first.
-use Rattle.std.proofs.Common.{ℕ, ◌≡◌, ◌<◌, ◌+◌, ◌++◌, ◌⊎◌, inl, inr, List, [], ◌∷◌, Option, Some, None, All, AllPairs, Contains, length, take, get_or, slice_get, sym, ap, subst, refl, ◌∙◌, arith}
+use Rattle.std.proofs.Common.{ℕ, zero, suc, ◌≡◌, ◌<◌, ◌≤◌, ◌+◌, ◌++◌, Bool, true, false, inl, inr, List, [], ◌∷◌, Option, Some, None, All, AllPairs, Contains, length, min, take, get_or, slice_get, sym, ap, ap₂, subst, refl, ◌∙◌, arith}
 use Rattle.std.proofs.lemmas.Bool.{cases_lt}
 use Rattle.std.proofs.lemmas.List.{get_or-take, length-take-le, take_more}
-use Rattle.std.proofs.lemmas.List.Elements.{All-contains, All-contains_itself, All-push, Contains-append_left, Contains-get_or, Contains-push, Contains-push_cases}
+use Rattle.std.proofs.lemmas.List.Elements.{All-cons, All-contains, All-head, All-push, All-tail, Contains-append_left, Contains-push}
+use Rattle.std.proofs.lemmas.List.Kept.{AllPairs-cons}
 use Rattle.std.proofs.lemmas.List.Quantifiers.{all_pairs_push}
-use Rattle.std.proofs.lemmas.Option.{get_or_from_slice_get, slice_get-get_or, slice_get_within}
+use Rattle.std.proofs.lemmas.Option.{get_or_from_slice_get, slice_get-get_or}
 use Rattle.lab_sched.specs.declared.schedule.block.Block.{Block}
 use Rattle.lab_questions.specs.declared.object.Object.{Object}
 use Rattle.lab_questions.specs.Objects.{StandsBefore}
-use Rattle.lab_questions.specs.Private.Presences.{AddsNew, AddsUnseen}
+use Rattle.lab_questions.specs.Private.Presences.{AddsNew, IsUnseen, unseen}
 
 -- what stands at a place below i is among the first i
 among_first : {X : Type 0} (xs : List X) (i j : ℕ) (x : X) → i < length xs → j < i → slice_get xs j ≡ Some x → Contains (take i xs) x
@@ -61,36 +62,58 @@ module _ (names olds news : List Object) (i : ℕ) (x : Object) (within : i < le
     | inr new ↦ subst (AllPairs (StandsBefore names)) (sym new.1) (all_pairs_push (StandsBefore names) olds x order (named_before names olds i x within only all new.0))
   ]
 
--- an object that is added where there is no schedule
-module _ (olds news : List Object) (o : Object) where
-  pub unseen_old : (s : Option (List Block)) → AddsUnseen olds o s news → All (Contains news) olds
-  unseen_old None adds = λ k d below. subst (λ os. Contains os (get_or olds k d)) (sym adds) (Contains-append_left olds (o ∷ []) (get_or olds k d) (Contains-get_or olds k d below))
-  unseen_old (Some s) adds = subst (λ os. All (Contains os) olds) (sym adds) (All-contains_itself olds)
+-- what holds of all objects holds of those without a schedule
+unseen_within : (P : Object → Type 0) (os : List Object) (seen : List (Option (List Block))) → All P os → All P (unseen os seen)
+unseen_within P [] seen all = all
+unseen_within P (o ∷ os) [] all = λ k d below. absurd (omega arith)
+unseen_within P (o ∷ os) (None ∷ seen) all = All-cons P o (unseen os seen) (All-head P o os all) (unseen_within P os seen (All-tail P o os all))
+unseen_within P (o ∷ os) (Some s ∷ seen) all = unseen_within P os seen (All-tail P o os all)
 
-  pub unseen_new : (s : Option (List Block)) → AddsUnseen olds o s news → s ≡ None → Contains news o
-  unseen_new None adds none = subst (λ os. Contains os o) (sym adds) (Contains-push olds o)
-  unseen_new (Some s) adds none = absurd (cc)
+unseen_order : (R : Object → Object → Type 0) (os : List Object) (seen : List (Option (List Block))) → AllPairs R os → AllPairs R (unseen os seen)
+unseen_order R [] seen order = order
+unseen_order R (o ∷ os) [] order = λ i j d less below. absurd (omega arith)
+unseen_order R (o ∷ os) (None ∷ seen) order =
+    AllPairs-cons R o (unseen os seen) (unseen_within (R o) os seen (λ k d below. order zero (suc k) d (omega arith) (omega arith)))
+    (unseen_order R os seen (λ i j d less below. order (suc i) (suc j) d (omega arith) (omega arith)))
+unseen_order R (o ∷ os) (Some s ∷ seen) order = unseen_order R os seen (λ i j d less below. order (suc i) (suc j) d (omega arith) (omega arith))
 
-  pub unseen_only : (s : Option (List Block)) → AddsUnseen olds o s news → (p : Object) → Contains news p → Contains olds p ⊎ ((s ≡ None) × (o ≡ p))
-  unseen_only None adds p is = elim (Contains-push_cases olds o p (subst (λ os. Contains os p) adds is)) [
-    | inl old ↦ inl old
-    | inr same ↦ inr (refl, same)
-  ]
-  unseen_only (Some s) adds p is = inl (subst (λ os. Contains os p) adds is)
+-- the objects that are told stand in the order of all
+pub told_in_order : (R : Object → Object → Type 0) (complete : Bool) (objects told : List Object) (seen : List (Option (List Block))) → AllPairs R objects
+    → (complete ≡ true → told ≡ unseen objects seen) → (complete ≡ false → told ≡ []) → AllPairs R told
+told_in_order R true objects told seen order is none = subst (AllPairs R) (sym (is refl)) (unseen_order R objects seen order)
+told_in_order R false objects told seen order is none = subst (AllPairs R) (sym (none refl)) (λ i j d less below. absurd (omega arith))
 
-  pub unseen_order : (R : Object → Object → Type 0) (s : Option (List Block)) → AddsUnseen olds o s news → AllPairs R olds → All (λ p. R p o) olds → AllPairs R news
-  unseen_order R None adds order before = subst (AllPairs R) (sym adds) (all_pairs_push R olds o order before)
-  unseen_order R (Some s) adds order before = subst (AllPairs R) (sym adds) order
+-- those without a schedule are unseen, and no others
+pub unseen_each : (os : List Object) (seen : List (Option (List Block))) → All (IsUnseen os seen) (unseen os seen)
+unseen_each [] seen = λ k d below. absurd (omega arith)
+unseen_each (o ∷ os) [] = λ k d below. absurd (omega arith)
+unseen_each (o ∷ os) (None ∷ seen) =
+    All-cons (IsUnseen (o ∷ os) (None ∷ seen)) o (unseen os seen) (0, refl, refl) (λ k d below. let at = unseen_each os seen k d below in (suc at.0, at.1, at.2))
+unseen_each (o ∷ os) (Some s ∷ seen) = λ k d below. let at = unseen_each os seen k d below in (suc at.0, at.1, at.2)
 
-  pub unseen_within : (P : Object → Type 0) (s : Option (List Block)) → AddsUnseen olds o s news → All P olds → P o → All P news
-  unseen_within P None adds olds_are is = subst (All P) (sym adds) (All-push P olds o olds_are is)
-  unseen_within P (Some s) adds olds_are is = subst (All P) (sym adds) olds_are
+pub unseen_all : (os : List Object) (seen : List (Option (List Block))) (i : ℕ) (p : Object) → slice_get os i ≡ Some p → slice_get seen i ≡ Some None → Contains (unseen os seen) p
+unseen_all [] seen i p at none = absurd (cc)
+unseen_all (o ∷ os) [] i p at none = absurd (cc)
+unseen_all (o ∷ os) (None ∷ seen) zero p at none = let is : o ≡ p = cc in (0, omega arith, is)
+unseen_all (o ∷ os) (Some s ∷ seen) zero p at none = absurd (cc)
+unseen_all (o ∷ os) (None ∷ seen) (suc i) p at none = let later = unseen_all os seen i p at none in (suc later.0, omega (arith, later.1), later.2)
+unseen_all (o ∷ os) (Some s ∷ seen) (suc i) p at none = unseen_all os seen i p at none
 
--- what stands behind those that stand at places below n
-pub behind_all : (R : Object → Object → Type 0) (xs olds : List Object) (n : ℕ) (x : Object) → slice_get xs n ≡ Some x → AllPairs R xs
-    → All (λ o. (i : ℕ) × (i < n) × (slice_get xs i ≡ Some o)) olds → All (λ o. R o x) olds
-behind_all R xs olds n x at all before k d below =
-    let place = before k d below in
-    let o = get_or olds k d in
-    subst (λ u. R u x) (get_or_from_slice_get xs place.0 o d place.2)
-    (subst (R (get_or xs place.0 d)) (get_or_from_slice_get xs n x d at) (all place.0 n d place.1 (slice_get_within xs n x at)))
+-- one object more
+pub unseen_next : (os : List Object) (seen : List (Option (List Block))) (n : ℕ) (o : Object) (s : Option (List Block)) → slice_get os n ≡ Some o → slice_get seen n ≡ Some s
+    → unseen (take (suc n) os) (take (suc n) seen) ≡ unseen (take n os) (take n seen) ++ unseen (o ∷ []) (s ∷ [])
+unseen_next [] seen n o s at there = absurd (cc)
+unseen_next (x ∷ xs) [] n o s at there = absurd (cc)
+unseen_next (x ∷ xs) (y ∷ ys) zero o s at there = let is : x ≡ o = cc in let same : y ≡ s = cc in ap₂ (λ a b. unseen (a ∷ []) (b ∷ [])) is same
+unseen_next (x ∷ xs) (None ∷ ys) (suc n) o s at there = ap (λ l. x ∷ l) (unseen_next xs ys n o s at there)
+unseen_next (x ∷ xs) (Some y ∷ ys) (suc n) o s at there = unseen_next xs ys n o s at there
+
+-- all of them
+pub unseen_whole : (os : List Object) (seen : List (Option (List Block))) (n : ℕ) → min (length os) (length seen) ≤ n → unseen (take n os) (take n seen) ≡ unseen os seen
+unseen_whole [] seen zero past = refl
+unseen_whole [] seen (suc n) past = refl
+unseen_whole (o ∷ os) [] zero past = refl
+unseen_whole (o ∷ os) [] (suc n) past = refl
+unseen_whole (o ∷ os) (s ∷ seen) zero past = absurd (omega (arith, past))
+unseen_whole (o ∷ os) (None ∷ seen) (suc n) past = ap (λ l. o ∷ l) (unseen_whole os seen n (omega (arith, past)))
+unseen_whole (o ∷ os) (Some s ∷ seen) (suc n) past = unseen_whole os seen n (omega (arith, past))

@@ -14,7 +14,8 @@ use Rattle.lab_worlds.proofs.Pushes.{all_at, alongside_push}
 use Rattle.lab_worlds.specs.Reached.{Violates, IsKept, ViolatesIfSome, KeptIfNone}
 use Rattle.lab_questions.specs.declared.object.Object.{Object}
 use Rattle.lab_questions.specs.Objects.{named, presence, IsOpened, IsNeverOpened, AreUnopened}
-use Rattle.lab_questions.specs.Private.Presences.{AsksFor, IsUnseen}
+use Rattle.lab_questions.specs.Private.Presences.{AsksFor, unseen}
+use Rattle.lab_questions.proofs.OrderLemmas.{unseen_all, unseen_each}
 
 -- one more of each
 pub along_next : {A B : Type 0} (R : A → B → Type 0) (xs : List A) (ys zs : List B) (n : ℕ) (x : A) (y : B) → Alongside R (take n xs) ys → n < length xs → x ≡ get_or xs n x → R x y
@@ -94,21 +95,19 @@ seen_opened start o (Some p) (Some n) (Some (Some s)) is asks reached =
     inr (opened start o n s (subst (λ q. AsksFor q n) same asks) reached)
 
 -- the objects for which a whole search has no schedule are those of the named ones that are never there
-pub are_unopened : (start : WorldState) (conditions presences : List Never) (objects unopened : List Object) (seen : List (Option (List Block))) → Alongside AsksFor objects presences
+pub are_unopened : (start : WorldState) (conditions presences : List Never) (objects : List Object) (seen : List (Option (List Block))) → Alongside AsksFor objects presences
     → Alongside (ViolatesIfSome start) presences seen → Alongside (KeptIfNone start) presences seen
-    → All (Contains objects) (named conditions) → All (Contains (named conditions)) objects
-    → All (IsUnseen objects seen) unopened → ((i : ℕ) (o : Object) → slice_get objects i ≡ Some o → slice_get seen i ≡ Some None → Contains unopened o)
-    → AreUnopened start conditions unopened
-are_unopened start conditions presences objects unopened seen asks reached kept all only each whole = record {
-  among = λ k d within. let at = each k d within in all_at (Contains (named conditions)) objects at.0 (get_or unopened k d) only at.1;
+    → All (Contains objects) (named conditions) → All (Contains (named conditions)) objects → AreUnopened start conditions (unseen objects seen)
+are_unopened start conditions presences objects seen asks reached kept all only = record {
+  among = λ k d within. let at = unseen_each objects seen k d within in all_at (Contains (named conditions)) objects at.0 (get_or (unseen objects seen) k d) only at.1;
   never = λ k d within.
-      let at = each k d within in
-      unseen_never start (get_or unopened k d) (slice_get objects at.0) (slice_get presences at.0) (slice_get seen at.0) at.1 at.2 (asks at.0) (kept at.0);
+      let at = unseen_each objects seen k d within in
+      unseen_never start (get_or (unseen objects seen) k d) (slice_get objects at.0) (slice_get presences at.0) (slice_get seen at.0) at.1 at.2 (asks at.0) (kept at.0);
   others = λ o is.
       let at = All-contains (Contains objects) (named conditions) o all is in
       let here = slice_get-get_or objects at.0 o at.1 ∙ ap Some at.2 in
       elim (seen_opened start o (slice_get objects at.0) (slice_get presences at.0) (slice_get seen at.0) here (asks at.0) (reached at.0)) [
-        | inl none ↦ inl (whole at.0 o here none)
+        | inl none ↦ inl (unseen_all objects seen at.0 o here none)
         | inr there ↦ inr there
       ];
 }

@@ -1,10 +1,9 @@
 //! Whether semaphores and queues that conditions name are ever there.
-ghost use Rattle.std.specs.Prelude.{◌≡◌, ◌≤◌, ◌++◌, ℕ, None, Some, false, List, [], All, AllPairs, Contains, IfOk, IsTrue, OnOk, drop, length, slice_get, take};
+ghost use Rattle.std.specs.Prelude.{◌≡◌, ◌≤◌, ◌++◌, false, List, [], All, AllPairs, Contains, IfOk, IsTrue, OnOk, drop, length, take};
 ghost use Rattle.lab_worlds.specs.Calls.{Alongside};
 ghost use Rattle.lab_conditions.specs.declared.never.Never.{Never as Asking};
-ghost use Rattle.lab_questions.specs.declared.object.Object.{Object as Seen};
 ghost use Rattle.lab_questions.specs.Objects.{named, presence, StandsBefore};
-ghost use Rattle.lab_questions.specs.Private.Presences.{AsksFor, IsUnseen};
+ghost use Rattle.lab_questions.specs.Private.Presences.{AsksFor, unseen};
 
 use crate::Object;
 use crate::object::named_in;
@@ -71,12 +70,7 @@ fn unseen(
     objects: &[Object],
     seen: &[Option<Schedule>],
 ) -> Result<Vec<Object>, AllocError>
-    ensures each { IfOk result (λ unseen. All (IsUnseen objects.now seen.now) unseen.items) }
-    ensures all { IfOk result (λ unseen. (i : ℕ) (o : Seen) → slice_get objects.now i ≡ Some o
-        → slice_get seen.now i ≡ Some None → Contains unseen.items o) }
-    ensures order { IfOk result (λ unseen. (names : List Seen)
-        → AllPairs (StandsBefore names) objects.now
-        → AllPairs (StandsBefore names) unseen.items) }
+    ensures unseen { IfOk result (λ found. found.items ≡ unseen objects.now seen.now) }
 {
     let mut unseen = Vec::new(alloc);
     for number in 0..objects.len().min(seen.len()) {
@@ -99,16 +93,9 @@ pub(crate) fn unopened_in(
 ) -> Result<Vec<Object>, AllocError>
     requires there { asked ≤ length reached.old.items }
     ensures first { OnOk result (reached.new.items ≡ take asked reached.old.items) }
-    ensures each { IfOk result (λ unopened.
-        All (IsUnseen objects.items (drop asked reached.old.items)) unopened.items) }
-    ensures all { IfOk result (λ unopened. IsTrue complete → (i : ℕ) (o : Seen)
-        → slice_get objects.items i ≡ Some o
-        → slice_get (drop asked reached.old.items) i ≡ Some None
-        → Contains unopened.items o) }
+    ensures whole { IfOk result (λ unopened. IsTrue complete
+        → unopened.items ≡ unseen objects.items (drop asked reached.old.items)) }
     ensures unknown { IfOk result (λ unopened. complete ≡ false → unopened.items ≡ []) }
-    ensures order { IfOk result (λ unopened. (names : List Seen)
-        → AllPairs (StandsBefore names) objects.items
-        → AllPairs (StandsBefore names) unopened.items) }
 {
     let seen = reached.split_off(asked)?;
     if complete {

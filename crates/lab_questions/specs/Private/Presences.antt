@@ -16,10 +16,12 @@ AsksFor o (Refused r) = ⊥
 abbrev pub AddsNew : List Object → Object → List Object → Type 0
 AddsNew olds o news = (Contains olds o × (news ≡ olds)) ⊎ ((Contains olds o → ⊥) × (news ≡ olds ++ o ∷ []))
 
--- an object is added at the end of objects where there is no schedule for it
-abbrev pub AddsUnseen : List Object → Object → Option (List Block) → List Object → Type 0
-AddsUnseen olds o None news = news ≡ olds ++ o ∷ []
-AddsUnseen olds o (Some s) news = news ≡ olds
+-- those of the objects for which there is no schedule
+abbrev pub unseen : List Object → List (Option (List Block)) → List Object
+unseen [] seen = []
+unseen (o ∷ os) [] = []
+unseen (o ∷ os) (None ∷ seen) = o ∷ unseen os seen
+unseen (o ∷ os) (Some s ∷ seen) = unseen os seen
 
 -- the object has a place among the objects, and there no schedule is
 abbrev pub IsUnseen : List Object → List (Option (List Block)) → Object → Type 0

@@ -1,7 +1,8 @@
-use Rattle.std.proofs.Common.{◌≡◌, ◌++◌, arith, ap, length, refl, take, ◌∙◌}
+use Rattle.std.proofs.Common.{◌≡◌, ◌++◌, arith, ap, length, refl, subst, sym, take, ◌∙◌}
 use Rattle.std.proofs.Math.Seq.{take-append_seam}
 use Rattle.lab_worlds.specs.Reached.{ViolatesIfSome, KeptIfNone}
-use Rattle.lab_questions.specs.Objects.{named}
+use Rattle.lab_questions.specs.Objects.{named, AreUnopened, StandsBefore}
+use Rattle.lab_questions.proofs.OrderLemmas.{told_in_order}
 use Rattle.lab_questions.proofs.Watched.{enough, first_ones, last_ones, are_unopened}
 use Rattle.lab_questions.proofs.finding.find.Goals as goal
 
@@ -43,11 +44,13 @@ returns-clause-unopened g c complete =
     let all = c.deref.result.now in
     let reached = c.in_ok-exploration.exploration.reached.items in
     let whole = c.deref.ensures.value ∙ c.in_ok-objects.ensures.asks.1 in
-    are_unopened start conditions presences c.in_ok-objects.objects.items c.in_ok-unopened.unopened.items _
-    c.in_ok-objects.ensures.asks.2
+    subst (AreUnopened start conditions) (sym (c.in_ok-unopened.ensures.whole complete))
+    (are_unopened start conditions presences c.in_ok-objects.objects.items _ c.in_ok-objects.ensures.asks.2
     (last_ones (ViolatesIfSome start) conditions presences all reached _ c.len-count.result whole count refl c.in_ok-exploration.ensures.reached)
     (last_ones (KeptIfNone start) conditions presences all reached _ c.len-count.result whole count refl (c.in_ok-exploration.ensures.unreached complete))
-    c.in_ok-objects.ensures.all c.in_ok-objects.ensures.only c.in_ok-unopened.ensures.each (c.in_ok-unopened.ensures.all complete)
+    c.in_ok-objects.ensures.all c.in_ok-objects.ensures.only)
 
 pub returns-clause-order : goal.returns-clause-order
-returns-clause-order g c = c.in_ok-unopened.ensures.order (named c.args.never.now.items) c.in_ok-objects.ensures.order
+returns-clause-order g c =
+    told_in_order (StandsBefore (named c.args.never.now.items)) c.in_ok-exploration.exploration.complete c.in_ok-objects.objects.items c.in_ok-unopened.unopened.items _
+    c.in_ok-objects.ensures.order c.in_ok-unopened.ensures.whole c.in_ok-unopened.ensures.unknown
