@@ -1,7 +1,7 @@
 //! What is required of what processes have written, and the ends that are judged by it.
 ghost use Rattle.std.specs.Prelude.{◌↔◌, All, IfOk, IsTrue};
 ghost use Rattle.lab_worlds.specs.Calls.{Alongside};
-ghost use Rattle.lab_questions.specs.Outputs.{IsWithin, Fits, HasOutput, HasWritten, IsOutputAnswer};
+ghost use Rattle.lab_questions.specs.Outputs.{IsWithin, HasOutput, HasWritten, IsOutputAnswer};
 ghost use Rattle.lab_questions.specs.Requirements.{outputs};
 
 use crate::processes::output_of;
@@ -40,7 +40,6 @@ pub struct OutputNeed {
     pub alternatives: Vec<Alternative>,
 }
 
-/// Whether bytes stand in an output, one behind the other.
 fn are_within(bytes: &[u8], output: &[u8]) -> bool
     ensures within { IsTrue result ↔ IsWithin bytes.now output.now }
 {
@@ -52,22 +51,16 @@ fn are_within(bytes: &[u8], output: &[u8]) -> bool
     false
 }
 
-fn fits(part: &OutputPart, output: &[u8]) -> bool
-    ensures fits { IsTrue result ↔ Fits part.now.relation part.now.bytes.items output.now }
-{
-    match part.relation {
-        OutputRelation::Equals => output == part.bytes.as_slice(),
-        OutputRelation::Contains => are_within(&part.bytes, output),
-    }
-}
-
 fn has_output(part: &OutputPart, world: &World) -> bool
     ensures written { IsTrue result ↔ HasOutput part.now (outputs world.now) }
 {
     let Some(output) = output_of(world, part.process) else {
         return false;
     };
-    fits(part, output)
+    match part.relation {
+        OutputRelation::Equals => output == part.bytes.as_slice(),
+        OutputRelation::Contains => are_within(&part.bytes, output),
+    }
 }
 
 fn have_outputs(alternative: &Alternative, world: &World) -> bool

@@ -1,25 +1,10 @@
 //! Why an exploration isn't complete.
 ghost use Rattle.std.specs.Prelude.{◌≡◌, map};
-ghost use Rattle.lab_questions.specs.Findings.{walk_limits, limits_met};
+ghost use Rattle.lab_questions.specs.Findings.{limits_met};
 ghost use Rattle.lab_questions.specs.Values.{array_json, name_json};
 
 use crate::Reach;
 use lab_worlds::Exploration;
-
-/// The limits that walks met: so many were to be taken, or, where something was found, no more.
-fn walk_limits(found: &Exploration, count: u32, first: bool) -> &'static str
-    ensures text { result.now ≡ array_json (map name_json (walk_limits found.now count first)) }
-{
-    if found.refused {
-        "[\"memory\",\"random\"]"
-    } else if found.worlds < count {
-        "[\"limit\",\"random\"]"
-    } else if first {
-        "[\"first\",\"random\"]"
-    } else {
-        "[\"random\"]"
-    }
-}
 
 /// The limits that were met, where not everything was visited, as an array.
 pub(crate) fn limits_json(found: &Exploration, reach: Reach) -> &'static str
@@ -27,7 +12,12 @@ pub(crate) fn limits_json(found: &Exploration, reach: Reach) -> &'static str
         (limits_met found.now reach.limits reach.is_stage reach.walks)) }
 {
     if let Some(walks) = reach.walks {
-        return walk_limits(found, walks.count, reach.is_stage);
+        return match (found.refused, found.worlds < walks.count, reach.is_stage) {
+            (true, _, _) => "[\"memory\",\"random\"]",
+            (false, true, _) => "[\"limit\",\"random\"]",
+            (false, false, true) => "[\"first\",\"random\"]",
+            (false, false, false) => "[\"random\"]",
+        };
     }
     if found.complete {
         return "[]";
