@@ -3,6 +3,7 @@ use Rattle.std.proofs.Common.{ℕ, zero, suc, ◌≡◌, ◌+◌, Bool, true, fa
 use Rattle.std.proofs.lemmas.Bool.{cases_lt}
 use Rattle.std.proofs.lemmas.List.{take_all}
 use Rattle.std.proofs.Math.Seq.{take-suc}
+use Rattle.std.proofs.lemmas.List.Folds.{flat_map-map}
 use Rattle.std.proofs.lemmas.List.Sums.{sum_by-append, sum_by-cons}
 use Rattle.std.proofs.lemmas.Option.{unwrap_or-slice_get}
 use Rattle.ipc_kernel.specs.declared.place.Place.{Place}
@@ -15,11 +16,6 @@ use Rattle.lab_questions.specs.Left.{left_lines, is_text, put_place, left_places
 use Rattle.lab_questions.specs.Orders.{comes_before}
 use Rattle.lab_questions.proofs.Ordered.{how_often, one_if, one_more, one_order, put_among, put_count, put_rises, Rises}
 use Rattle.lab_questions.proofs.PlaceSums.{sum_alike}
-
--- what is made of each element, joined
-pub flat-map : {X : Type 0} (f : X → List ℕ) (xs : List X) → flat_map f xs ≡ flat_map (λ l. l) (map f xs)
-flat-map f [] = refl
-flat-map f (x ∷ xs) = ap (λ l. f x ++ l) (flat-map f xs)
 
 -- the lines of the first n places in which messages are left
 abbrev texts : ℕ → KernelState → List (List ℕ)
@@ -89,7 +85,7 @@ counted s (suc n) k = by (counted s n k) (is_text (left_lines p)) refl
 pub left_alike : (k j : KernelState) → IsAlike k j → left_text j ≡ left_text k
 unfolding left_text
 left_alike k j a =
-    flat-map left_lines (left_places 64 j)
+    sym (flat_map-map (λ lines. lines) left_lines (left_places 64 j))
     ∙ ap (flat_map (λ lines. lines)) (one_order (texts 64 j) (texts 64 k) (rises 64 j) (rises 64 k)
     (λ s. counted s 64 j ∙ sum_alike (number s) refl k j a ∙ sym (counted s 64 k)))
-    ∙ sym (flat-map left_lines (left_places 64 k))
+    ∙ flat_map-map (λ lines. lines) left_lines (left_places 64 k)

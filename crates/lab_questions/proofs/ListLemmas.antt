@@ -1,5 +1,5 @@
 -- Loops over lists.
-use Rattle.std.proofs.Common.{ℕ, suc, ◌≡◌, ◌<◌, ◌+◌, List, [], ◌∷◌, ◌++◌, Option, Some, None, Bool, true, false, All, Any, IsTrue, flat_map, get_or, length, slice_get, take, subst, sym, ap, ◌∙◌, refl, arith}
+use Rattle.std.proofs.Common.{ℕ, ◌≡◌, ◌<◌, ◌+◌, List, [], ◌∷◌, ◌++◌, Option, Some, None, Bool, true, false, All, Any, IsTrue, flat_map, get_or, length, slice_get, take, subst, sym, ap, ◌∙◌, refl, arith}
 use Rattle.std.specs.Bool.{MatchBool}
 use Rattle.std.specs.List.{AllWithin, HoldsAt}
 use Rattle.std.proofs.lemmas.List.{flat_map_more, get_or_default, take_more}
@@ -21,16 +21,6 @@ any_told P (x ∷ xs) true (k, within, has) =
     (λ yes. (k, get_or (x ∷ xs) k x, within, get_or_default (x ∷ xs) k (get_or (x ∷ xs) k x) x within, has x), λ some. refl)
 any_told P xs false none =
     (λ yes. absurd (let no : false ≡ true = yes in cc), λ (k, x, within, is, has). absurd (none k x (omega arith) within (subst P (sym is) has)))
-
--- lists with the same at each place
-pub same_lists : {X : Type 0} (xs ys : List X) → length xs ≡ length ys → ((i : ℕ) → i < length xs → slice_get xs i ≡ slice_get ys i) → xs ≡ ys
-same_lists [] [] count each = refl
-same_lists [] (y ∷ ys) count each = absurd (omega (arith, count))
-same_lists (x ∷ xs) [] count each = absurd (omega (arith, count))
-same_lists (x ∷ xs) (y ∷ ys) count each =
-    let here : Some x ≡ Some y = each 0 (omega arith) in
-    let is : x ≡ y = cc in
-    ap (λ l. x ∷ l) (same_lists xs ys (omega (arith, count)) (λ i within. each (suc i) (omega (arith, within)))) ∙ ap (λ z. z ∷ ys) is
 
 pub none_unless : {X : Type 0} (o : Option X) → ((x : X) → o ≡ Some x → ⊥) → o ≡ None
 none_unless None not = refl

@@ -1,8 +1,8 @@
-use Rattle.std.proofs.Common.{◌≡◌, length, refl, arith}
-use Rattle.std.proofs.lemmas.List.{length-map}
+use Rattle.std.proofs.Common.{◌≡◌, ◌∙◌, ap, arith, length, refl, sym, unwrap_or}
+use Rattle.std.proofs.lemmas.List.{length-map, same_lists}
+use Rattle.std.proofs.lemmas.Option.{unwrap_or-slice_get}
 use Rattle.lab_sched.specs.Worlds.{machine_of}
 use Rattle.lab_questions.specs.Requirements.{outputs}
-use Rattle.lab_questions.proofs.ListLemmas.{same_lists}
 use Rattle.lab_questions.proofs.processes.have_same_outputs.Goals as goal
 
 pub returns : goal.returns
@@ -15,7 +15,9 @@ returns c =
     record {
       same = (
         λ yes. same_lists (outputs w) (outputs v) count
-            (λ i within. c.loop-pid.invariant i (omega (arith, within, many, c.count-pid-end.ensures.count, c.loop-pid-test.false))),
+            (λ i d within. sym (unwrap_or-slice_get (outputs w) i d)
+            ∙ ap (λ o. unwrap_or o d) (c.loop-pid.invariant i (omega (arith, within, many, c.count-pid-end.ensures.count, c.loop-pid-test.false)))
+            ∙ unwrap_or-slice_get (outputs v) i d),
         λ same. refl,
       );
     }
