@@ -160,7 +160,6 @@ fn together(alloc: Global, words: &[&[u8]]) -> Result<Option<Pattern>, AllocErro
     Ok(names_in(alloc, &words)?.map(Pattern::Together))
 }
 
-/// What must be so.
 fn required_in(alloc: Global, words: &[&[u8]]) -> Result<Option<Pattern>, AllocError>
     ensures pattern { IfOk result (λ read. IfSome read (λ pattern.
         Say (map (λ word. word.now) words.now) pattern)) }
@@ -225,8 +224,5 @@ pub fn read_calls(alloc: Global, text: &str, never: bool) -> Result<Option<Wante
     } else {
         required_in(alloc, rest)
     };
-    match pattern? {
-        Some(pattern) => Ok(Some(Wanted { process, pattern })),
-        None => Ok(None),
-    }
+    Ok(pattern?.map(|pattern| Wanted { process, pattern }))
 }

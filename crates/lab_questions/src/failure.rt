@@ -62,8 +62,7 @@ fn is_endless(found: &Exploration, answers: &[Answer]) -> bool
     found.lasso.is_some() && answers.iter().any(|answer| answer.word.asks_rest())
 }
 
-/// Why an exploration doesn't show that each end is as it is required, and that nothing was reached, if it doesn't: what was found, or else what wasn't visited,
-/// which counts first where no more is asked than a verdict.
+/// What was found of ends, conditions and rounds, or else what wasn't visited, which counts first where no more is asked than a verdict.
 fn failure_of(
     found: &Exploration,
     answers: &[Answer],

@@ -8,7 +8,6 @@ use lab_conditions::messages_in;
 use lab_sched::{Verdict, World};
 use lab_worlds::End;
 
-/// Whether a world is as a word requires, beside another.
 fn is_met(word: Word, waiters: &[Waiter], other: &World, world: &World) -> bool
     ensures met { IsTrue result ↔ Meets word waiters.now other.now world.now }
 {

@@ -14,8 +14,6 @@ use lab_texts::{NameText, push_message};
 use std::alloc::{AllocError, Global};
 use std::fmt::Write;
 
-/// Adds the lines of the messages in a queue of this name, or of none, in the order in which they would
-/// be received.
 fn push_messages(text: &mut String, name: Option<&Name>, queue: &Queue) -> Result<(), AllocError>
     ensures text { OnOk result (string_bytes text.new ≡ string_bytes text.old
         ++ flat_map (left_line (option_copied name.entry)) queue.now.messages) }
@@ -32,8 +30,7 @@ fn push_messages(text: &mut String, name: Option<&Name>, queue: &Queue) -> Resul
     Ok(())
 }
 
-/// The lines of the messages in a place of a kernel, each `left NAME PRIORITY WORDS`, in the order in
-/// which they would be received.
+/// The lines of the messages in a place, each `left NAME PRIORITY WORDS`, in the order in which they would be received.
 fn left_lines(alloc: Global, kernel: &Kernel, place: u8) -> Result<String, AllocError>
     ensures lines { IfOk result (λ text.
         string_bytes text ≡ left_lines (place_at kernel.now.places place)) }

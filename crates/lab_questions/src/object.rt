@@ -28,7 +28,6 @@ impl fmt::Display for Object {
     }
 }
 
-/// Adds the objects that the parts of a condition name.
 fn push_objects(objects: &mut Vec<Object>, parts: &[Part]) -> Result<(), AllocError>
     ensures objects { OnOk result
         (objects.new.items ≡ objects.old.items ++ flat_map objects_in parts.now) }

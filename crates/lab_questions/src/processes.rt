@@ -14,7 +14,6 @@ fn may_wait(waiters: &[Waiter], pid: usize, pc: u16) -> bool
     waiters.iter().any(|waiter| waiter.process == pid && waiter.first <= pc && pc <= waiter.last)
 }
 
-/// Whether process `pid` has ended, by HALT if that is asked, or waits where it may.
 fn has_settled(by_halt: bool, waiters: &[Waiter], pid: usize, process: &Process) -> bool
     ensures settled { IsTrue result
         ↔ HasSettled by_halt waiters.now pid (process_view process.now) }

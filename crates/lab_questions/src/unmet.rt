@@ -141,7 +141,6 @@ fn row_count(judged: Judged<'_>, kind: Kind) -> usize
     }
 }
 
-/// The lines of what isn't so, or none.
 #[derive(Clone, Copy)]
 struct Lines<'a>(Option<Unmet<'a>>);
 
@@ -166,7 +165,6 @@ impl fmt::Display for Lines<'_> {
     }
 }
 
-/// Adds the lines of all of a kind that isn't so.
 pub(crate) fn push_unmet(
     text: &mut String,
     judged: Judged<'_>,
