@@ -64,7 +64,7 @@ impl fmt::Display for Last<'_> {
 
 /// The ends, and what isn't as it has to be, and what stands behind them.
 #[derive(Clone, Copy)]
-struct Found<'a> {
+pub(crate) struct Found<'a> {
     alloc: Global,
     answers: &'a Answers,
 }
@@ -73,25 +73,10 @@ impl fmt::Display for Found<'_> {
     ghost output = { λ x. Some (found_part x.answers.now) };
 
     fn fmt<W: fmt::Write>(&self, f: &mut fmt::Formatter<W>) -> fmt::Result {
-        let answers = self.answers;
-        let found = &answers.exploration;
-        let ends = Array(Ends {
-            alloc: self.alloc,
-            show: answers.asked.show,
-            ends: &found.ends,
-            numbers: &answers.told,
-        });
-        let required = UnmetArray {
-            alloc: self.alloc,
-            answers,
-            never: false,
-        };
-        let never = UnmetArray {
-            alloc: self.alloc,
-            answers,
-            never: true,
-        };
-        let last = Last(answers);
+        let ends = Array(Ends(*self));
+        let required = UnmetArray(*self, false);
+        let never = UnmetArray(*self, true);
+        let last = Last(self.answers);
         write!(
             f,
             ",\"ends\":{ends},\"not\":{required},\"reached\":{never}{last}"

@@ -44,11 +44,9 @@ impl Values for Objects<'_> {
         self.0.len()
     }
 
+    #[tactic(auto, using(crate::proofs::ValueLemmas::value_at))]
     fn write<W: fmt::Write>(&self, place: usize, f: &mut fmt::Formatter<W>) -> fmt::Result {
-        match self.0.get(place) {
-            Some(object) => ObjectValue(object).fmt(f),
-            None => Ok(()),
-        }
+        ObjectValue(&self.0[place]).fmt(f)
     }
 }
 

@@ -5,6 +5,7 @@ ghost use Rattle.lab_questions.specs.Findings.{end_json, ends_told};
 ghost use Rattle.lab_questions.specs.ProcessMembers.{process_json, stop_member};
 
 use crate::Show;
+use crate::json::Found;
 use crate::json::left::LeftMember;
 use crate::json::values::{Array, Quoted, StepsValue, Text, Values, WordValue};
 use lab_sched::{Process, Steps, World};
@@ -23,8 +24,8 @@ impl fmt::Display for Stop<'_> {
 
     fn fmt<W: fmt::Write>(&self, f: &mut fmt::Formatter<W>) -> fmt::Result {
         if let Process::Ended(ended) = self.0 {
-            let how = Quoted(how_name(ended.how()));
-            return write!(f, "\"how\":{how}");
+            let how = how_name(ended.how());
+            return write!(f, "\"how\":\"{how}\"");
         }
         let text = Standing(self.0.machine());
         write!(f, "\"text\":\"{text}\"")
@@ -76,7 +77,7 @@ impl Values for Processes<'_> {
         self.world.count()
     }
 
-    #[tactic(auto, using(crate::proofs::ValueLemmas::value_at))]
+    #[tactic(auto, using(crate::proofs::ValueLemmas::value_found))]
     fn write<W: fmt::Write>(&self, place: usize, f: &mut fmt::Formatter<W>) -> fmt::Result {
         let Some(process) = self.world.process(place) else {
             return Ok(());
@@ -120,33 +121,28 @@ impl fmt::Display for EndValue<'_> {
     }
 }
 
-/// The ends with these numbers, counted from 0, under the numbers 1, 2 and so on; `null` for one that isn't there.
+/// The ends that are told, under the numbers 1, 2 and so on; `null` for one that isn't there.
 #[derive(Clone, Copy)]
-pub(crate) struct Ends<'a> {
-    pub alloc: Global,
-    pub show: Show,
-    pub ends: &'a [End],
-    pub numbers: &'a [usize],
-}
+pub(crate) struct Ends<'a>(pub Found<'a>);
 
 impl Values for Ends<'_> {
-    ghost values = { λ e. ends_told e.show e.ends.now e.numbers.now };
+    ghost values = { λ e. ends_told e.0.answers.now.asked.show
+        e.0.answers.now.exploration.ends.items e.0.answers.now.told.items };
 
     #[tactic(auto, using(crate::proofs::ValueLemmas::ends_count))]
     fn count(&self) -> usize {
-        self.numbers.len()
+        self.0.answers.told.len()
     }
 
+    #[tactic(auto, using(crate::proofs::ValueLemmas::ends_count))]
     fn write<W: fmt::Write>(&self, place: usize, f: &mut fmt::Formatter<W>) -> fmt::Result {
-        let Some(number) = self.numbers.get(place) else {
-            return Ok(());
-        };
-        let Some(end) = self.ends.get(*number) else {
+        let Found { alloc, answers } = self.0;
+        let Some(end) = answers.exploration.ends.get(answers.told[place]) else {
             return write!(f, "null");
         };
         EndValue {
-            alloc: self.alloc,
-            show: self.show,
+            alloc,
+            show: answers.asked.show,
             number: place + 1,
             end,
         }

@@ -4,13 +4,11 @@ ghost use Rattle.lab_questions.specs.Findings.{schedules_json, unmet_json, unmet
 ghost use Rattle.lab_questions.specs.Private.Rows.{unmet_of};
 ghost use Rattle.lab_questions.specs.Values.{array_json};
 
-use crate::Answers;
+use crate::json::Found;
 use crate::json::values::{Array, StepsValue, Text, Values};
 use crate::unmet::{Judged, Unmet, unmet_told};
 use lab_sched::Steps;
-use std::alloc::Global;
 use std::fmt;
-use std::fmt::Display;
 
 /// The schedules that show that something isn't so, as an array.
 #[derive(Clone, Copy)]
@@ -32,16 +30,20 @@ impl fmt::Display for Schedules<'_> {
     }
 }
 
-/// Something that isn't as it has to be.
+/// All of what isn't as it has to be.
 #[derive(Clone, Copy)]
-struct UnmetValue<'a>(Unmet<'a>);
+struct Unmets<'a>(&'a [Unmet<'a>]);
 
-impl fmt::Display for UnmetValue<'_> {
-    ghost output = { λ u. Some (unmet_json (unmet_of u.0)) };
+impl Values for Unmets<'_> {
+    ghost values = { λ u. map (λ unmet. unmet_json (unmet_of unmet)) u.0.now };
 
-    #[tactic(auto, unfolding(crate::specs::Findings::unmet_json))]
-    fn fmt<W: fmt::Write>(&self, f: &mut fmt::Formatter<W>) -> fmt::Result {
-        let unmet = self.0;
+    fn count(&self) -> usize {
+        self.0.len()
+    }
+
+    #[tactic(auto, using(crate::proofs::ValueLemmas::value_at), unfolding(crate::specs::Findings::unmet_json))]
+    fn write<W: fmt::Write>(&self, place: usize, f: &mut fmt::Formatter<W>) -> fmt::Result {
+        let unmet = self.0[place];
         let asked = Text(unmet.asked.as_bytes());
         if unmet.never {
             let schedule = StepsValue(unmet.steps);
@@ -52,39 +54,16 @@ impl fmt::Display for UnmetValue<'_> {
     }
 }
 
-/// All of what isn't as it has to be.
+/// All that must never be so and is (`true`), or all that is required and isn't so, as an array.
 #[derive(Clone, Copy)]
-struct Unmets<'a>(&'a [Unmet<'a>]);
-
-impl Values for Unmets<'_> {
-    ghost values = { λ u. map unmet_json (map unmet_of u.0.now) };
-
-    fn count(&self) -> usize {
-        self.0.len()
-    }
-
-    fn write<W: fmt::Write>(&self, place: usize, f: &mut fmt::Formatter<W>) -> fmt::Result {
-        match self.0.get(place) {
-            Some(unmet) => UnmetValue(*unmet).fmt(f),
-            None => Ok(()),
-        }
-    }
-}
-
-/// All that must never be so and is, or all that is required and isn't so, as an array.
-#[derive(Clone, Copy)]
-pub(crate) struct UnmetArray<'a> {
-    pub alloc: Global,
-    pub answers: &'a Answers,
-    pub never: bool,
-}
+pub(crate) struct UnmetArray<'a>(pub Found<'a>, pub bool);
 
 impl fmt::Display for UnmetArray<'_> {
     ghost output = { λ u. Some
-        (array_json (map unmet_json (unmet_told u.never u.answers.now))) };
+        (array_json (map unmet_json (unmet_told u.1 u.0.answers.now))) };
 
     fn fmt<W: fmt::Write>(&self, f: &mut fmt::Formatter<W>) -> fmt::Result {
-        let answers = self.answers;
+        let Found { alloc, answers } = self.0;
         let judged = Judged {
             asked: &answers.asked,
             found: &answers.exploration,
@@ -92,7 +71,7 @@ impl fmt::Display for UnmetArray<'_> {
             faults: &answers.output_faults,
             ways: &answers.ways,
         };
-        let unmet = unmet_told(self.alloc, judged, self.never)?;
+        let unmet = unmet_told(alloc, judged, self.1)?;
         let values = Array(Unmets(&unmet));
         write!(f, "{values}")
     }

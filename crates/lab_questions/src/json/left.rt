@@ -5,11 +5,12 @@ ghost use Rattle.ipc_kernel.specs.Places.{place_at};
 ghost use Rattle.lab_questions.specs.LeftMembers.{place_json, left_member};
 ghost use Rattle.lab_questions.specs.ProcessMembers.{name_or_null, word_json, message_json};
 
-use crate::json::values::{Array, Listed, Text, Values, WordValue};
+use crate::json::values::{Array, Listed, Text, Values};
 use crate::left::{Left, lefts_of};
 use ipc_kernel::Kernel;
 use ipc_names::Name;
 use ipc_objects::Queue;
+use lc3_word::Hex;
 use std::alloc::Global;
 use std::fmt;
 use std::fmt::Display;
@@ -45,10 +46,8 @@ impl Values for Words<'_> {
 
     #[tactic(auto, using(crate::proofs::ValueLemmas::value_at))]
     fn write<W: fmt::Write>(&self, place: usize, f: &mut fmt::Formatter<W>) -> fmt::Result {
-        match self.0.get(place) {
-            Some(word) => WordValue(*word).fmt(f),
-            None => Ok(()),
-        }
+        let word = Hex(self.0[place]);
+        write!(f, "\"{word}\"")
     }
 }
 
@@ -67,7 +66,7 @@ impl Values for Messages<'_> {
         usize::from(count)
     }
 
-    #[tactic(auto, using(crate::proofs::ValueLemmas::value_at), unfolding(crate::specs::ProcessMembers::message_json))]
+    #[tactic(auto, using(crate::proofs::ValueLemmas::value_found), unfolding(crate::specs::ProcessMembers::message_json))]
     fn write<W: fmt::Write>(&self, place: usize, f: &mut fmt::Formatter<W>) -> fmt::Result {
         let Some((priority, words)) = self.queue.entry(place) else {
             return Ok(());
@@ -89,18 +88,14 @@ struct Places<'a> {
 }
 
 impl Values for Places<'_> {
-    ghost values = { λ p. map place_json
-        (map (λ l. place_at p.kernel.now.places l.place) p.lefts.now) };
+    ghost values = { λ p. map (λ l. place_json (place_at p.kernel.now.places l.place)) p.lefts.now };
 
     fn count(&self) -> usize {
         self.lefts.len()
     }
 
     fn write<W: fmt::Write>(&self, place: usize, f: &mut fmt::Formatter<W>) -> fmt::Result {
-        let Some(left) = self.lefts.get(place) else {
-            return Ok(());
-        };
-        let Some((name, queue)) = self.kernel.queue_at(left.place) else {
+        let Some((name, queue)) = self.kernel.queue_at(self.lefts[place].place) else {
             return Ok(());
         };
         Listed(Messages { name, queue }).fmt(f)

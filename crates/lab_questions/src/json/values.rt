@@ -1,7 +1,6 @@
 //! Values of JSON.
-ghost use Rattle.std.specs.Prelude.{◌≡◌, ℕ, List, [], Some, flat_map, length, slice_get, unwrap_or};
+ghost use Rattle.std.specs.Prelude.{◌≡◌, ◌<◌, ℕ, List, [], Some, flat_map, get_or, length};
 ghost use Rattle.std.specs.Fmt.{WritesOnOk};
-ghost use Rattle.lab_questions.specs.Private.Rows.{comma_before};
 ghost use Rattle.lab_questions.specs.ProcessMembers.{word_json};
 ghost use Rattle.lab_questions.specs.Values.{number_json, character_json, text_json, schedule_json, values_json, array_json, name_json};
 
@@ -109,19 +108,13 @@ pub(crate) trait Values {
     fn count(&self) -> usize
         ensures count { result ≡ length (values self.now) };
 
-    /// Writes the value in a place, if there is one.
+    /// Writes the value in a place.
     fn write<W: fmt::Write>(&self, place: usize, f: &mut fmt::Formatter<W>) -> fmt::Result
     where
         Self: Sized,
+        requires there { place < length (values self.now) }
         ensures value { WritesOnOk W.write_str_gives f.old result
-            (unwrap_or (slice_get (values self.now) place) []) f.new };
-}
-
-/// What stands before the value in a place.
-fn comma_before(place: usize) -> &'static str
-    ensures text { result.now ≡ comma_before place }
-{
-    if place > 0 { "," } else { "" }
+            (get_or (values self.now) place []) f.new };
 }
 
 /// Values with commas between them.
@@ -133,7 +126,7 @@ impl<V: Values> fmt::Display for Listed<V> {
 
     fn fmt<W: fmt::Write>(&self, f: &mut fmt::Formatter<W>) -> fmt::Result {
         for place in 0..self.0.count() {
-            let comma = comma_before(place);
+            let comma = if place > 0 { "," } else { "" };
             write!(f, "{comma}")?;
             self.0.write(place, f)?;
         }

@@ -1,6 +1,5 @@
-use Rattle.std.proofs.Common.{◌≡◌, ◌≤◌, ◌∙◌, ◌+◌, [], Some, ap, length, refl, slice_get, sym, unwrap_or}
-use Rattle.std.specs.Prelude.{option_map}
-use Rattle.std.proofs.Output.{has_written_of_eq, writes_in_calls_nil}
+use Rattle.std.proofs.Common.{◌≡◌, ◌≤◌, ◌∙◌, ◌+◌, None, Some, ap, length, slice_get, sym}
+use Rattle.std.proofs.Output.{has_written_of_eq}
 use Rattle.std.proofs.lemmas.Option.{MatchOption-at_none, slice_get_past}
 use Rattle.lab_worlds.proofs.Pushes.{got}
 use Rattle.lab_questions.specs.Findings.{end_or_null}
@@ -10,40 +9,26 @@ use Rattle.lab_questions.proofs.json.ends.EndsValues.write.Goals as goal
 
 pub returns-in_default : goal.returns-in_default
 returns-in_default g c =
-    let e = c.args.self.now in
-    let past : length e.numbers.now ≤ c.args.place = MatchOption-at_none _ _ (none_unless c.get.result c.in_default.not-Some) c.get.ensures.lookup.3 in
+    let a = c.args.self.now.0.answers.now in
+    let ends = c.deref.result.now in
+    let number = c.index.result.now in
+    let past : length ends ≤ number = MatchOption-at_none _ _ (none_unless c.get.result c.in_default.not-Some) c.get.ensures.lookup.3 in
+    let none : slice_get a.exploration.ends.items number ≡ None = ap (λ es. slice_get es number) (sym c.deref.ensures.value) ∙ slice_get_past ends number past in
     record {
       value = λ plain ok. has_written_of_eq _ _ _ _ _
-          (sym (ap (λ o. unwrap_or o []) (end_at e.show e.ends.now e.numbers.now c.args.place
-          ∙ ap (option_map (λ n. end_or_null e.show (c.args.place + 1) (slice_get e.ends.now n))) (slice_get_past e.numbers.now c.args.place past)))) (record { wrote = writes_in_calls_nil _ _; plain = plain });
-    }
-
-pub returns-in_default-get : goal.returns-in_default-get
-returns-in_default-get g c =
-    let e = c.args.self.now in
-    let number = c.in-Some.number.now in
-    let found = c.in-Some.ensures.lookup.3 in
-    let at : slice_get e.numbers.now c.args.place ≡ Some number = got e.numbers.now e.numbers.now c.args.place number refl found.0 (found.1 number) in
-    let past : length e.ends.now ≤ number = MatchOption-at_none _ _ (none_unless c.get-2.result c.in_default-get.not-Some) c.get-2.ensures.lookup.3 in
-    record {
-      value = λ plain ok. has_written_of_eq _ _ _ _ _
-          (sym (ap (λ o. unwrap_or o []) (end_at e.show e.ends.now e.numbers.now c.args.place
-          ∙ ap (option_map (λ n. end_or_null e.show (c.args.place + 1) (slice_get e.ends.now n))) at)
-          ∙ ap (end_or_null e.show (c.args.place + 1)) (slice_get_past e.ends.now number past))) (c.write.ensures.writes plain ok);
+          (sym (end_at a.asked.show a.exploration.ends.items a.told.items c.args.place number c.requires.there c.index.ensures
+          ∙ ap (end_or_null a.asked.show (c.args.place + 1)) none)) (c.write.ensures.writes plain ok);
     }
 
 pub returns : goal.returns
 returns g c =
-    let e = c.args.self.now in
-    let number = c.in-Some.number.now in
-    let end = c.in-Some-get.end.now in
+    let a = c.args.self.now.0.answers.now in
+    let number = c.index.result.now in
+    let end = c.in-Some.end.now in
     let found = c.in-Some.ensures.lookup.3 in
-    let there = c.in-Some-get.ensures.lookup.3 in
-    let at : slice_get e.numbers.now c.args.place ≡ Some number = got e.numbers.now e.numbers.now c.args.place number refl found.0 (found.1 number) in
-    let is : slice_get e.ends.now number ≡ Some end = got e.ends.now e.ends.now number end refl there.0 (there.1 end) in
+    let there : slice_get a.exploration.ends.items number ≡ Some end = got c.deref.result.now a.exploration.ends.items number end c.deref.ensures.value found.0 (found.1 end) in
     record {
       value = λ plain ok. has_written_of_eq _ _ _ _ _
-          (sym (ap (λ o. unwrap_or o []) (end_at e.show e.ends.now e.numbers.now c.args.place
-          ∙ ap (option_map (λ n. end_or_null e.show (c.args.place + 1) (slice_get e.ends.now n))) at)
-          ∙ ap (end_or_null e.show (c.args.place + 1)) is)) (c.fmt.ensures.writes plain ok);
+          (sym (end_at a.asked.show a.exploration.ends.items a.told.items c.args.place number c.requires.there c.index.ensures
+          ∙ ap (end_or_null a.asked.show (c.args.place + 1)) there)) (c.fmt.ensures.writes plain ok);
     }
