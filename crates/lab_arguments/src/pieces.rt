@@ -128,12 +128,9 @@ pub(crate) fn outputs_in<'a>(alloc: Global, values: &[&'a str]) -> Result<Vec<&'
     ensures outputs { IfOk result (λ found. map (λ p. p.now) found.items
         ≡ outputs_in (map (λ v. v.now) values.now)) }
 {
-    let pieces = pieces_of(alloc, values)?;
-    pieces
-        .iter()
-        .copied()
-        .filter(|piece| is_output(piece))
-        .collect(alloc)
+    let mut pieces = pieces_of(alloc, values)?;
+    pieces.retain(|piece| is_output(piece));
+    Ok(pieces)
 }
 
 /// The words of the values of `--require`: what stands between commas and says nothing of outputs or calls.
@@ -141,10 +138,7 @@ pub fn required_words<'a>(alloc: Global, values: &[&'a str]) -> Result<Vec<&'a s
     ensures words { IfOk result (λ found. map (λ p. p.now) found.items
         ≡ words_in (map (λ v. v.now) values.now)) }
 {
-    let pieces = pieces_of(alloc, values)?;
-    pieces
-        .iter()
-        .copied()
-        .filter(|piece| !is_output(piece))
-        .collect(alloc)
+    let mut pieces = pieces_of(alloc, values)?;
+    pieces.retain(|piece| !is_output(piece));
+    Ok(pieces)
 }
