@@ -1,7 +1,7 @@
 //! What the words of the commands ask for.
-ghost use Rattle.std.specs.Prelude.{◌≡◌, None, Some, codes};
-ghost use Rattle.clap.specs.Words.{found_of, one_text};
-ghost use Rattle.lab_arguments.specs.Private.Options.{ForNumber};
+ghost use Rattle.std.specs.Prelude.{◌≡◌, codes};
+ghost use Rattle.clap.specs.Words.{found_of};
+ghost use Rattle.lab_arguments.specs.Private.Options.{ForNumber, IsNumberOf};
 
 use crate::MOST_STEPS_EACH;
 use crate::exploring::explore_request;
@@ -77,8 +77,7 @@ fn page_of<'a>(alloc: Global, words: &ArgMatches<'a>) -> Result<Option<Page<'a>>
 
 fn manner_of<'a>(words: &ArgMatches<'a>) -> Manner<'a>
     ensures limit { ForNumber (found_of words.now) (codes "limit") (λ n. result.limit ≡ n) }
-    ensures no_pauses { one_text (found_of words.now) (codes "mix") ≡ None → result.mix ≡ None }
-    ensures pauses { ForNumber (found_of words.now) (codes "mix") (λ n. result.mix ≡ Some n) }
+    ensures pauses { IsNumberOf (found_of words.now) (codes "mix") result.mix }
 {
     Manner {
         limit: number_or(words, "limit", MOST_STEPS_EACH),

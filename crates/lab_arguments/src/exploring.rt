@@ -1,7 +1,7 @@
 //! The command `explore`, and what its words ask for.
 ghost use Rattle.std.specs.Prelude.{◌≡◌, ℕ, List, None, Some, false, IfOk, codes, map};
-ghost use Rattle.clap.specs.Words.{first_value, found_of, one_text};
-ghost use Rattle.lab_arguments.specs.Private.Options.{ForNumber, usual_worlds, values_in};
+ghost use Rattle.clap.specs.Words.{first_value, found_of};
+ghost use Rattle.lab_arguments.specs.Private.Options.{usual_worlds, values_in, ForNumber, IsNumberOf, IsNumberOr};
 ghost use Rattle.lab_arguments.specs.Pieces.{words_in};
 ghost use Rattle.lab_arguments.specs.Private.Requirements.{nothing, outputs_in, words_of, AreRequired, AreShown};
 ghost use Rattle.lab_arguments.specs.declared.question.Choice.TheVariants.{End};
@@ -62,26 +62,17 @@ fn choice_of<'a>(
 
 fn question_of<'a>(alloc: Global, words: &ArgMatches<'a>) -> Result<Question<'a>, Refusal>
     ensures worlds { IfOk result (λ q.
-        ForNumber (found_of words.now) (codes "worlds") (λ n. q.worlds ≡ n)) }
-    ensures usual_worlds { IfOk result (λ q.
-        one_text (found_of words.now) (codes "worlds") ≡ None
-        → q.worlds ≡ usual_worlds q.random) }
+        IsNumberOr (found_of words.now) (codes "worlds") (usual_worlds q.random) q.worlds) }
     ensures memory { IfOk result (λ q.
         ForNumber (found_of words.now) (codes "memory") (λ n. q.memory ≡ n)) }
     ensures steps { IfOk result (λ q.
         ForNumber (found_of words.now) (codes "limit") (λ n. q.steps ≡ n)) }
-    ensures all_threads { IfOk result (λ q.
-        one_text (found_of words.now) (codes "threads") ≡ None → q.threads ≡ None) }
     ensures threads { IfOk result (λ q.
-        ForNumber (found_of words.now) (codes "threads") (λ n. q.threads ≡ Some n)) }
-    ensures no_walks { IfOk result (λ q.
-        one_text (found_of words.now) (codes "random") ≡ None → q.random ≡ None) }
+        IsNumberOf (found_of words.now) (codes "threads") q.threads) }
     ensures walks { IfOk result (λ q.
-        ForNumber (found_of words.now) (codes "random") (λ n. q.random ≡ Some n)) }
+        IsNumberOf (found_of words.now) (codes "random") q.random) }
     ensures seed { IfOk result (λ q.
-        ForNumber (found_of words.now) (codes "seed") (λ n. q.seed ≡ n)) }
-    ensures usual_seed { IfOk result (λ q.
-        one_text (found_of words.now) (codes "seed") ≡ None → q.seed ≡ 1) }
+        IsNumberOr (found_of words.now) (codes "seed") 1 q.seed) }
     ensures schedule { IfOk result (λ q.
         ForNumber (found_of words.now) (codes "schedule") (λ n. q.schedule ≡ Some (End n))) }
     ensures trace { IfOk result (λ q.

@@ -3,7 +3,7 @@ ghost use Rattle.std.specs.Prelude.{◌≡◌, ◌≤◌, None, Some, IfOk, code
 ghost use Rattle.std.specs.List.{count_by};
 ghost use Rattle.clap.specs.Words.{first_value, found_of, one_text};
 ghost use Rattle.lc3_table.specs.declared.profile.Profile.TheVariants.{A, B};
-ghost use Rattle.lab_arguments.specs.Private.Options.{ForNumber, most_inputs};
+ghost use Rattle.lab_arguments.specs.Private.Options.{most_inputs, IsNumberOf, IsNumberOr};
 ghost use Rattle.lab_arguments.specs.Programs.{takes_input};
 ghost use Rattle.lab_arguments.specs.declared.request.Notes.TheVariants.{Shown, Hidden};
 
@@ -16,16 +16,14 @@ use std::alloc::{AllocError, Global};
 
 /// The number that the words give to an option of this name, where they give one.
 pub(crate) fn number_of(words: &ArgMatches<'_>, name: &str) -> Option<u32>
-    ensures none { one_text (found_of words.now) name.now ≡ None → result ≡ None }
-    ensures some { ForNumber (found_of words.now) name.now (λ n. result ≡ Some n) }
+    ensures number { IsNumberOf (found_of words.now) name.now result }
 {
     words.get_one::<u32>(name)
 }
 
 /// The number that the words give to an option of this name, or the usual one where they give none.
 pub(crate) fn number_or(words: &ArgMatches<'_>, name: &str, usual: u32) -> u32
-    ensures usual { one_text (found_of words.now) name.now ≡ None → result ≡ usual }
-    ensures given { ForNumber (found_of words.now) name.now (λ n. result ≡ n) }
+    ensures number { IsNumberOr (found_of words.now) name.now usual result }
 {
     number_of(words, name).unwrap_or(usual)
 }

@@ -15,6 +15,14 @@ IsNumber text n =
 abbrev pub ForNumber : Found → List ℕ → (ℕ → Type 0) → Type 0
 ForNumber found name P = (text : List ℕ) (n : ℕ) → one_text found name ≡ Some text → IsNumber text n → P n
 
+-- this is the number that the words give to an option of this name, or none where they give none
+abbrev pub IsNumberOf : Found → List ℕ → Option ℕ → Type 0
+IsNumberOf found name given = (one_text found name ≡ None → given ≡ None) × ForNumber found name (λ n. given ≡ Some n)
+
+-- this is the number that they give, or the usual one where they give none
+abbrev pub IsNumberOr : Found → List ℕ → ℕ → ℕ → Type 0
+IsNumberOr found name usual given = (one_text found name ≡ None → given ≡ usual) × ForNumber found name (λ n. given ≡ n)
+
 -- the values of an option of this name, in their order
 abbrev pub values_in : Found → List ℕ → List (List ℕ)
 values_in found name = unwrap_or (option_map raw_values (matched_of found name)) []
