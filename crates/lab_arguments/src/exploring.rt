@@ -8,15 +8,13 @@ ghost use Rattle.lab_arguments.specs.declared.question.Choice.TheVariants.{End};
 
 use crate::misuse::Misuse;
 use crate::options::{number_of, number_or, setup_of, values_of};
-use crate::pieces::outputs_in;
+use crate::pieces::{outputs_in, required_words};
 use crate::question::{Choice, Question};
 use crate::request::{Refusal, Request};
-use crate::requirements::{Requirements, refused_in, requirements_of, shown_by, words_of};
+use crate::requirements::{Requirements, refused_in, required_by, shown_by, words_of};
 use crate::{MOST_LOCAL_STEPS, MOST_MEMORY, MOST_WORLDS};
 use clap::ArgMatches;
 use std::alloc::{AllocError, Global};
-
-const USUAL_SEED: u32 = 1;
 
 /// The most worlds to visit where the words don't say, or those of a walk, if so many are taken.
 fn usual_worlds(random: Option<u32>) -> u32
@@ -35,7 +33,7 @@ fn required_of<'a>(alloc: Global, words: &ArgMatches<'a>) -> Result<Requirements
         AreRequired (words_in (values_in (found_of words.now) (codes "require"))) r) }
 {
     let values = words.get_strs("require").unwrap_or_default();
-    match requirements_of(alloc, values)? {
+    match required_by(&required_words(alloc, values)?) {
         Some(required) => Ok(required),
         None => {
             Err(Misuse::Value(refused_in(alloc, values)?, "require", "WORDS").refusal(alloc))
@@ -115,7 +113,7 @@ fn question_of<'a>(alloc: Global, words: &ArgMatches<'a>) -> Result<Question<'a>
         left,
         first: words.get_flag("first"),
         random,
-        seed: number_or(words, "seed", USUAL_SEED),
+        seed: number_or(words, "seed", 1),
         schedule,
         trace,
         json: words.get_flag("json"),

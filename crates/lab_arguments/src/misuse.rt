@@ -4,7 +4,6 @@ use crate::shown::Shown;
 use std::alloc::Global;
 use std::fmt;
 
-/// What is wrong with words that the parser of commands takes one by one.
 #[derive(Clone, Copy)]
 pub(crate) enum Misuse<'a> {
     /// A value that can't be that of the option of this name, which takes this.

@@ -8,7 +8,7 @@ ghost use Rattle.lab_arguments.specs.Programs.{takes_input};
 ghost use Rattle.lab_arguments.specs.declared.request.Notes.TheVariants.{Shown, Hidden};
 
 use crate::misuse::Misuse;
-use crate::programs::{most_inputs, takes_input};
+use crate::programs::takes_input;
 use crate::request::{Notes, Refusal, Setup};
 use clap::ArgMatches;
 use lc3_table::Profile;
@@ -77,7 +77,7 @@ pub(crate) fn setup_of<'a>(
     };
     let programs = values_of(alloc, words, "PROGRAM")?;
     let mut taking = programs.iter().copied().filter(|word| takes_input(word));
-    match taking.nth(most_inputs(held)) {
+    match taking.nth(usize::from(held.is_none())) {
         Some(word) => Err(Misuse::Input(word, held).refusal(alloc)),
         None => Ok(Setup {
             programs,

@@ -22,23 +22,16 @@ pub fn read_words<'a>(
 ) -> Result<Request<'a>, Refusal> {
     match program(alloc, row)?.try_get_matches_from(words) {
         Ok(matches) => request_of(alloc, &matches),
-        Err(error) => Err(refusal_of(alloc, &shown_error(alloc, row, words, error)?)),
+        Err(error) => {
+            // the error repeats the words in its text: here as messages show them
+            let shown: Vec<String> = words
+                .iter()
+                .map(|word| Shown(word).to_string(alloc))
+                .try_collect(alloc)?;
+            let again = program(alloc, row)?.try_get_matches_from(shown.as_slice());
+            Err(refusal_of(alloc, &again.err().unwrap_or(error)))
+        }
     }
-}
-
-/// The parser's error about words, with the words as messages show them: it repeats them in its text.
-fn shown_error(
-    alloc: Global,
-    row: &ProgramRow,
-    words: &[String],
-    error: Error,
-) -> Result<Error, AllocError> {
-    let shown: Vec<String> = words
-        .iter()
-        .map(|word| Shown(word).to_string(alloc))
-        .try_collect(alloc)?;
-    let again = program(alloc, row)?.try_get_matches_from(shown.as_slice());
-    Ok(again.err().unwrap_or(error))
 }
 
 fn refusal_of(alloc: Global, error: &Error) -> Refusal

@@ -1,7 +1,6 @@
 //! The words that name programs.
 ghost use Rattle.std.specs.Prelude.{◌≡◌, List, ℕ, true, false};
 ghost use Rattle.std.specs.Borrow.{Bor};
-ghost use Rattle.lab_arguments.specs.Private.Options.{most_inputs};
 ghost use Rattle.lab_arguments.specs.Programs.{file_of, input_of, takes_input};
 ghost use Rattle.lab_arguments.specs.declared.programs.Console.TheVariants.{File, Standard};
 
@@ -38,15 +37,5 @@ pub fn takes_input(word: &str) -> bool
     match word.split_once('=') {
         Some((_, input)) => input == "-",
         None => false,
-    }
-}
-
-/// Of how many processes standard input can be the console input, which holds that, or else nothing of its own.
-pub(crate) fn most_inputs(held: Option<&'static str>) -> usize
-    ensures most { result ≡ most_inputs held.entry }
-{
-    match held {
-        None => 1,
-        Some(_) => 0,
     }
 }

@@ -1,6 +1,5 @@
 //! The words of `--require` and of `--show`.
 ghost use Rattle.std.specs.Prelude.{◌≡◌, ◌<◌, Bool, None, IfOk, IfSome, map};
-ghost use Rattle.lab_arguments.specs.Pieces.{words_in};
 ghost use Rattle.lab_arguments.specs.Private.Requirements.{how_often, once_if, words_of, AreRequired, AreShown};
 
 use crate::pieces::required_words;
@@ -81,7 +80,7 @@ fn stands(word: &str, words: &[&str]) -> Option<bool>
 }
 
 /// What words require, each of them once, and one of `ended`, `stuck` and `halted` at most.
-fn required_by(words: &[&str]) -> Option<Requirements>
+pub(crate) fn required_by(words: &[&str]) -> Option<Requirements>
     ensures some { IfSome result (λ r. AreRequired (map (λ w. w.now) words.now) r) }
     ensures none { result ≡ None → (r : Requirements)
         → AreRequired (map (λ w. w.now) words.now) r → ⊥ }
@@ -109,30 +108,14 @@ fn required_by(words: &[&str]) -> Option<Requirements>
     Some(Requirements { rest, empty, same })
 }
 
-/// What the words of some values require.
-pub(crate) fn requirements_of(
-    alloc: Global,
-    values: &[&str],
-) -> Result<Option<Requirements>, AllocError>
-    ensures some { IfOk result (λ found. IfSome found (λ r.
-        AreRequired (words_in (map (λ v. v.now) values.now)) r)) }
-    ensures none { IfOk result (λ found. found ≡ None → (r : Requirements)
-        → AreRequired (words_in (map (λ v. v.now) values.now)) r → ⊥) }
-{
-    let words = required_words(alloc, values)?;
-    Ok(required_by(&words))
-}
-
 /// The first value whose words are refused by themselves, or else the last one.
 pub(crate) fn refused_in<'a>(alloc: Global, values: &[&'a str]) -> Result<&'a str, AllocError> {
-    let mut last = "";
     for value in values {
-        last = value;
-        if requirements_of(alloc, &[last])?.is_none() {
-            return Ok(last);
+        if required_by(&required_words(alloc, &[value])?).is_none() {
+            return Ok(value);
         }
     }
-    Ok(last)
+    Ok(values.last().copied().unwrap_or_default())
 }
 
 /// Whether `out` and `left` stand among words, if these are no others, and each is there once.

@@ -4,8 +4,6 @@ use clap::builder::ValueParser;
 use clap::{Arg, ArgAction, Command};
 use std::alloc::{AllocError, Global};
 
-const PROFILES: &[&str] = &["a", "b"];
-
 const WARNINGS: &[&str] = &[
     "wraps",
     "unknown-trap",
@@ -54,7 +52,7 @@ fn arg_of<'a>(alloc: Global, row: &Row) -> Result<Arg<'a>, AllocError> {
         Takes::Usually(value, most, usual) => up_to(alloc, row, value, most).default_value(usual),
         Takes::Number(value) => option(alloc, row, value).value_parser(clap::value_parser!(u32)),
         Takes::Profile => option(alloc, row, "PROFILE")
-            .value_parser(ValueParser::Names(PROFILES))
+            .value_parser(ValueParser::Names(&["a", "b"]))
             .default_value("a"),
         Takes::Warnings => option(alloc, row, "WARNING")
             .value_parser(ValueParser::Names(WARNINGS))
