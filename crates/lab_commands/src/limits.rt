@@ -91,7 +91,6 @@ pub fn standing_at(
     })
 }
 
-/// What a process does in its turn.
 enum Turn {
     /// It has called the kernel, or has ended.
     Calls,

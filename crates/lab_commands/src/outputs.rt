@@ -19,7 +19,6 @@ pub(crate) fn needs_of<'a>(
         .try_collect(alloc)
 }
 
-/// What a word requires of the outputs of so many processes.
 pub(crate) fn need_in<'a>(
     alloc: Global,
     word: &'a str,

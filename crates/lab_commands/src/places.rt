@@ -5,81 +5,51 @@ use ipc_traps::Service;
 use lab_questions::call_count;
 use lc3_word::unsigned;
 
+/// Where a word stands. Behind which words a place is, if no comment says what begins there, `STEPS` tells.
 #[derive(Clone, Copy)]
 pub(crate) enum Place {
     /// At the beginning of a condition.
     Start,
-    /// Behind an `and`.
     Part,
-    /// Behind `sem` or `mq`.
     Name,
-    /// Behind a name.
     Sign,
-    /// Behind `>`, `<` or `=`.
     Number,
-    /// Behind a process with which the condition begins.
     First,
-    /// Behind another process.
     State,
-    /// Behind the `at` of a process.
     Address,
-    /// Behind the `at` of no process.
     Anywhere,
-    /// Behind the state of no process.
     Many,
-    /// Behind a part that is whole.
     And,
-    /// Behind `refused`.
     Error,
-    /// Behind a condition that is whole.
     Nothing,
     /// At the beginning of the words for a process that may wait.
     Waiter,
-    /// Behind the process that may wait.
     At,
-    /// Behind the `at` of a process that may wait.
     WaitsAt,
-    /// At the beginning of what must be so of calls, and behind a process there.
+    /// At the beginning of what must be so of calls.
     Caller,
     Verb,
-    /// Behind `calls`.
     Calls,
-    /// Behind `in`.
     Order,
-    /// Where a call stands.
     Call,
-    /// Where a call may stand behind another.
     List,
-    /// Behind the only call.
     Called,
-    /// Behind the only call and its object.
     On,
-    /// Behind `>=`.
     Count,
-    /// Behind `holds`, and behind `and`.
     Held,
-    /// Behind a name that is held.
     HeldAnd,
-    /// Behind how often something is called.
     Counted,
-    /// At the beginning of what must never be called, and behind a process there.
+    /// At the beginning of what must never be called.
     NeverCaller,
     NeverVerb,
-    /// Behind `calls`.
     NeverCalls,
-    /// Behind `other`.
     Than,
-    /// Behind one of some calls, of which `or` may be between.
     Or,
     /// At the beginning of what is required of an output.
     Output,
-    /// Behind `out`.
     Writer,
-    /// Behind the process that writes.
     Relation,
-    /// Behind the relation.
     Text,
-    /// Behind a text.
     Joint,
 }
 
@@ -105,12 +75,6 @@ const OBJECTS: &[&str] = &["sem", "mq"];
 
 const STATES: &[&str] = &["blocked", "ended", "crashed"];
 
-const SIGNS: &[&str] = &[">", "<", "="];
-
-const RELATIONS: &[&str] = &["=", "has"];
-
-const JOINTS: &[&str] = &["and", "or"];
-
 /// What may stand at each place, and the place behind it.
 const STEPS: &[(Place, Kind, Place)] = &[
     (Place::Start, Kind::Word("lost"), Place::Nothing),
@@ -124,7 +88,7 @@ const STEPS: &[(Place, Kind, Place)] = &[
     (Place::Part, Kind::Word("at"), Place::Anywhere),
     (Place::Part, Kind::Process, Place::State),
     (Place::Name, Kind::Name, Place::Sign),
-    (Place::Sign, Kind::OneOf(SIGNS), Place::Number),
+    (Place::Sign, Kind::OneOf(&[">", "<", "="]), Place::Number),
     (Place::Number, Kind::Number, Place::And),
     (Place::First, Kind::Word("refused"), Place::Error),
     (Place::First, Kind::OneOf(STATES), Place::And),
@@ -167,8 +131,8 @@ const STEPS: &[(Place, Kind, Place)] = &[
     (Place::Or, Kind::Name, Place::Or),
     (Place::Output, Kind::Word("out"), Place::Writer),
     (Place::Writer, Kind::Process, Place::Relation),
-    (Place::Relation, Kind::OneOf(RELATIONS), Place::Text),
-    (Place::Joint, Kind::OneOf(JOINTS), Place::Output),
+    (Place::Relation, Kind::OneOf(&["=", "has"]), Place::Text),
+    (Place::Joint, Kind::OneOf(&["and", "or"]), Place::Output),
 ];
 
 impl Place {

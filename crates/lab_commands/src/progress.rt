@@ -35,7 +35,6 @@ pub struct StepCount<'a, P> {
 }
 
 impl<'a, P: Progress> StepCount<'a, P> {
-    /// Of `total` steps none is done.
     pub fn new(alloc: Global, progress: &'a P, total: u32) -> StepCount<'a, P> {
         StepCount {
             alloc,
@@ -98,7 +97,6 @@ pub struct SearchCount<'a, P> {
 }
 
 impl<'a, P: Progress> SearchCount<'a, P> {
-    /// None is done.
     pub fn new(alloc: Global, progress: &'a P, counted: Counted) -> SearchCount<'a, P> {
         SearchCount {
             alloc,
@@ -143,7 +141,6 @@ pub struct CallCount<'a, P, G> {
 }
 
 impl<'a, P: Progress, G: Gate> CallCount<'a, P, G> {
-    /// No call has come.
     pub fn new(alloc: Global, progress: &'a P, gate: &'a G) -> CallCount<'a, P, G> {
         CallCount {
             alloc,
