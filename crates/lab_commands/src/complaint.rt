@@ -9,44 +9,39 @@ use std::io::Write;
 use thiserror::Error;
 
 /// What is wrong with the words of the command line, as the files and the programs show that they name.
-#[derive(Clone, Copy, Debug)]
+#[derive(Clone, Copy, Debug, Error)]
 pub enum Misuse {
+    #[error("OBJECT is the file of SOURCE")]
     SameFile,
+    #[error("FILE is a file of the run")]
     OwnFile,
+    #[error("a source has such a name, and nothing is written there")]
     SourceName,
+    #[error("--source names no process of the run")]
     UnknownProcess,
+    #[error("--source names a process twice")]
     TwoSources,
+    #[error("--require is no condition on an output")]
     NoOutput,
+    #[error("--require is no condition on calls")]
     NoCalls,
+    #[error("--require names no process of the run")]
     NoSuchWriter,
+    #[error("--may-wait is no process")]
     NoWaiter,
+    #[error("--may-wait names no process of the run")]
     NoSuchWaiter,
+    #[error("--never is no condition")]
     NoCondition,
+    #[error("--never names no process of the run")]
     NoSuchProcess,
+    #[error("--may-wait doesn't fit the programs")]
     UnfitWaiter,
+    #[error("--never doesn't fit the programs")]
     UnfitCondition,
 }
 
 impl Misuse {
-    fn text(self) -> &'static str {
-        match self {
-            Misuse::SameFile => "OBJECT is the file of SOURCE",
-            Misuse::OwnFile => "FILE is a file of the run",
-            Misuse::SourceName => "a source has such a name, and nothing is written there",
-            Misuse::UnknownProcess => "--source names no process of the run",
-            Misuse::TwoSources => "--source names a process twice",
-            Misuse::NoOutput => "--require is no condition on an output",
-            Misuse::NoCalls => "--require is no condition on calls",
-            Misuse::NoSuchWriter => "--require names no process of the run",
-            Misuse::NoWaiter => "--may-wait is no process",
-            Misuse::NoSuchWaiter => "--may-wait names no process of the run",
-            Misuse::NoCondition => "--never is no condition",
-            Misuse::NoSuchProcess => "--never names no process of the run",
-            Misuse::UnfitWaiter => "--may-wait doesn't fit the programs",
-            Misuse::UnfitCondition => "--never doesn't fit the programs",
-        }
-    }
-
     /// The complaint about the word that is misused.
     pub fn of(self, word: &str) -> Complaint<'_> {
         Complaint::saying(word, Text::Misuse(self))
@@ -97,7 +92,6 @@ impl<T, E: Display + Drop> At<T> for Result<T, E> {
     }
 }
 
-/// What is said of a fault.
 #[derive(Drop)]
 enum Text {
     Misuse(Misuse),
@@ -108,7 +102,7 @@ enum Text {
 impl Display for Text {
     fn fmt<W: fmt::Write>(&self, f: &mut fmt::Formatter<W>) -> fmt::Result {
         match self {
-            Text::Misuse(misuse) => f.write_str(misuse.text()),
+            Text::Misuse(misuse) => misuse.fmt(f),
             Text::Reason(reason) => reason.fmt(f),
             Text::Made(text) => f.write_str(text),
         }
