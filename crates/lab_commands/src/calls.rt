@@ -1,5 +1,5 @@
 //! What is asked of calls, read from words.
-ghost use Rattle.std.specs.Prelude.{◌≡◌, ◌++◌, List, true, false, map, All, IfOk, OnOk};
+ghost use Rattle.std.specs.Prelude.{◌≡◌, ◌++◌, List, map, All, IfOk, OnOk};
 ghost use Rattle.lab_ways.specs.declared.wanted.Wanted.{Wanted as Asked};
 ghost use Rattle.lab_commands.specs.Private.Inquiries.{AsksSo, IsAskedOfCalls};
 
@@ -11,70 +11,45 @@ use lab_questions::{CallWord, read_calls};
 use lab_ways::Wanted;
 use std::alloc::Global;
 
-/// What is asked of calls, as it was written, and what has to be so on every way.
-#[derive(Drop)]
-pub(crate) struct Calls {
-    pub words: Vec<CallWord>,
-    pub wanted: Vec<Wanted>,
-}
-
-/// What the words of `--require` and those of `--never` ask of the calls of so many processes.
-pub(crate) fn calls_of<'a>(
-    alloc: Global,
-    required: &[&'a str],
-    never: &[&'a str],
-    count: usize,
-) -> Result<Calls, Complaint<'a>>
-    ensures required { IfOk result (λ calls.
-        All (IsAskedOfCalls false calls.wanted.items) (map (λ word. word.now) required.now)) }
-    ensures never { IfOk result (λ calls.
-        All (IsAskedOfCalls true calls.wanted.items) (map (λ word. word.now) never.now)) }
-{
-    let mut calls = Calls {
-        words: Vec::new(alloc),
-        wanted: Vec::new(alloc),
-    };
-    push_calls(alloc, &mut calls, required, false, count)?;
-    push_calls(alloc, &mut calls, never, true, count)?;
-    Ok(calls)
-}
-
-fn push_calls<'a>(
-    alloc: Global,
-    calls: &mut Calls,
+/// Adds what words of `--require`, or of `--never`, ask of the calls of so many processes: as they say it, and as what has to be
+/// so on every way.
+pub(crate) fn push_calls<'a>(
+    texts: &mut Vec<CallWord>,
+    wanted: &mut Vec<Wanted>,
     words: &[&'a str],
     never: bool,
     count: usize,
 ) -> Result<(), Complaint<'a>>
     ensures more { OnOk result ((more : List Asked)
-        × (calls.new.wanted.items ≡ calls.old.wanted.items ++ more)) }
+        × (wanted.new.items ≡ wanted.old.items ++ more)) }
     ensures each { OnOk result (
-        All (IsAskedOfCalls never calls.new.wanted.items) (map (λ word. word.now) words.now)) }
+        All (IsAskedOfCalls never wanted.new.items) (map (λ word. word.now) words.now)) }
 {
     for word in words {
-        push_call(alloc, calls, word, never, count)?;
+        push_call(texts, wanted, word, never, count)?;
     }
     Ok(())
 }
 
 #[tactic(auto, using(crate::proofs::AskedLemmas::called_last))]
 fn push_call<'a>(
-    alloc: Global,
-    calls: &mut Calls,
+    texts: &mut Vec<CallWord>,
+    wanted: &mut Vec<Wanted>,
     word: &'a str,
     never: bool,
     count: usize,
 ) -> Result<(), Complaint<'a>>
     ensures more { OnOk result ((more : List Asked)
-        × (calls.new.wanted.items ≡ calls.old.wanted.items ++ more)) }
-    ensures asked { OnOk result (IsAskedOfCalls never calls.new.wanted.items word.now) }
+        × (wanted.new.items ≡ wanted.old.items ++ more)) }
+    ensures asked { OnOk result (IsAskedOfCalls never wanted.new.items word.now) }
 {
     if !is_of_calls(word) {
         return Ok(());
     }
-    calls.wanted.push(wanted_in(alloc, word, never, count)?)?;
+    let alloc = *wanted.allocator();
+    wanted.push(wanted_in(alloc, word, never, count)?)?;
     let text = String::from_str(alloc, word)?;
-    calls.words.push(CallWord { text, never })?;
+    texts.push(CallWord { text, never })?;
     Ok(())
 }
 

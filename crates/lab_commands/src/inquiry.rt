@@ -4,7 +4,7 @@ ghost use Rattle.lab_conditions.specs.declared.never.Never.{Never as Condemned};
 ghost use Rattle.lab_commands.specs.Private.Inquiries.{required_words, IsAsked, IsAskedOfCalls};
 
 use crate::advice::{line_on, meant_by};
-use crate::calls::{calls_of, wanted_in};
+use crate::calls::{push_calls, wanted_in};
 use crate::complaint::{Complaint, Misuse};
 use crate::labels::{Unresolved, reversed};
 use crate::outputs::{need_in, needs_of};
@@ -12,7 +12,7 @@ use crate::places::Place;
 use crate::resolving::{outlined, resolved, spread};
 use lab_arguments::{Choice, Question, Requirements, Rest, is_of_calls};
 use lab_conditions::{Condition, Never, Part, ReadFault, State};
-use lab_questions::{Asked, OutputNeed, Reach, Show, Waiter, Word};
+use lab_questions::{Asked, Reach, Show, Waiter, Word};
 use lab_sources::Source;
 use lab_worlds::{Limits, Walks};
 use lc3_word::unsigned;
@@ -76,51 +76,35 @@ pub fn asked_of<'a>(
     ensures out { IfOk result (λ asked. asked.show.out ≡ question.now.out) }
     ensures left { IfOk result (λ asked. asked.show.left ≡ question.now.left) }
 {
-    let demands = demands_in(alloc, question, sources)?;
-    let calls = calls_of(
-        alloc,
-        question.outputs.as_slice(),
-        question.never.as_slice(),
-        sources.len(),
-    )?;
-    Ok(Asked {
+    let count = sources.len();
+    let outputs = question.outputs.as_slice();
+    let never = question.never.as_slice();
+    let mut asked = Asked {
         words: words_required(alloc, question.required)?,
-        outputs: demands.outputs,
-        waiters: demands.waiters,
-        never: demands.never,
-        call_words: calls.words,
-        wanted: calls.wanted,
+        outputs: Vec::new(alloc),
+        waiters: Vec::new(alloc),
+        never: Vec::new(alloc),
+        call_words: Vec::new(alloc),
+        wanted: Vec::new(alloc),
         fair: question.fair,
         show: Show {
             out: question.out,
             left: question.left,
         },
         plain: !question.asks_more(),
-    })
-}
-
-#[derive(Drop)]
-struct ProcessDemands {
-    outputs: Vec<OutputNeed>,
-    waiters: Vec<Waiter>,
-    never: Vec<Never>,
-}
-
-fn demands_in<'a>(
-    alloc: Global,
-    question: &Question<'a>,
-    sources: &[Option<Source>],
-) -> Result<ProcessDemands, Complaint<'a>>
-    ensures waiters { IfOk result (λ demands.
-        length demands.waiters.items ≡ length question.now.waiters.items) }
-    ensures never { IfOk result (λ demands.
-        All (IsAsked demands.never.items) (map (λ word. word.now) question.now.never.items)) }
-{
-    Ok(ProcessDemands {
-        outputs: needs_of(alloc, question.outputs.as_slice(), sources.len())?,
-        waiters: waiters_of(alloc, question.waiters.as_slice(), sources)?,
-        never: nevers_of(alloc, question.never.as_slice(), sources)?,
-    })
+    };
+    asked.outputs = needs_of(alloc, outputs, count)?;
+    asked.waiters = waiters_of(alloc, question.waiters.as_slice(), sources)?;
+    asked.never = nevers_of(alloc, never, sources)?;
+    push_calls(
+        &mut asked.call_words,
+        &mut asked.wanted,
+        outputs,
+        false,
+        count,
+    )?;
+    push_calls(&mut asked.call_words, &mut asked.wanted, never, true, count)?;
+    Ok(asked)
 }
 
 /// Refuses a question that can't be asked of so many processes, whatever their labels are.
@@ -265,24 +249,14 @@ fn push_nevers(
         }
         Err(ReadFault::NoCondition) if is_of_calls(word) => Ok(()),
         Err(ReadFault::NoCondition) => {
-            nevers.append(&mut labelled(alloc, sources, word)?)?;
+            let texts = spread(alloc, sources, word)?;
+            let read = texts.iter().map(|text| never_in(alloc, sources, text));
+            let mut labelled: Vec<Never> = read.try_collect(alloc)?;
+            nevers.append(&mut labelled)?;
             Ok(())
         }
         Err(ReadFault::NoMemory) => Err(Unresolved::NoMemory),
     }
-}
-
-/// What must never be so, as a word with labels means it: more than one condition where it speaks of groups of processes.
-fn labelled(
-    alloc: Global,
-    sources: &[Option<Source>],
-    word: &str,
-) -> Result<Vec<Never>, Unresolved> {
-    let texts = spread(alloc, sources, word)?;
-    texts
-        .iter()
-        .map(|text| never_in(alloc, sources, text))
-        .try_collect(alloc)
 }
 
 /// What must never be so, as a text writes it, by the labels of the processes. It is told as it was written.

@@ -11,9 +11,9 @@ loop-word-preserved c =
     let here = c.in_ok-push_call.ensures.more in (
       (
         before.0 ++ here.0,
-        here.1 ∙ ap (λ (wanted : List Wanted). wanted ++ here.0) before.1 ∙ append_assoc c.args.calls.now.wanted.items before.0 here.0,
+        here.1 ∙ ap (λ (wanted : List Wanted). wanted ++ here.0) before.1 ∙ append_assoc c.args.wanted.now.items before.0 here.0,
       ),
-      asked_next (IsAskedOfCalls c.args.never) (called_with c.args.never) c.loop-word.calls.wanted.items here.0 c.push_call.new.calls.wanted.items c.args.words.now c.loop-word.word-index _ c.loop-word-test.true
+      asked_next (IsAskedOfCalls c.args.never) (called_with c.args.never) c.loop-word.wanted.items here.0 c.push_call.new.wanted.items c.args.words.now c.loop-word.word-index _ c.loop-word-test.true
           here.1 c.loop-word.invariant.1 c.in_ok-push_call.ensures.asked,
     )
 
@@ -21,5 +21,5 @@ pub returns : goal.returns
 returns c =
     record {
       more = c.loop-word.invariant.0;
-      each = asked_all (IsAskedOfCalls c.args.never c.loop-word.calls.wanted.items) c.args.words.now c.loop-word.word-index (omega (arith, c.loop-word-test.false)) c.loop-word.invariant.1;
+      each = asked_all (IsAskedOfCalls c.args.never c.loop-word.wanted.items) c.args.words.now c.loop-word.word-index (omega (arith, c.loop-word-test.false)) c.loop-word.invariant.1;
     }

@@ -6,5 +6,5 @@ use Rattle.lab_commands.proofs.calls.push_calls.Given as goal
 -- what is asked comes behind what was, and of the words so far all is asked
 abbrev pub invariant-loop-word : goal.invariant-loop-word
 invariant-loop-word l =
-    ((more : List Wanted) × (l.calls.wanted.items ≡ l.initial.calls.wanted.items ++ more))
-    × All (IsAskedOfCalls l.never l.calls.wanted.items) (map (λ word. word.now) (take l.word-index l.words))
+    ((more : List Wanted) × (l.wanted.items ≡ l.initial.wanted.items ++ more))
+    × All (IsAskedOfCalls l.never l.wanted.items) (map (λ word. word.now) (take l.word-index l.words))
