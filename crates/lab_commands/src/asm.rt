@@ -12,7 +12,7 @@ use crate::programs::read_assembled;
 use crate::progress::Progress;
 use lab_io::Output;
 use lab_sources::Source;
-use lc3_asm::{Assembled, listing};
+use lc3_asm::listing;
 use lc3_table::Profile;
 use std::io::Write;
 use std::rt::Files;
@@ -28,21 +28,6 @@ pub struct Assembly<'a> {
     pub explain: bool,
     /// The machine that the warnings are about.
     pub profile: Profile,
-}
-
-/// What a source is assembled to. The messages about it are written where they are wanted, before anything else is.
-fn accepted<'a, T: Files, E: Write, P: Progress>(
-    job: &Job<'_, T, P>,
-    assembly: Assembly<'a>,
-    errors: &mut Output<E>,
-) -> Result<Assembled, Complaint<'a>> {
-    let (profile, wanted) = (assembly.profile, assembly.explain);
-    let Source { text, assembled } = read_assembled(job, assembly.source, profile, wanted)?;
-    let report = messages_if(job, assembly.source, text.as_bytes(), profile, wanted);
-    if let Some(report) = report {
-        let _ = errors.write_all(report.text.as_bytes());
-    }
-    Ok(assembled)
 }
 
 /// Assembles a source, writes its object file, and then the listing where it is asked for. The messages about the source come
@@ -66,7 +51,12 @@ pub fn assemble_file<'a, T: Files, W: Write, E: Write, P: Progress>(
     if has_source_name(assembly.object) {
         return Err(Misuse::SourceName.of(assembly.object));
     }
-    let assembled = accepted(job, assembly, errors)?;
+    let (profile, wanted) = (assembly.profile, assembly.explain);
+    let Source { text, assembled } = read_assembled(job, assembly.source, profile, wanted)?;
+    let report = messages_if(job, assembly.source, text.as_bytes(), profile, wanted);
+    if let Some(report) = report {
+        let _ = errors.write_all(report.text.as_bytes());
+    }
     write_object(job.rt, assembly.object, assembled.image()).at(job.alloc, assembly.object)?;
     if !assembly.list {
         return Ok(());

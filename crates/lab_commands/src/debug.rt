@@ -12,28 +12,6 @@ use lc3_table::Profile;
 use std::alloc::{AllocError, Global};
 use std::io::{Read, Write};
 
-fn session_on(
-    alloc: Global,
-    given: Programs,
-    help: &'static str,
-    profile: Profile,
-) -> Result<Session, Complaint<'static>> {
-    let Programs {
-        programs,
-        sources,
-        lines,
-    } = given;
-    let listings: Result<Vec<Option<Listing>>, AllocError> = sources
-        .into_iter()
-        .zip(lines)
-        .map(|(source, lines)| source.map(|source| Listing { source, lines }))
-        .collect(alloc);
-    let Ok(listings) = listings else {
-        return Err(Reason::NoMemory.at("session"));
-    };
-    Session::new(alloc, programs, listings, help, profile).map_err(|fault| fault_of(alloc, fault))
-}
-
 /// A session that is over.
 #[derive(Drop)]
 pub struct Debugged {
@@ -67,7 +45,22 @@ pub fn debug_given<T, R: Read, W: Write, P>(
     requires input_healthy { input.old.failed ≡ false }
     requires output_healthy { output.old.failed ≡ false }
 {
-    let start = session_on(job.alloc, given, job.texts.help, profile)?;
-    let session = session_over(job.alloc, start, input, output).at(job.alloc, "session")?;
+    let alloc = job.alloc;
+    let Programs {
+        programs,
+        sources,
+        lines,
+    } = given;
+    let listings: Result<Vec<Option<Listing>>, AllocError> = sources
+        .into_iter()
+        .zip(lines)
+        .map(|(source, lines)| source.map(|source| Listing { source, lines }))
+        .collect(alloc);
+    let Ok(listings) = listings else {
+        return Err(Reason::NoMemory.at("session"));
+    };
+    let start = Session::new(alloc, programs, listings, job.texts.help, profile);
+    let start = start.map_err(|fault| fault_of(alloc, fault))?;
+    let session = session_over(alloc, start, input, output).at(alloc, "session")?;
     Ok(Debugged { session })
 }
