@@ -1,4 +1,5 @@
 //! The addresses that places of conditions stand for, or why they stand for none.
+use crate::advice::advice_line;
 use crate::complaint::{Complaint, Misuse, Reason};
 use crate::places::address;
 use lab_arguments::Shown;
@@ -36,7 +37,6 @@ fn is_label(end: &str) -> bool {
     lab_places::has_label(end.as_bytes())
 }
 
-/// Whether an end of a place has a label.
 pub(crate) fn has_label(place: &str) -> bool {
     let (first, last) = ends_of(place);
     is_label(first) || is_label(last)
@@ -61,7 +61,6 @@ fn end_in(sources: &[Option<Source>], pid: usize, end: &str) -> Option<u16> {
     }
 }
 
-/// The addresses that a place stands for in process `pid`.
 pub(crate) fn span_in(sources: &[Option<Source>], pid: usize, place: &str) -> Option<Span> {
     let (first, last) = ends_of(place);
     Some(Span {
@@ -91,10 +90,15 @@ impl<T: Drop> From<AllocFailed<T>> for Unresolved {
 }
 
 impl Unresolved {
-    pub(crate) fn because<F: Display + Drop>(alloc: Global, why: F) -> Unresolved {
-        match format!(in alloc; "lc3lab: {why}\n") {
+    /// This is why, and that was meant, if it is known.
+    pub(crate) fn because<F: Display + Drop>(
+        alloc: Global,
+        why: F,
+        meant: Option<&str>,
+    ) -> Unresolved {
+        match advice_line(alloc, why, meant) {
             Ok(line) => Unresolved::Because(line),
-            Err(_) => Unresolved::NoMemory,
+            Err(AllocError) => Unresolved::NoMemory,
         }
     }
 
@@ -112,6 +116,7 @@ pub(crate) fn reversed(alloc: Global, text: &str) -> Unresolved {
     Unresolved::because(
         alloc,
         format_args!("{text}: the first address of a range is above the second"),
+        None,
     )
 }
 
@@ -127,6 +132,7 @@ pub(crate) fn not_in(
         return Unresolved::because(
             alloc,
             format_args!("{place}: process {pid} is given as an object file, which has no labels"),
+            None,
         );
     };
     without_label(
@@ -150,11 +156,7 @@ pub(crate) fn without_label<F: Display + Drop>(
     let end = if has_first { last } else { first };
     let shown = Shown(end);
     match nearest_to(alloc, sources, end) {
-        Ok(Some(nearest)) => Unresolved::because(
-            alloc,
-            format_args!("{shown}: {why}; did you mean {nearest}?"),
-        ),
-        Ok(None) => Unresolved::because(alloc, format_args!("{shown}: {why}")),
+        Ok(nearest) => Unresolved::because(alloc, format_args!("{shown}: {why}"), nearest),
         Err(AllocError) => Unresolved::NoMemory,
     }
 }

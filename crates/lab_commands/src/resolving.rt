@@ -36,14 +36,13 @@ pub(crate) fn resolved(
         if at > 0 {
             resolved.push_str(" ")?;
         }
-        push_resolved(alloc, &mut resolved, sources, &words[..at], words[at])?;
+        push_resolved(&mut resolved, sources, &words[..at], words[at])?;
     }
     Ok(resolved)
 }
 
 /// Adds a word behind others, with addresses in the place of its labels.
 fn push_resolved(
-    alloc: Global,
     text: &mut String,
     sources: &[Option<Source>],
     before: &[&str],
@@ -56,7 +55,7 @@ fn push_resolved(
     } as usize;
     match span_in(sources, pid, word) {
         Some(span) => Ok(write!(text, "{span}")?),
-        None => Err(not_in(alloc, sources, pid, word)),
+        None => Err(not_in(*text.allocator(), sources, pid, word)),
     }
 }
 
@@ -111,6 +110,7 @@ fn refuse_many(alloc: Global, count: usize) -> Result<(), Unresolved> {
         format_args!(
             "there are more than {MOST_CONDITIONS} groups of processes that it speaks of; name the processes"
         ),
+        None,
     ))
 }
 
@@ -156,6 +156,7 @@ fn groups_at(
         return Err(Unresolved::because(
             alloc,
             format_args!("{place}: only {count} of the processes can be there"),
+            None,
         ));
     }
     grouped(alloc, &holders, place, size)
