@@ -12,9 +12,7 @@ use std::io::Write;
 use std::rt::Files;
 
 fn messages(alloc: Global, name: &str, bytes: &[u8], wish: Wish<'_>) -> Result<Report, AllocError> {
-    let file = Shown(name);
-    let file = format!(in alloc; "{file}")?;
-    report_on(alloc, &file, bytes, wish)
+    report_on(alloc, &Shown(name).to_string(alloc)?, bytes, wish)
 }
 
 /// All messages about a source, where they are wanted or advice is told, and memory allows them.

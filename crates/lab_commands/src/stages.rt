@@ -2,7 +2,6 @@
 use crate::explore::Search;
 use crate::inquiry::Inquiry;
 use lab_questions::{Failure, Reach};
-use lab_worlds::Walks;
 
 const WORLDS: [u32; 7] = [1_000, 4_000, 16_000, 64_000, 256_000, 1_024_000, 4_096_000];
 
@@ -28,13 +27,8 @@ pub(crate) fn stages_of(reach: Reach) -> &'static [u32] {
 pub(crate) fn stage_of(inquiry: &Inquiry, most: u32) -> Inquiry {
     let mut reach = inquiry.reach;
     reach.is_stage = true;
-    match reach.walks {
-        Some(walks) => {
-            reach.walks = Some(Walks {
-                count: most,
-                ..walks
-            });
-        }
+    match &mut reach.walks {
+        Some(walks) => walks.count = most,
         None => reach.limits.worlds = most,
     }
     Inquiry { reach, ..*inquiry }

@@ -57,9 +57,7 @@ pub fn read_schedule<T, R: Read, P: Progress>(
     requires input_healthy { input.old.failed ≡ false }
 {
     let bytes = read_whole(job.alloc, input).at(job.alloc, "schedule")?;
-    let Ok(text) = str::from_utf8(bytes.as_slice()) else {
-        return Err(Reason::NotUtf8.at("schedule"));
-    };
+    let text = str::from_utf8(&bytes).map_err(|_| Reason::NotUtf8.at("schedule"))?;
     Schedule::read(job.alloc, text).map_err(|fault| {
         let complaint = Complaint::new(job.alloc, "schedule", fault);
         complaint.followed(block_advice(job, text, fault))
