@@ -20,6 +20,16 @@ use Rattle.lab_places.specs.Placed.{SourceSeen}
 use Rattle.lab_commands.specs.declared.explore.Search.{Search}
 use Rattle.lab_commands.specs.Told.{ShowsFailure, numbered_end, IsChosen, line_or_none, TellsChosen, all_told, Tells, HasTold, HasBegun}
 
+-- no schedule shows too little
+shows_none : (a : Answers) (f : Option Failure) → ShowsFailure a f None
+shows_none a None = refl
+shows_none a (Some Incomplete) = refl
+shows_none a (Some (Not word)) = tt
+shows_none a (Some (Output k)) = tt
+shows_none a (Some (Reached i)) = tt
+shows_none a (Some Endless) = tt
+shows_none a (Some (Call k)) = tt
+
 -- what the schedule of a failure shows, failure by failure
 pub shows_failure : (a : Answers) (f : Option Failure) (s : Option (String Global)) → a.failure ≡ f
     → ((word : Word) → a.failure ≡ Some (Not word) → IfSome s (λ text. ShowsFault a.exploration.ends.items a.answers.items (string_bytes text)))
@@ -30,28 +40,14 @@ pub shows_failure : (a : Answers) (f : Option Failure) (s : Option (String Globa
     → (a.failure ≡ None → s ≡ None)
     → (a.failure ≡ Some Incomplete → s ≡ None)
     → ShowsFailure a f (option_map string_bytes s)
-shows_failure a None s e fault output reached lasso call nothing incomplete = ap (option_map string_bytes) (nothing e)
-shows_failure a (Some Incomplete) s e fault output reached lasso call nothing incomplete = ap (option_map string_bytes) (incomplete e)
-shows_failure a (Some (Not word)) None e fault output reached lasso call nothing incomplete = tt
+shows_failure a f None e fault output reached lasso call nothing incomplete = shows_none a f
+shows_failure a None (Some text) e fault output reached lasso call nothing incomplete = ap (option_map string_bytes) (nothing e)
+shows_failure a (Some Incomplete) (Some text) e fault output reached lasso call nothing incomplete = ap (option_map string_bytes) (incomplete e)
 shows_failure a (Some (Not word)) (Some text) e fault output reached lasso call nothing incomplete = fault word e
-shows_failure a (Some (Output k)) None e fault output reached lasso call nothing incomplete = tt
 shows_failure a (Some (Output k)) (Some text) e fault output reached lasso call nothing incomplete = output k e
-shows_failure a (Some (Reached i)) None e fault output reached lasso call nothing incomplete = tt
 shows_failure a (Some (Reached i)) (Some text) e fault output reached lasso call nothing incomplete = reached i e
-shows_failure a (Some Endless) None e fault output reached lasso call nothing incomplete = tt
 shows_failure a (Some Endless) (Some text) e fault output reached lasso call nothing incomplete = lasso e
-shows_failure a (Some (Call k)) None e fault output reached lasso call nothing incomplete = tt
 shows_failure a (Some (Call k)) (Some text) e fault output reached lasso call nothing incomplete = call k e
-
--- no schedule shows too little
-shows_none : (a : Answers) (f : Option Failure) → ShowsFailure a f None
-shows_none a None = refl
-shows_none a (Some Incomplete) = refl
-shows_none a (Some (Not word)) = tt
-shows_none a (Some (Output k)) = tt
-shows_none a (Some (Reached i)) = tt
-shows_none a (Some Endless) = tt
-shows_none a (Some (Call k)) = tt
 
 -- there is a text that tells what was found
 some_told : (sources : List (Option SourceSeen)) (s : Search) (choice : Option Choice) → (text : List ℕ) × Tells sources s choice text
