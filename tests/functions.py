@@ -3,6 +3,8 @@ import re
 
 HEAD = re.compile(r"( *)(?:pub(?:\([^)]*\))? )?fn (\w+)")
 IMPL = re.compile(r"impl(?:<.*?>)? (?:(?:\w+::)*(\w+)(?:<(?:\w+::)*(\w+).*>)? for )?(?:\w+::)*(\w+)")
+# an `impl` of a generic type at one argument, which stands in its path: `Parts+Place` of `impl Parts<Place>`
+AT_ONE = re.compile(r"impl (?:(?:\w+::)*\w+(?:<.*>)? for )?(?:\w+::)*(\w+)<(?:\w+::)*(\w+)> \{")
 TYPE = re.compile(r"^(?:pub(?:\([^)]*\))? )?(?:struct|enum|union) (\w+)", re.M)
 CONST = re.compile(r"(?:pub(?:\([^)]*\))? )?(?:const|static) (\w+)")
 
@@ -51,6 +53,11 @@ def block_of(found, file, types):
     """The path of an `impl` block: methods of a type, and its `drop`, are told by the module of the type."""
     trait, argument, name = found.groups()
     here = module_of(file)
+    at_one = AT_ONE.match(found.string)
+    if at_one:
+        name = ("" if trait else "+").join(at_one.groups())
+    if at_one and not trait:
+        return [*here, name]
     if trait in (None, "Drop"):
         modules = types.get(name, [here])
         return [*(here if here in modules else modules[0]), name]

@@ -92,7 +92,7 @@ class Edit:
 def call_of(path, types):
     """How a text may call a function, by its name. Methods of traits are left out: an operator or a macro calls them, too."""
     *above, name = path.split("::")
-    block = above[-1] if above and above[-1][:1].isupper() else None
+    block = above[-1].partition("+")[0] if above and above[-1][:1].isupper() else None
     if not block:
         return rf"(?<![.\w]){name}\b"
     return rf"\.{name}\(|\b(?:{block}|Self)(?:::<[^()]*>)?::{name}\b" if block in types else None
