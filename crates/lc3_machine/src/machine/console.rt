@@ -73,7 +73,8 @@ impl Machine {
     /// PUTS or PUTSP: the low bytes, or both bytes, of each word of the string whose address is in R0.
     #[inline(never)]
     fn put_string(&mut self, is_packed: bool) -> Progress
-        ensures string { CarriedOut (if is_packed then putsp self.old.process else puts self.old.process)
+        ensures string { CarriedOut
+            (if is_packed then putsp self.old.process else puts self.old.process)
             self.old.process result self.new.process }
     {
         let address = self.regs.get(0);
