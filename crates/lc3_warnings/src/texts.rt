@@ -63,13 +63,11 @@ impl fmt::Display for WarningText<'_> {
                 f,
                 "this trap ends the process as badtrap; the traps are x20 to x25, x40 to x46 and x50 to x56"
             ),
-            Kind::DecimalOrigin { address } => {
-                let shown = Hex(address);
-                write!(
-                    f,
-                    "{word} is decimal, the address {shown}; did you mean x{address}?"
-                )
-            }
+            Kind::DecimalOrigin { address } => write!(
+                f,
+                "{word} is decimal, the address {}; did you mean x{address}?",
+                Hex(address)
+            ),
             Kind::Misspelt => write!(f, "{word} is read as a label"),
             Kind::UnusedLabel => write!(f, "no line names the label {word}"),
             Kind::StartsInData => write!(f, "execution begins here, and this is data"),
