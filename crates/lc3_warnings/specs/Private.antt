@@ -1,3 +1,4 @@
 -- Definitions that only contracts inside the crate cite.
 pub mod Names
 pub mod Settings
+pub mod Statements

@@ -5,26 +5,19 @@ ghost use Rattle.lc3_warnings.specs.Private.Names.{is_among};
 ghost use Rattle.lc3_asm.specs.Views.{seen_line};
 ghost use Rattle.lc3_warnings.specs.Codes.{reads_codes, keeps_codes, where_codes_come_from, trap_takes, sets_codes, sets_codes_beyond, stale_from, stale_codes};
 
-use crate::flow::{Flow, is_call, last_with_words, trap_flow_of};
+use crate::flow::{Flow, flow_of, is_call, last_with_words, trap_flow_of};
 use crate::names::Names;
+use crate::statement::statement_of;
 use crate::warning::Kind;
 use lc3_asm::{Line, Operand};
 use lc3_table::Operation;
 
+/// Whether a line is a branch behind which execution can go on too.
 fn reads_codes(line: &Line) -> bool
     ensures value { result ≡ reads_codes (seen_line line.now) }
 {
-    match line {
-        Line::Operates {
-            operation: Operation::Branch {
-                negative,
-                zero,
-                positive,
-            },
-            ..
-        } => !(*negative && *zero && *positive),
-        _ => false,
-    }
+    matches!(statement_of(line), Some((Operation::Branch { .. }, _)))
+        && matches!(flow_of(line), Some(Flow::GoesOn))
 }
 
 /// Whether a line leaves the codes as they are and isn't a trap.
@@ -67,14 +60,7 @@ fn where_codes_come_from<'a>(named: &Names, line: &Line, above: &'a [Line]) -> &
 fn trap_takes(line: &Line) -> Option<u8>
     ensures value { result ≡ trap_takes (seen_line line.now) }
 {
-    let Line::Operates {
-        operation,
-        operands,
-        ..
-    } = line
-    else {
-        return None;
-    };
+    let (operation, operands) = statement_of(line)?;
     match operation {
         Operation::Trap => match (trap_flow_of(operands), operands.first()) {
             (Flow::GoesOn, Some(Operand::Number(vector))) => {
@@ -107,17 +93,13 @@ fn sets_codes_beyond(count: u8, line: Option<&Line>) -> bool
     ensures value { result
         ≡ sets_codes_beyond count (option_map (λ line. seen_line line.now) line.entry) }
 {
-    match line {
-        Some(
-            Line::Operates {
-                operation,
-                operands,
-                ..
-            },
-        ) => match operands.first() {
-            Some(Operand::Register(first)) => sets_codes(*operation) && count <= first.number(),
-            _ => false,
-        },
+    let Some(line) = line else {
+        return false;
+    };
+    match statement_of(line) {
+        Some((operation, [Operand::Register(first), ..])) => {
+            sets_codes(operation) && count <= first.number()
+        }
         _ => false,
     }
 }

@@ -2,8 +2,9 @@
 
 ghost use Rattle.std.specs.Prelude.{◌≡◌, ◌+◌, map, drop, ◌≤◌, length, ◌||◌, reverse, option_map};
 ghost use Rattle.lc3_asm.specs.Views.{seen_line, seen_operand};
-ghost use Rattle.lc3_warnings.specs.Flows.{is_call, is_known_trap, trap_flow_of, operation_flow, flow_of, first_with_words, prints_string, next_from};
+ghost use Rattle.lc3_warnings.specs.Flows.{is_call, is_known_trap, trap_flow_of, flow_of, first_with_words, prints_string, next_from};
 
+use crate::statement::statement_of;
 use lc3_asm::{Line, Operand};
 use lc3_table::{ConsoleTrap, Operation, is_kernel_vector};
 
@@ -54,9 +55,11 @@ pub fn trap_flow_of(operands: &[Operand]) -> Flow
     }
 }
 
-fn operation_flow(operation: Operation, operands: &[Operand]) -> Option<Flow>
-    ensures value { result ≡ operation_flow operation (map seen_operand operands.now) }
+/// What a line is to execution, if it has words.
+pub fn flow_of(line: &Line) -> Option<Flow>
+    ensures value { result ≡ flow_of (seen_line line.now) }
 {
+    let (operation, operands) = statement_of(line)?;
     match operation {
         Operation::Origin | Operation::End => None,
         Operation::Fill | Operation::Block | Operation::Text => Some(Flow::Data),
@@ -71,20 +74,6 @@ fn operation_flow(operation: Operation, operands: &[Operand]) -> Option<Flow>
         } => Some(Flow::Stops),
         Operation::Trap => Some(trap_flow_of(operands)),
         _ => Some(Flow::GoesOn),
-    }
-}
-
-/// What a line is to execution, if it has words.
-pub fn flow_of(line: &Line) -> Option<Flow>
-    ensures value { result ≡ flow_of (seen_line line.now) }
-{
-    match line {
-        Line::Operates {
-            operation,
-            operands,
-            ..
-        } => operation_flow(*operation, operands),
-        _ => None,
     }
 }
 
@@ -106,19 +95,12 @@ pub fn last_with_words(lines: &[Line]) -> Option<&Line>
 fn prints_string(line: &Line) -> bool
     ensures value { result ≡ prints_string (seen_line line.now) }
 {
-    let Line::Operates {
-        operation,
-        operands,
-        ..
-    } = line
-    else {
-        return false;
-    };
-    match (operation, operands.first()) {
-        (Operation::Puts | Operation::Putsp, _) => true,
-        (Operation::Trap, Some(Operand::Number(vector))) => *vector
-            == i64::from(ConsoleTrap::Puts.vector())
-            || *vector == i64::from(ConsoleTrap::Putsp.vector()),
+    match statement_of(line) {
+        Some((Operation::Puts | Operation::Putsp, _)) => true,
+        Some((Operation::Trap, [Operand::Number(vector), ..])) => {
+            *vector == i64::from(ConsoleTrap::Puts.vector())
+                || *vector == i64::from(ConsoleTrap::Putsp.vector())
+        }
         _ => false,
     }
 }

@@ -13,6 +13,7 @@ mod names;
 mod numbers;
 mod returns;
 mod setting;
+mod statement;
 mod strings;
 mod texts;
 mod walk;

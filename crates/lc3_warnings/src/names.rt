@@ -6,6 +6,7 @@ ghost use Rattle.lc3_warnings.specs.Private.Names.{is_among};
 ghost use Rattle.lc3_asm.specs.Views.{seen_line, seen_operand};
 ghost use Rattle.lc3_warnings.specs.Labels.{is_label, named, called, defines_one};
 
+use crate::statement::statement_of;
 use indexmap::IndexSet;
 use lc3_asm::{Line, Operand};
 use lc3_table::Operation;
@@ -82,12 +83,7 @@ pub fn called(alloc: Global, lines: &[Line]) -> Result<Names, AllocError>
 {
     let mut names = Names::new(alloc);
     for line in lines {
-        if let Line::Operates {
-            operation: Operation::JumpSubroutine,
-            operands,
-            ..
-        } = line
-        {
+        if let Some((Operation::JumpSubroutine, operands)) = statement_of(line) {
             names.add_labels(alloc, operands)?;
         }
     }

@@ -3,9 +3,10 @@
 ghost use Rattle.std.specs.Prelude.{◌≡◌, ◌≤◌, map, []};
 ghost use Rattle.lc3_table.specs.Tokens.{tokens};
 ghost use Rattle.lc3_asm.specs.Views.{seen_line, seen_operand};
-ghost use Rattle.lc3_warnings.specs.Numbers.{is_in_digits_of_bits, field_value, is_bits_of, wrapped, wrapped_in, number_in, number_among, last_word, wraps, unknown_trap, decimal_as, decimal_origin};
+ghost use Rattle.lc3_warnings.specs.Numbers.{is_in_digits_of_bits, is_bits_of, wrapped, wrapped_in, number_among, last_word, wraps, unknown_trap, decimal_origin};
 
 use crate::flow::is_known_trap;
+use crate::statement::statement_of;
 use crate::warning::Kind;
 use lc3_asm::{Line, Operand, Token, first_token};
 use lc3_table::{Form, Operation, low_word};
@@ -21,16 +22,6 @@ fn is_in_digits_of_bits(word: &[u8]) -> bool
     )
 }
 
-/// The signed value of a field of `B` bits that holds a number.
-#[tactic(auto, unfolding(crate::specs::Numbers::field_value))]
-fn field_value<const B: u32>(number: i64) -> Off<B>
-    requires some_bits { 1 ≤ B }
-    requires word_bits { B ≤ 16 }
-    ensures value { result ≡ field_value B number }
-{
-    Off::of_low_bits(low_word(number))
-}
-
 /// Whether a number is the bits of this value in a field of `B` bits, or in a word.
 #[tactic(auto, unfolding(crate::specs::Numbers::is_bits_of))]
 fn is_bits_of<const B: u32>(held: Off<B>, number: i64) -> bool
@@ -42,12 +33,13 @@ fn is_bits_of<const B: u32>(held: Off<B>, number: i64) -> bool
 }
 
 /// The value that a field of `B` bits has for a number which this word writes, if it means another number.
+#[tactic(auto, unfolding(crate::specs::Numbers::field_value))]
 fn wrapped<const B: u32>(word: &[u8], number: i64) -> Option<i16>
     requires some_bits { 1 ≤ B }
     requires word_bits { B ≤ 16 }
     ensures value { result ≡ wrapped B word.now number }
 {
-    let held = field_value::<B>(number);
+    let held = Off::<B>::of_low_bits(low_word(number));
     let is_same = number == i64::from(held.get());
     let is_bits = is_in_digits_of_bits(word) && is_bits_of(held, number);
     if is_same || is_bits {
@@ -69,21 +61,12 @@ fn wrapped_in(form: Form, word: &[u8], number: i64) -> Option<i16>
     }
 }
 
-fn number_in(operand: &Operand) -> Option<i64>
-    ensures value { result ≡ number_in (seen_operand operand.now) }
-{
-    match operand {
-        Operand::Number(number) => Some(*number),
-        _ => None,
-    }
-}
-
 fn number_among(operands: &[Operand]) -> Option<i64>
     ensures value { result ≡ number_among (map seen_operand operands.now) }
 {
     for i in 0..operands.len() {
-        if let Some(number) = number_in(&operands[i]) {
-            return Some(number);
+        if let Operand::Number(number) = &operands[i] {
+            return Some(*number);
         }
     }
     None
@@ -107,14 +90,7 @@ fn last_word(bytes: &[u8]) -> &[u8]
 pub fn wraps(bytes: &[u8], line: &Line) -> Option<Kind>
     ensures value { result ≡ wraps bytes.now (seen_line line.now) }
 {
-    let Line::Operates {
-        operation,
-        operands,
-        ..
-    } = line
-    else {
-        return None;
-    };
+    let (operation, operands) = statement_of(line)?;
     let number = number_among(operands)?;
     let form = operation.forms().last().copied()?;
     let value = wrapped_in(form, last_word(bytes), number)?;
@@ -124,45 +100,24 @@ pub fn wraps(bytes: &[u8], line: &Line) -> Option<Kind>
 pub fn unknown_trap(line: &Line) -> Option<Kind>
     ensures value { result ≡ unknown_trap (seen_line line.now) }
 {
-    let Line::Operates {
-        operation: Operation::Trap,
-        operands,
-        ..
-    } = line
-    else {
+    let (Operation::Trap, [Operand::Number(vector), ..]) = statement_of(line)? else {
         return None;
     };
-    match operands.first() {
-        Some(Operand::Number(vector)) if !is_known_trap(*vector) => Some(Kind::UnknownTrap),
-        _ => None,
-    }
-}
-
-fn decimal_as(word: &[u8], number: i64) -> Option<Kind>
-    ensures value { result ≡ decimal_as word.now number }
-{
-    match u16::try_from(number) {
-        Ok(address) if matches!(address, 10..=4095) && !is_in_digits_of_bits(word) => {
-            Some(Kind::DecimalOrigin { address })
-        }
-        _ => None,
-    }
+    (!is_known_trap(*vector)).then_some(Kind::UnknownTrap)
 }
 
 /// Whether a `.ORIG` has a small decimal number.
 pub fn decimal_origin(bytes: &[u8], line: &Line) -> Option<Kind>
     ensures value { result ≡ decimal_origin bytes.now (seen_line line.now) }
 {
-    let Line::Operates {
-        operation: Operation::Origin,
-        operands,
-        ..
-    } = line
-    else {
+    let (Operation::Origin, [Operand::Number(number), ..]) = statement_of(line)? else {
         return None;
     };
-    match operands.first() {
-        Some(Operand::Number(number)) => decimal_as(last_word(bytes), *number),
+    let word = last_word(bytes);
+    match u16::try_from(*number) {
+        Ok(address) if matches!(address, 10..=4095) && !is_in_digits_of_bits(word) => {
+            Some(Kind::DecimalOrigin { address })
+        }
         _ => None,
     }
 }

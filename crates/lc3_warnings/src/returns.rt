@@ -4,10 +4,11 @@ ghost use Rattle.std.specs.Prelude.{◌≡◌, map, reverse};
 ghost use Rattle.std.specs.List.{list_any};
 ghost use Rattle.lc3_warnings.specs.Private.Names.{is_among};
 ghost use Rattle.lc3_asm.specs.Views.{seen_line, seen_operand};
-ghost use Rattle.lc3_warnings.specs.Returns.{is_r7, has_r7, writes_r7, line_writes_r7, ends_subroutine, body, lost_in, is_return, lost_return};
+ghost use Rattle.lc3_warnings.specs.Returns.{is_r7, has_r7, line_writes_r7, ends_subroutine, body, lost_in, is_return, lost_return};
 
 use crate::flow::{Flow, flow_of};
 use crate::names::Names;
+use crate::statement::statement_of;
 use crate::warning::Kind;
 use lc3_asm::{Line, Operand};
 use lc3_table::{Operation, Profile};
@@ -35,10 +36,13 @@ fn has_r7(line: &Line) -> bool
     matches!(line, Line::Operates { operands, .. } if any_r7(operands))
 }
 
-/// Whether an operation puts the address behind it into R7.
-fn writes_r7(profile: Profile, operation: Operation) -> bool
-    ensures value { result ≡ writes_r7 profile operation }
+/// Whether a line puts the address behind it into R7.
+fn line_writes_r7(profile: Profile, line: &Line) -> bool
+    ensures value { result ≡ line_writes_r7 profile (seen_line line.now) }
 {
+    let Some((operation, _)) = statement_of(line) else {
+        return false;
+    };
     match operation {
         Operation::JumpSubroutine | Operation::JumpSubroutineRegister => true,
         Operation::Trap
@@ -51,22 +55,11 @@ fn writes_r7(profile: Profile, operation: Operation) -> bool
     }
 }
 
-fn line_writes_r7(profile: Profile, line: &Line) -> bool
-    ensures value { result ≡ line_writes_r7 profile (seen_line line.now) }
-{
-    matches!(line, Line::Operates { operation, .. } if writes_r7(profile, *operation))
-}
-
 fn ends_subroutine(line: &Line) -> bool
     ensures value { result ≡ ends_subroutine (seen_line line.now) }
 {
-    match line {
-        Line::Operates {
-            operation: Operation::Branch { .. },
-            ..
-        } => false,
-        _ => matches!(flow_of(line), Some(Flow::Data | Flow::Stops)),
-    }
+    !matches!(statement_of(line), Some((Operation::Branch { .. }, _)))
+        && matches!(flow_of(line), Some(Flow::Data | Flow::Stops))
 }
 
 /// The number of the line that has written R7 where a subroutine goes back in this line, which stands below these;
@@ -97,16 +90,9 @@ fn lost_in(profile: Profile, entries: &Names, line: &Line, above: &[Line]) -> Op
 fn is_return(line: &Line) -> bool
     ensures value { result ≡ is_return (seen_line line.now) }
 {
-    match line {
-        Line::Operates {
-            operation: Operation::Return,
-            ..
-        } => true,
-        Line::Operates {
-            operation: Operation::Jump,
-            operands,
-            ..
-        } => any_r7(operands),
+    match statement_of(line) {
+        Some((Operation::Return, _)) => true,
+        Some((Operation::Jump, operands)) => any_r7(operands),
         _ => false,
     }
 }

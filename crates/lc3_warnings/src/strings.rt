@@ -8,6 +8,7 @@ ghost use Rattle.lc3_warnings.specs.Strings.{is_string_from, has_label, strings,
 use crate::around::Around;
 use crate::flow::{flow_of, last_with_words};
 use crate::names::Names;
+use crate::statement::statement_of;
 use crate::warning::Kind;
 use lc3_asm::{Line, Operand};
 use lc3_table::Operation;
@@ -17,13 +18,7 @@ use std::alloc::{AllocError, Global};
 fn is_string_from(line: &Line, behind: bool) -> bool
     ensures value { result ≡ is_string_from (seen_line line.now) behind }
 {
-    match line {
-        Line::Operates {
-            operation: Operation::Text,
-            ..
-        } => true,
-        _ => behind && flow_of(line).is_none(),
-    }
+    matches!(statement_of(line), Some((Operation::Text, _))) || (behind && flow_of(line).is_none())
 }
 
 /// Adds the label of this line, where a string begins at it.
@@ -73,14 +68,11 @@ fn has_address(labels: &Names, register: u8, line: Option<&Line>) -> bool
     ensures value { result ≡ has_address (is_among labels.now) register
         (option_map (λ line. seen_line line.now) line.entry) }
 {
-    match line {
-        Some(
-            Line::Operates {
-                operation: Operation::LoadAddress,
-                operands,
-                ..
-            },
-        ) => are_register_and(labels, register, operands),
+    let Some(line) = line else {
+        return false;
+    };
+    match statement_of(line) {
+        Some((Operation::LoadAddress, operands)) => are_register_and(labels, register, operands),
         _ => false,
     }
 }
@@ -103,17 +95,11 @@ fn loads_word_of(labels: &Names, line: &Line, above: &[Line]) -> bool
     ensures value { result ≡ loads_word_of (is_among labels.now) (seen_line line.now)
         (reverse (map seen_line above.now)) }
 {
-    let Line::Operates {
-        operation,
-        operands,
-        ..
-    } = line
-    else {
-        return false;
-    };
-    match operation {
-        Operation::Load | Operation::LoadIndirect => are_register_and(labels, 0, operands),
-        Operation::LoadBaseOffset => are_base_of(labels, operands, above),
+    match statement_of(line) {
+        Some((Operation::Load | Operation::LoadIndirect, operands)) => {
+            are_register_and(labels, 0, operands)
+        }
+        Some((Operation::LoadBaseOffset, operands)) => are_base_of(labels, operands, above),
         _ => false,
     }
 }
