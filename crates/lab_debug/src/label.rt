@@ -37,15 +37,11 @@ const MOST_DIGITS: usize = 5;
 fn named(name: &[u8], is_before: bool, count: u32) -> Option<Label<'_>>
     ensures value { option_map label_seen result ≡ named name.now is_before count }
 {
-    if is_label(name) {
-        Some(Label {
-            name,
-            is_before,
-            count,
-        })
-    } else {
-        None
-    }
+    is_label(name).then_some(Label {
+        name,
+        is_before,
+        count,
+    })
 }
 
 /// A label, or a label, a sign and 1 to 5 decimal digits. A word that is a number is none.
@@ -97,19 +93,13 @@ pub fn with_zero<'a>(alloc: Global, operands: &[&'a [u8]]) -> Result<Vec<&'a [u8
 pub fn moved(is_before: bool, count: u32, address: u16) -> Option<u16>
     ensures value { result ≡ moved is_before count address }
 {
-    let address = u64::from(address);
-    let count = u64::from(count);
-    if is_before {
-        if count <= address {
-            Some((address - count) as u16)
-        } else {
-            None
-        }
-    } else if address + count <= 65_535 {
-        Some((address + count) as u16)
+    let address = u32::from(address);
+    let moved = if is_before {
+        address.checked_sub(count)?
     } else {
-        None
-    }
+        address.checked_add(count)?
+    };
+    u16::try_from(moved).ok()
 }
 
 /// The address that a label of process `pid` stands for. It is refused where the source has no such
