@@ -95,15 +95,11 @@ pub fn range_at(pid: usize, address: u16, count: u32) -> Option<Range>
     ensures value { result ≡ range_from pid address count }
     ensures range { IfSome result (λ r. r.address + r.count ≤ 65536) }
 {
-    if u32::from(address) + count <= 65_536 {
-        Some(Range {
-            pid,
-            address,
-            count,
-        })
-    } else {
-        None
-    }
+    (u32::from(address) + count <= 65_536).then_some(Range {
+        pid,
+        address,
+        count,
+    })
 }
 
 impl Command {
@@ -150,15 +146,9 @@ impl Command {
             }),
             Command::Set(mark) => Some(Command::Set(Mark { address, ..mark })),
             Command::Unset(mark) => Some(Command::Unset(Mark { address, ..mark })),
-            Command::Mem(Range { pid, count, .. }) => {
-                range_at(pid, address, count).map(Command::Mem)
-            }
-            Command::Dis(Range { pid, count, .. }) => {
-                range_at(pid, address, count).map(Command::Dis)
-            }
-            Command::Code(Range { pid, count, .. }) => {
-                range_at(pid, address, count).map(Command::Code)
-            }
+            Command::Mem(range) => range_at(range.pid, address, range.count).map(Command::Mem),
+            Command::Dis(range) => range_at(range.pid, address, range.count).map(Command::Dis),
+            Command::Code(range) => range_at(range.pid, address, range.count).map(Command::Code),
             _ => None,
         }
     }
