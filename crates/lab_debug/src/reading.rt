@@ -52,18 +52,12 @@ fn read_go(operands: &[&[u8]]) -> Option<Command>
     ensures value { result ≡ go_of (map (λ word. word.now) operands.now) }
     ensures ranges { IfSome result (λ command. IsCommand command) }
 {
-    match operands {
-        [pid] => process_in(*pid).map(|pid| Command::Go {
-            pid,
-            count: STEP_COUNT_MAX,
-        }),
-        [pid, count] => {
-            let pid = process_in(*pid)?;
-            let count = count_in(*count)?;
-            Some(Command::Go { pid, count })
-        }
-        _ => None,
-    }
+    let (pid, count) = match operands {
+        [pid] => (process_in(*pid)?, STEP_COUNT_MAX),
+        [pid, count] => (process_in(*pid)?, count_in(*count)?),
+        _ => return None,
+    };
+    Some(Command::Go { pid, count })
 }
 
 /// `N`, to go back; one where it isn't given
@@ -121,11 +115,7 @@ fn read_bare(command: Command, operands: &[&[u8]]) -> Option<Command>
     ensures value { result ≡ bare_of command (map (λ word. word.now) operands.now) }
     ensures ranges { IfSome result (λ c. IsCommand c) }
 {
-    if operands.is_empty() {
-        Some(command)
-    } else {
-        None
-    }
+    operands.is_empty().then_some(command)
 }
 
 /// Whether a word is this name.
