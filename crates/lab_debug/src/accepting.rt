@@ -1,8 +1,8 @@
 //! The commands of lines, as a session accepts or refuses them.
-ghost use Rattle.std.specs.Prelude.{◌≡◌, IfOk, map, option_map};
+ghost use Rattle.std.specs.Prelude.{◌≡◌, IfOk, map};
 ghost use Rattle.std.specs.List.{list_all};
 ghost use Rattle.lab_session.specs.Sessions.{state_of};
-ghost use Rattle.lab_debug.specs.Effects.{is_there, are_there, labelled, label_among, command_in};
+ghost use Rattle.lab_debug.specs.Effects.{is_there, are_there, labelled, command_in};
 ghost use Rattle.lab_debug.specs.Labels.{addressed};
 ghost use Rattle.lab_debug.specs.Private.LabelViews.{label_seen};
 ghost use Rattle.lab_debug.specs.Private.Ranges.{IsCommand};
@@ -55,18 +55,6 @@ fn labelled(session: &Session, command: Command, label: Label<'_>) -> Result<Com
     command.at(address).ok_or(Refusal::BadOperands)
 }
 
-/// The label among the operands, where labels are read.
-fn label_among<'a>(session: &Session, operands: &[&'a [u8]]) -> Option<Label<'a>>
-    ensures value { option_map label_seen result
-        ≡ label_among (state_of session.now) (map (λ word. word.now) operands.now) }
-{
-    if session.has_labels() {
-        second_label(operands)
-    } else {
-        None
-    }
-}
-
 /// The command that a name and its operands write, where each process that it names is there.
 pub fn command_in(
     alloc: Global,
@@ -78,15 +66,17 @@ pub fn command_in(
         ≡ command_in (state_of session.now) name.now (map (λ word. word.now) operands.now)) }
     ensures ranges { IfOk result (λ read. IfOk read (λ command. IsCommand command)) }
 {
-    let Some(label) = label_among(session, operands) else {
-        return Ok(match read_command(alloc, name, operands)? {
+    match second_label(operands) {
+        Some(label) if session.has_labels() => {
+            let operands = with_zero(alloc, operands)?;
+            match read_command(alloc, name, operands.as_slice())? {
+                Ok(command) => Ok(labelled(session, command, label)),
+                Err(refusal) => Ok(Err(refusal)),
+            }
+        }
+        _ => Ok(match read_command(alloc, name, operands)? {
             Ok(command) if !are_there(session.world(), &command) => Err(Refusal::NoProcess),
             read => read,
-        });
-    };
-    let operands = with_zero(alloc, operands)?;
-    match read_command(alloc, name, operands.as_slice())? {
-        Ok(command) => Ok(labelled(session, command, label)),
-        Err(refusal) => Ok(Err(refusal)),
+        }),
     }
 }
