@@ -93,10 +93,7 @@ fn sets_codes_beyond(count: u8, line: Option<&Line>) -> bool
     ensures value { result
         ≡ sets_codes_beyond count (option_map (λ line. seen_line line.now) line.entry) }
 {
-    let Some(line) = line else {
-        return false;
-    };
-    match statement_of(line) {
+    match line.and_then(|line| statement_of(line)) {
         Some((operation, [Operand::Register(first), ..])) => {
             sets_codes(operation) && count <= first.number()
         }

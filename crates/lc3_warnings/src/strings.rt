@@ -68,10 +68,7 @@ fn has_address(labels: &Names, register: u8, line: Option<&Line>) -> bool
     ensures value { result ≡ has_address (is_among labels.now) register
         (option_map (λ line. seen_line line.now) line.entry) }
 {
-    let Some(line) = line else {
-        return false;
-    };
-    match statement_of(line) {
+    match line.and_then(|line| statement_of(line)) {
         Some((Operation::LoadAddress, operands)) => are_register_and(labels, register, operands),
         _ => false,
     }
