@@ -6,7 +6,7 @@ ghost use Rattle.lc3_asm.specs.Texts.{lines};
 ghost use Rattle.lc3_asm.specs.Views.{token_of};
 ghost use Rattle.lc3_table.specs.Tokens.{tokens};
 ghost use Rattle.lc3_warnings.specs.Private.Names.{is_among};
-ghost use Rattle.lc3_warnings.specs.Labels.{is_mention, mentions, faulty_line, mentioned};
+ghost use Rattle.lc3_warnings.specs.Labels.{is_mention, faulty_line, mentioned};
 
 use crate::names::Names;
 use lc3_asm::{LineFault, Token, first_token, is_label, printable, upper, without_colon};
@@ -55,14 +55,6 @@ fn add_tokens(names: &mut Names, alloc: Global, line: &[u8]) -> Result<(), Alloc
     Ok(())
 }
 
-fn add_line(names: &mut Names, alloc: Global, line: &[u8]) -> Result<(), AllocError>
-    ensures added { OnOk result ((name : List ℕ) → is_among names.new name
-        ≡ (is_among names.old name || mentions name line.now)) }
-{
-    let line = printable(alloc, line)?;
-    add_tokens(names, alloc, &line)
-}
-
 /// The labels that are words of the lines with these faults.
 pub fn mentioned(alloc: Global, text: &[u8], faults: &[LineFault]) -> Result<Names, AllocError>
     ensures all { IfOk result (λ names. is_among names ≡ mentioned (lines text.now) faults.now) }
@@ -70,8 +62,8 @@ pub fn mentioned(alloc: Global, text: &[u8], faults: &[LineFault]) -> Result<Nam
     let lines = lines_of(alloc, text)?;
     let mut names = Names::new(alloc);
     for fault in faults {
-        let line = faulty_line(&lines, *fault);
-        add_line(&mut names, alloc, line)?;
+        let line = printable(alloc, faulty_line(&lines, *fault))?;
+        add_tokens(&mut names, alloc, &line)?;
     }
     Ok(names)
 }

@@ -3,9 +3,11 @@ use Rattle.std.proofs.Math.Path.{fun_ext}
 use Rattle.std.proofs.lemmas.List.{take_all}
 use Rattle.std.specs.List.{list_any}
 use Rattle.lc3_table.specs.declared.operation.Fault.TheVariants as fault
+use Rattle.lc3_table.specs.Tokens.{tokens}
 use Rattle.lc3_asm.specs.declared.fault.LineFault.{LineFault}
+use Rattle.lc3_asm.specs.Faults.{printable_or_blank}
 use Rattle.lc3_asm.specs.Texts.{lines}
-use Rattle.lc3_warnings.specs.Labels.{mentions, faulty_line}
+use Rattle.lc3_warnings.specs.Labels.{is_mention, mentions, faulty_line}
 use Rattle.lc3_warnings.proofs.NameLemmas.{any-more}
 use Rattle.lc3_warnings.proofs.mentions.mentioned.Goals as goal
 
@@ -14,10 +16,11 @@ loop-fault-preserved c = λ name.
     let text = lines c.args.text.now in
     let none : LineFault = record { line = 0; kind = fault.NoOrig } in
     let f = get_or c.args.faults.now c.loop-fault.fault-index none in
-    let line : c.faulty_line-line.result.now ≡ faulty_line text f = search rules in
-    c.in_ok-add_line.ensures.added name
-    ∙ ap (λ b. b || mentions name c.faulty_line-line.result.now) (c.loop-fault.invariant name)
-    ∙ ap (λ l. list_any (mentions name) (map (faulty_line text) (take c.loop-fault.fault-index c.args.faults.now)) || mentions name l) line
+    let line : c.faulty_line.result.now ≡ faulty_line text f = search rules in
+    let shown : c.deref-in-loop-fault.result.now ≡ map printable_or_blank c.faulty_line.result.now = search rules in
+    c.in_ok-add_tokens.ensures.added name
+    ∙ ap (λ b. b || list_any (is_mention name) (tokens c.deref-in-loop-fault.result.now)) (c.loop-fault.invariant name)
+    ∙ ap (λ l. list_any (mentions name) (map (faulty_line text) (take c.loop-fault.fault-index c.args.faults.now)) || list_any (is_mention name) (tokens l)) (shown ∙ ap (map printable_or_blank) line)
     ∙ sym (any-more (mentions name) (faulty_line text) c.args.faults.now c.loop-fault.fault-index none f c.loop-fault-test.true refl)
 
 pub returns : goal.returns
