@@ -12,12 +12,6 @@ use crate::names::Names;
 use lc3_asm::{LineFault, Token, first_token, is_label, printable, upper, without_colon};
 use std::alloc::{AllocError, Global};
 
-fn lines_of(alloc: Global, text: &[u8]) -> Result<Vec<&[u8]>, AllocError>
-    ensures lines { IfOk result (λ found. map (λ line. line.now) found.items ≡ lines text.now) }
-{
-    text.split(|byte| *byte == b'\n').collect(alloc)
-}
-
 fn faulty_line<'a>(lines: &[&'a [u8]], fault: LineFault) -> &'a [u8]
     ensures line { result.now ≡ faulty_line (map (λ line. line.now) lines.now) fault }
 {
@@ -59,7 +53,7 @@ fn add_tokens(names: &mut Names, alloc: Global, line: &[u8]) -> Result<(), Alloc
 pub fn mentioned(alloc: Global, text: &[u8], faults: &[LineFault]) -> Result<Names, AllocError>
     ensures all { IfOk result (λ names. is_among names ≡ mentioned (lines text.now) faults.now) }
 {
-    let lines = lines_of(alloc, text)?;
+    let lines: Vec<&[u8]> = text.split(|byte| *byte == b'\n').collect(alloc)?;
     let mut names = Names::new(alloc);
     for fault in faults {
         let line = printable(alloc, faulty_line(&lines, *fault))?;

@@ -1,6 +1,8 @@
-use Rattle.std.proofs.Common.{rules, ◌≡◌, ◌||◌, ◌∙◌, ap, sym, refl, map, take, get_or, arith}
+use Rattle.std.proofs.Common.{rules, tests, ◌≡◌, ◌==◌, ◌||◌, ◌∙◌, ap, sym, refl, map, take, get_or, arith}
 use Rattle.std.proofs.Math.Path.{fun_ext}
 use Rattle.std.proofs.lemmas.List.{take_all}
+use Rattle.std.proofs.lemmas.Iterator.Consumers.{map_from_collect}
+use Rattle.std.proofs.lemmas.Iterator.Splits.{YieldsList-from_slice_split}
 use Rattle.std.specs.List.{list_any}
 use Rattle.lc3_table.specs.declared.operation.Fault.TheVariants as fault
 use Rattle.lc3_table.specs.Tokens.{tokens}
@@ -16,7 +18,9 @@ loop-fault-preserved c = λ name.
     let text = lines c.args.text.now in
     let none : LineFault = record { line = 0; kind = fault.NoOrig } in
     let f = get_or c.args.faults.now c.loop-fault.fault-index none in
-    let line : c.faulty_line.result.now ≡ faulty_line text f = search rules in
+    let cut : map (λ line. line.now) c.in_ok-lines.lines.items ≡ text =
+    rw c.in_ok-lines.was at (map_from_collect _ c.collect.ensures.ran (YieldsList-from_slice_split _ (λ b. b == 10) c.args.text.now c.split.ensures.rest c.split.ensures.done c.split.ensures.closure (λ x r q k. search (rules, tests)))) in
+    let line : c.faulty_line.result.now ≡ faulty_line text f = search (rules, cut) in
     let shown : c.deref-in-loop-fault.result.now ≡ map printable_or_blank c.faulty_line.result.now = search rules in
     c.in_ok-add_tokens.ensures.added name
     ∙ ap (λ b. b || list_any (is_mention name) (tokens c.deref-in-loop-fault.result.now)) (c.loop-fault.invariant name)
