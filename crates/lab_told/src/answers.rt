@@ -1,6 +1,6 @@
 //! What became of a call.
 ghost use Rattle.std.specs.Prelude.{◌≡◌};
-ghost use Rattle.lab_told.specs.Answers.{error_in, replied, outcome_of, wanted_of, result_in, result_of};
+ghost use Rattle.lab_told.specs.Answers.{error_in, outcome_of, wanted_of, result_in};
 
 use ipc_kernel::Reply;
 use ipc_names::Errno;
@@ -36,26 +36,22 @@ fn error_in(word: u16) -> Option<Errno>
     }
 }
 
-fn replied(reply: Reply) -> Outcome
-    ensures outcome { result ≡ replied reply }
-{
-    let error = match reply {
-        Reply::Plain(word) => error_in(word),
-        Reply::Message { .. } | Reply::Attr(_) | Reply::Value(_) => None,
-    };
-    match error {
-        Some(error) => Outcome::Refused(error),
-        None => Outcome::Replied(reply),
-    }
-}
-
 /// What became of the call that a step made, if it made one, by what is told of the step.
 pub fn outcome_of(stepped: Stepped) -> Option<Outcome>
     ensures outcome { result ≡ outcome_of stepped }
 {
     match stepped {
         Stepped::Refused(error) => Some(Outcome::Refused(error)),
-        Stepped::Called(reply) => Some(replied(reply)),
+        Stepped::Called(reply) => {
+            let error = match reply {
+                Reply::Plain(word) => error_in(word),
+                _ => None,
+            };
+            match error {
+                Some(error) => Some(Outcome::Refused(error)),
+                None => Some(Outcome::Replied(reply)),
+            }
+        }
         Stepped::Waits => Some(Outcome::Waits),
         Stepped::Moved | Stepped::Same => None,
     }
@@ -79,15 +75,5 @@ pub fn result_in(reply: &Reply) -> usize
         Reply::Plain(word) => *word as usize,
         Reply::Message { words, .. } => words.len(),
         Reply::Attr(_) | Reply::Value(_) => 0,
-    }
-}
-
-/// The result of a call that was answered and not refused.
-pub fn result_of(outcome: &Outcome) -> Option<usize>
-    ensures value { result ≡ result_of outcome.now }
-{
-    match outcome {
-        Outcome::Replied(reply) => Some(result_in(reply)),
-        Outcome::Waits | Outcome::Refused(_) => None,
     }
 }

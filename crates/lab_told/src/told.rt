@@ -2,15 +2,15 @@
 ghost use Rattle.std.specs.Prelude.{◌≡◌, ◌<◌, if◌then◌else◌, IfOk, length, slice_get, drop};
 ghost use Rattle.lab_sched.specs.Held.{process_view};
 ghost use Rattle.lab_sched.specs.Worlds.{machine_of};
-ghost use Rattle.lab_told.specs.Answers.{act_done, call_done};
+ghost use Rattle.lab_told.specs.Answers.{act_done, call_done, result_of};
 ghost use Rattle.lab_told.specs.Givers.{giver_by};
 ghost use Rattle.lab_told.specs.Origins.{origin_by};
-ghost use Rattle.lab_told.specs.Events.{place_by, level_by, call_by, wrote, told_with, told_by};
+ghost use Rattle.lab_told.specs.Events.{level_by, call_by, wrote, told_with, told_by};
 ghost use Rattle.lab_told.specs.Scenes.{has_effect};
 ghost use Rattle.lab_told.specs.Tallies.{account_of};
 ghost use Rattle.lab_told.specs.declared.told.Told.TheVariants.{Nothing};
 
-use crate::answers::{Outcome, outcome_of, result_of, wanted_of};
+use crate::answers::{Outcome, outcome_of, wanted_of};
 use crate::asking::{Asking, Observed};
 use crate::handles::{Level, held_place, level_at};
 use crate::origins::Origin;
@@ -108,23 +108,6 @@ pub enum Told {
     Shown(Event),
 }
 
-fn place_by(
-    kernel: &Kernel,
-    pid: usize,
-    service: Service,
-    place: Option<u8>,
-    outcome: &Outcome,
-) -> Option<u8>
-    requires process { pid < length kernel.now.processes }
-    ensures place { result ≡ place_by kernel.now pid service place outcome.now }
-{
-    match outcome {
-        _ if !service.is_open() => place,
-        Outcome::Replied(Reply::Plain(number)) => held_place(kernel, pid, service, *number),
-        _ => None,
-    }
-}
-
 fn level_by(kernel: &Kernel, service: Service, place: Option<u8>) -> Option<Level>
     ensures level { result ≡ level_by kernel.now service place }
 {
@@ -135,17 +118,18 @@ fn level_by(kernel: &Kernel, service: Service, place: Option<u8>) -> Option<Leve
     }
 }
 
-/// Where the message comes from that a call with this result received, by the tally before it.
+/// Where the message comes from that a call with this outcome received, by the tally before it.
 fn origin_by(
     tally: &Tally,
     service: Service,
     place: Option<u8>,
-    result_word: Option<usize>,
+    outcome: &Outcome,
 ) -> Option<Origin>
-    ensures value { result ≡ origin_by service place result_word tally.now.origins }
+    ensures value { result
+        ≡ origin_by service place (result_of outcome.now) tally.now.origins }
 {
-    match (result_word, service) {
-        (Some(_), Service::MqReceive) => tally.first_origin(place?),
+    match (outcome, service) {
+        (Outcome::Replied(_), Service::MqReceive) => tally.first_origin(place?),
         _ => None,
     }
 }
@@ -176,8 +160,12 @@ fn call_by(kernel: &Kernel, tally: &Tally, pid: usize, asking: Asking, outcome: 
         wants_attributes,
     } = asking;
     let outcome = wanted_of(wants_attributes, outcome);
-    let place = place_by(kernel, pid, service, before, &outcome);
-    let origin = origin_by(tally, service, before, result_of(&outcome));
+    let place = match &outcome {
+        _ if !service.is_open() => before,
+        Outcome::Replied(Reply::Plain(number)) => held_place(kernel, pid, service, *number),
+        _ => None,
+    };
+    let origin = origin_by(tally, service, before, &outcome);
     let since = tally.account(pid).since;
     Called {
         service,
