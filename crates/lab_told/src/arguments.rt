@@ -2,8 +2,7 @@
 ghost use Rattle.std.specs.Prelude.{◌≡◌, ◌<◌, ◌++◌, Some, OnOk, IfOk, length, string_bytes};
 ghost use Rattle.lab_sched.specs.Held.{process_view};
 ghost use Rattle.lab_sched.specs.Worlds.{machine_of};
-ghost use Rattle.lab_told.specs.Answers.{wants_attributes};
-ghost use Rattle.lab_told.specs.Calls.{attributes_asked, mq_open_arguments, sem_open_arguments, flags_asked, further_arguments, arguments, object_called, place_of, sent_words};
+ghost use Rattle.lab_told.specs.Calls.{attributes_asked, mq_open_arguments, sem_open_arguments, further_arguments, arguments, object_called, sent_words};
 
 use crate::attributes::Sizes;
 use crate::flags::{AttributeFlags, MqFlags, SemFlags, has_flag};
@@ -42,25 +41,6 @@ impl fmt::Display for SizesAt<'_> {
     }
 }
 
-/// The new mq_flags at an address.
-#[derive(Clone, Copy)]
-struct FlagsAt<'a>(&'a Process, u16);
-
-impl fmt::Display for FlagsAt<'_> {
-    ghost output = { λ x. Some (flags_asked (machine_of (process_view x.0.now)) x.1) };
-
-    #[tactic(auto, unfolding(crate::specs::Calls::flags_asked, crate::specs::Attributes::flags_field))]
-    fn fmt<W: fmt::Write>(&self, f: &mut fmt::Formatter<W>) -> fmt::Result {
-        let FlagsAt(process, at) = *self;
-        if !is_in_memory(at, 4) {
-            let at = Hex(at);
-            return write!(f, "{at}");
-        }
-        let flags = AttributeFlags(process.machine().word(at));
-        write!(f, "{{mq_flags={flags}}}")
-    }
-}
-
 #[tactic(auto, unfolding(crate::specs::Calls::mq_open_arguments))]
 fn push_mq_open(text: &mut String, process: &Process) -> Result<(), AllocError>
     ensures text { OnOk result (string_bytes text.new ≡ string_bytes text.old
@@ -94,7 +74,7 @@ fn push_sem_open(text: &mut String, process: &Process) -> Result<(), AllocError>
 }
 
 /// Adds what stands behind the descriptor or the slot.
-#[tactic(auto, unfolding(crate::specs::Calls::further_arguments))]
+#[tactic(auto, unfolding(crate::specs::Calls::further_arguments, crate::specs::Calls::flags_asked, crate::specs::Attributes::flags_field))]
 fn push_further(text: &mut String, process: &Process, service: Service) -> Result<(), AllocError>
     ensures text { OnOk result (string_bytes text.new ≡ string_bytes text.old
         ++ further_arguments (machine_of (process_view process.now)) service) }
@@ -118,9 +98,15 @@ fn push_further(text: &mut String, process: &Process, service: Service) -> Resul
             write!(text, ", {address}")
         }
         Service::MqSetattr => {
-            let flags = FlagsAt(process, register(process, 1));
+            let at = register(process, 1);
             let old = Pointer(register(process, 2));
-            write!(text, ", {flags}, {old}")
+            if is_in_memory(at, 4) {
+                let flags = AttributeFlags(process.machine().word(at));
+                write!(text, ", {{mq_flags={flags}}}, {old}")
+            } else {
+                let at = Hex(at);
+                write!(text, ", {at}, {old}")
+            }
         }
         _ => Ok(()),
     }
@@ -188,19 +174,6 @@ pub fn object_called(
     Ok(Text::new(text))
 }
 
-/// The place of the object that a call of process `pid` is on, where a descriptor or a slot stands for one.
-pub fn place_of(kernel: &Kernel, pid: usize, process: &Process, service: Service) -> Option<u8>
-    requires process { pid < length kernel.now.processes }
-    ensures place { result
-        ≡ place_of kernel.now pid (machine_of (process_view process.now)) service }
-{
-    if service.is_by_name() {
-        None
-    } else {
-        held_place(kernel, pid, service, register(process, 0))
-    }
-}
-
 /// The words that a call sends.
 pub fn sent_words(
     alloc: Global,
@@ -219,11 +192,4 @@ pub fn sent_words(
         }
         _ => Ok(None),
     }
-}
-
-/// Whether a call wants the attributes of a queue that it is answered: mq_setattr doesn't where R2 is 0.
-pub fn wants_attributes(process: &Process, service: Service) -> bool
-    ensures wants { result ≡ wants_attributes (machine_of (process_view process.now)) service }
-{
-    service != Service::MqSetattr || register(process, 2) != 0
 }

@@ -1,19 +1,15 @@
 //! What a trace looks at before a step.
 ghost use Rattle.std.specs.Prelude.{◌≡◌, ◌<◌, IfOk, length, slice_get};
-ghost use Rattle.std.specs.Option.{option_map};
-ghost use Rattle.lab_sched.specs.Held.{process_view};
-ghost use Rattle.lab_sched.specs.Worlds.{machine_of};
-ghost use Rattle.lab_told.specs.Questions.{question, before_in};
-ghost use Rattle.lab_told.specs.Services.{service_at};
+ghost use Rattle.lab_told.specs.Questions.{before_in};
 
-use crate::arguments::{arguments_of, object_called, place_of, sent_words, wants_attributes};
+use crate::arguments::{arguments_of, object_called, sent_words};
+use crate::handles::held_place;
 use crate::service::service_at;
 use crate::text::Text;
 use crate::words::register;
-use ipc_kernel::Kernel;
 use ipc_objects::Words;
 use ipc_traps::Service;
-use lab_sched::{Process, World};
+use lab_sched::World;
 use std::alloc::{AllocError, Global};
 
 /// A call that a process is about to make.
@@ -46,31 +42,6 @@ pub struct Observed {
     pub asking: Option<Asking>,
 }
 
-fn asking_of(
-    alloc: Global,
-    kernel: &Kernel,
-    pid: usize,
-    process: &Process,
-) -> Result<Option<Asking>, AllocError>
-    requires process { pid < length kernel.now.processes }
-    ensures question { IfOk result (λ a. a
-        ≡ option_map (question kernel.now pid (machine_of (process_view process.now)))
-        (service_at (machine_of (process_view process.now)))) }
-{
-    let Some(service) = service_at(process) else {
-        return Ok(None);
-    };
-    Ok(Some(Asking {
-        service,
-        arguments: arguments_of(alloc, kernel, pid, process, service)?,
-        object: object_called(alloc, kernel, pid, process, service)?,
-        place: place_of(kernel, pid, process, service),
-        sent: sent_words(alloc, process, service)?,
-        priority: register(process, 3),
-        wants_attributes: wants_attributes(process, service),
-    }))
-}
-
 /// Process `pid` of a world before its step.
 pub fn observe(alloc: Global, world: &World, pid: usize) -> Result<Observed, AllocError>
     requires process { pid < length world.now.processes }
@@ -85,11 +56,31 @@ pub fn observe(alloc: Global, world: &World, pid: usize) -> Result<Observed, All
             asking: None,
         });
     };
-    let pc = process.machine().pc();
+    let (kernel, machine) = (world.kernel(), process.machine());
+    let pc = machine.pc();
+    let asking = match service_at(process) {
+        Some(service) => {
+            let place = if service.is_by_name() {
+                None
+            } else {
+                held_place(kernel, pid, service, register(process, 0))
+            };
+            Some(Asking {
+                service,
+                arguments: arguments_of(alloc, kernel, pid, process, service)?,
+                object: object_called(alloc, kernel, pid, process, service)?,
+                place,
+                sent: sent_words(alloc, process, service)?,
+                priority: register(process, 3),
+                wants_attributes: service != Service::MqSetattr || register(process, 2) != 0,
+            })
+        }
+        None => None,
+    };
     Ok(Observed {
         pc,
-        word: process.machine().word(pc),
-        written: process.machine().output().len(),
-        asking: asking_of(alloc, world.kernel(), pid, process)?,
+        word: machine.word(pc),
+        written: machine.output().len(),
+        asking,
     })
 }
