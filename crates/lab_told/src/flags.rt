@@ -1,7 +1,7 @@
 //! Flags by their names.
 ghost use Rattle.std.specs.Prelude.{◌≡◌, Some, if◌then◌else◌, []};
 ghost use Rattle.ipc_names.specs.Flags.{has_flag};
-ghost use Rattle.lab_told.specs.Flags.{rest_part, access_text, mq_flags, sem_flags, flag_word};
+ghost use Rattle.lab_told.specs.Flags.{rest_part, mq_flags, sem_flags, flag_word};
 
 use ipc_names::{O_ACCMODE, O_CREAT, O_EXCL, O_NONBLOCK};
 use lc3_word::Hex;
@@ -51,18 +51,6 @@ impl fmt::Display for Rest {
     }
 }
 
-/// The access that bits 1 and 0 ask for.
-fn access_name(access: u16) -> &'static str
-    ensures text { result.now ≡ access_text access }
-{
-    match access {
-        0 => "O_RDONLY",
-        1 => "O_WRONLY",
-        2 => "O_RDWR",
-        _ => "x0003",
-    }
-}
-
 /// The flags of mq_open.
 #[derive(Clone, Copy)]
 pub struct MqFlags(pub u16);
@@ -73,7 +61,12 @@ impl fmt::Display for MqFlags {
     #[tactic(auto, unfolding(crate::specs::Flags::mq_flags, crate::specs::Flags::flag_part))]
     fn fmt<W: fmt::Write>(&self, f: &mut fmt::Formatter<W>) -> fmt::Result {
         let word = self.0;
-        let access = access_name(word & O_ACCMODE);
+        let access = match word & O_ACCMODE {
+            0 => "O_RDONLY",
+            1 => "O_WRONLY",
+            2 => "O_RDWR",
+            _ => "x0003",
+        };
         let create = where_set(O_CREAT, word, "|O_CREAT");
         let exclusive = where_set(O_EXCL, word, "|O_EXCL");
         let nonblock = where_set(O_NONBLOCK, word, "|O_NONBLOCK");

@@ -1,10 +1,9 @@
 //! What a trace keeps of each process beside the world.
 ghost use Rattle.std.specs.Prelude.{◌≡◌, IfOk, OnOk, slice_set};
-ghost use Rattle.lab_told.specs.Answers.{act_done};
-ghost use Rattle.lab_told.specs.Givers.{giver_at, givers_after};
+ghost use Rattle.lab_told.specs.Givers.{giver_at};
 ghost use Rattle.lab_told.specs.Origins.{first};
 ghost use Rattle.lab_told.specs.Units.{units_of, balance};
-ghost use Rattle.lab_told.specs.Tallies.{new_tally, account_of, waits_from, tally_after};
+ghost use Rattle.lab_told.specs.Tallies.{new_tally, account_of, tally_after};
 
 use crate::answers::Outcome;
 use crate::origins::{Origin, keep_origins};
@@ -53,32 +52,12 @@ const NEW_ACCOUNT: Account = Account {
     since: None,
 };
 
-/// The step since which a process waits, by what it did in step `number`.
-fn waits_from(number: u32, act: &Act) -> Option<u32>
-    ensures value { result ≡ waits_from number act.now }
+/// Sets the item at a position, where there is one.
+fn set<T: Copy>(items: &mut Vec<T>, at: usize, item: T)
+    ensures set { items.new.items ≡ slice_set items.old.items at item }
 {
-    match act {
-        Act::Calls(call) if matches!(call.outcome, Outcome::Waits) => Some(number),
-        _ => None,
-    }
-}
-
-/// Sets the account of process `pid`, where there is one.
-fn set(accounts: &mut Vec<Account>, pid: usize, account: Account)
-    ensures set { accounts.new.items ≡ slice_set accounts.old.items pid account }
-{
-    if let Some(kept) = accounts.get_mut(pid) {
-        *kept = account;
-    }
-}
-
-fn keep_givers(givers: &mut Vec<Option<u32>>, number: u32, act: &Act)
-    ensures kept { givers.new.items ≡ givers_after number (act_done act.now) givers.old.items }
-{
-    if let Some((Service::SemPost | Service::MqReceive, place)) = act.done() {
-        if let Some(step) = givers.get_mut(place as usize) {
-            *step = Some(number);
-        }
+    if let Some(kept) = items.get_mut(at) {
+        *kept = item;
     }
 }
 
@@ -103,10 +82,7 @@ impl Tally {
     pub fn account(&self, pid: usize) -> Account
         ensures value { result ≡ account_of self.now pid }
     {
-        match self.accounts.get(pid) {
-            Some(account) => *account,
-            None => NEW_ACCOUNT,
-        }
+        self.accounts.get(pid).copied().unwrap_or(NEW_ACCOUNT)
     }
 
     /// Where the message comes from that is first to be received from the queue in a place.
@@ -163,12 +139,14 @@ impl Tally {
             }
             Told::Shown(event) => {
                 let act = &event.act;
-                let account = Account {
-                    local: 0,
-                    since: waits_from(number, act),
+                let since = match act {
+                    Act::Calls(call) if matches!(call.outcome, Outcome::Waits) => Some(number),
+                    _ => None,
                 };
-                set(&mut self.accounts, pid, account);
-                keep_givers(&mut self.givers, number, act);
+                set(&mut self.accounts, pid, Account { local: 0, since });
+                if let Some((Service::SemPost | Service::MqReceive, place)) = act.done() {
+                    set(&mut self.givers, place as usize, Some(number));
+                }
                 keep_origins(&mut self.origins, kernel, number, pid, act)?;
                 keep_units(&mut self.units, kernel, pid, act)
             }
