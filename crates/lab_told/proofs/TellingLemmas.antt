@@ -1,9 +1,10 @@
 -- Steps that are told, one after another.
-use Rattle.std.proofs.Common.{◌≡◌, ℕ, zero, suc, ◌+◌, ◌-◌, ◌≤◌, List, [], ◌∷◌, ◌++◌, replicate, refl, sym, ap, subst, ◌∙◌, append_assoc, arith}
+use Rattle.std.proofs.Common.{◌≡◌, ℕ, zero, suc, ◌+◌, ◌-◌, ◌<◌, ◌≤◌, List, [], ◌∷◌, ◌++◌, replicate, refl, sym, ap, subst, ◌∙◌, append_assoc, arith}
 use Rattle.std.proofs.lemmas.List.{replicate-append-replicate}
 use Rattle.lab_sched.specs.Worlds.{StepEffect, nothing, local_step, kernel_step, step_effect_in}
 use Rattle.lab_told.specs.Scenes.{Scene, told, next, scene_after}
-use Rattle.lab_told.specs.Tellings.{TellsAll, BreaksOff}
+use Rattle.lab_told.specs.Tellings.{IsNext, TellsAll, BreaksOff}
+use Rattle.lab_told.specs.declared.telling.Taken.{Taken}
 use Rattle.lab_told.specs.declared.told.Told.TheVariants.{Nothing}
 use Rattle.lab_told.proofs.SceneLemmas.{scene-append, scene-one, scene-still, renumbered, next-still, told-some}
 
@@ -30,11 +31,6 @@ scene-stands s p k one =
 pub scene-then : (s u x : Scene) (xs ys zs : List ℕ) → zs ≡ xs ++ ys → u ≡ scene_after s xs → x ≡ scene_after u ys → x ≡ scene_after s zs
 scene-then s u x xs ys zs parts led then =
     then ∙ ap (λ y. scene_after y ys) led ∙ sym (scene-append s xs ys) ∙ ap (scene_after s) (sym parts)
-
--- the steps of a block before step number k, and the others
-pub block-parts : (n k p : ℕ) → k ≤ n → replicate n p ≡ replicate k p ++ replicate (n - k) p
-block-parts n k p h =
-    let parts : n ≡ k + (n - k) = omega arith in ap (λ m. replicate m p) parts ∙ sym (replicate-append-replicate k (n - k) p)
 
 module _ {O : Type 0} (Tells : Scene → ℕ → O → O → Type 0) where
   pub told-append : (s : Scene) (xs ys : List ℕ) (a b c : O) → TellsAll Tells s xs a b → TellsAll Tells (scene_after s xs) ys b c → TellsAll Tells s (xs ++ ys) a c
@@ -68,11 +64,39 @@ module _ {O : Type 0} (Tells : Scene → ℕ → O → O → Type 0) where
       (λ e. subst (λ n. TellsAll Tells s (replicate n p) (held 0) (held n)) (sym e) (held 1, first, refl))
       (λ e. let same : 0 + k ≡ k = omega arith in subst (λ n. TellsAll Tells s (replicate k p) (held 0) (held n)) same (still-all k 0 s p held e (each e)))
 
+  -- a step that was taken, and the others for which it stands, where these leave what it led to as it is
+  pub told-once : (s : Scene) (x : Taken) (a b : O) → IsNext s x → Tells s x.pid a b
+      → (step_effect_in s.world x.pid ≡ nothing → (n : ℕ) → Tells (renumbered s n) x.pid a b × Tells (renumbered s n) x.pid b b)
+      → TellsAll Tells s (replicate x.count x.pid) a b
+  told-once s x a b taken first each = by x.count taken.some (λ other. taken.other (λ e. other (sym taken.told ∙ e)))
+    where
+      held : ℕ → O
+      held zero = a
+      held (suc j) = b
+
+      still : step_effect_in s.world x.pid ≡ nothing → (n j : ℕ) → Tells (renumbered s n) x.pid (held j) (held (suc j))
+      still e n zero = (each e n).0
+      still e n (suc j) = (each e n).1
+
+      by : (k : ℕ) → 1 ≤ k → ((told s x.pid ≡ Nothing → ⊥) → k ≡ 1) → TellsAll Tells s (replicate k x.pid) a b
+      by zero some one = absurd (omega (arith, some))
+      by (suc k) some one = told-stands s x.pid (suc k) held one first still
+
   module _ {E : Type 0} (Fails : Scene → ℕ → O → O → E → Type 0) where
-    pub breaks-first : (s : Scene) (p k : ℕ) (a b : O) (e : E) → 1 ≤ k → Fails s p a b e → BreaksOff Tells Fails s (replicate k p) a b e
-    unfolding scene_after
-    breaks-first s p zero a b e some fault = absurd (omega (arith, some))
-    breaks-first s p (suc k) a b e some fault = record { before = []; pid = p; behind = replicate k p; steps = refl; held = a; told = refl; fault = fault }
+    -- k steps of a block of n were told, and the next one broke off
+    pub breaks-block : (s u : Scene) (n k p : ℕ) (a b c : O) (e : E) → k < n → u ≡ scene_after s (replicate k p) → TellsAll Tells s (replicate k p) a b
+        → Fails u p b c e → BreaksOff Tells Fails s (replicate n p) a c e
+    breaks-block s u n k p a b c e h led t fault =
+        let parts : n ≡ k + suc (n - suc k) = omega arith in
+        record {
+          before = replicate k p;
+          pid = p;
+          behind = replicate (n - suc k) p;
+          steps = ap (λ m. replicate m p) parts ∙ sym (replicate-append-replicate k (suc (n - suc k)) p);
+          held = b;
+          told = t;
+          fault = subst (λ x. Fails x p b c e) led fault;
+        }
 
     -- those before it were told, and others are behind it
     pub breaks-then : (s u : Scene) (xs ys rest zs : List ℕ) (a b c : O) (e : E) → zs ≡ xs ++ (ys ++ rest) → u ≡ scene_after s xs → TellsAll Tells s xs a b

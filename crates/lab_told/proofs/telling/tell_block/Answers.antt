@@ -1,9 +1,9 @@
-use Rattle.std.proofs.Common.{◌≡◌, ◌+◌, ◌-◌, [], ◌++◌, length, replicate, refl, sym, ap, ◌∙◌, arith, append-nil}
+use Rattle.std.proofs.Common.{◌≡◌, ◌+◌, length, replicate, refl, sym, ap, ◌∙◌, arith}
 use Rattle.std.proofs.lemmas.List.{replicate-append-replicate}
 use Rattle.std.proofs.lemmas.Result.{err_from_is_err_and}
 use Rattle.lab_told.specs.Scenes.{Scene, scene_at}
 use Rattle.lab_told.proofs.SceneLemmas.{scene-none, length-scene}
-use Rattle.lab_told.proofs.TellingLemmas.{scene-then, block-parts, told-then, breaks-first, breaks-then}
+use Rattle.lab_told.proofs.TellingLemmas.{scene-then, told-then, breaks-block}
 use Rattle.lab_told.proofs.telling.tell_block.Goals as goal
 
 pub loop-done-init : goal.loop-done-init
@@ -40,13 +40,6 @@ pub returns-in_err-taken-clause-fault : goal.returns-in_err-taken-clause-fault
 returns-in_err-taken-clause-fault g c =
     let s = scene_at c.args.steps.first c.args.world.now c.args.tally.now in
     let u = scene_at (c.args.steps.first + c.loop-done.done) c.loop-done.world c.loop-done.tally in
-    let p = c.args.steps.pid in
-    let done = c.loop-done.done in
-    let left = c.args.steps.count - done in
-    let tells = g.T.Telling.tells c.args.telling.now in
-    let fails = g.T.Telling.fails c.args.telling.now in
-    let parts = block-parts c.args.steps.count done p (omega (arith, c.loop-done.invariant.within))
-    ∙ ap (λ l. replicate done p ++ l) (sym (append-nil (replicate left p))) in
     let e = err_from_is_err_and c.from_residual.result c.from_residual.ensures.1 in
-    rw (e.1, e.2) (breaks-then tells fails s u (replicate done p) (replicate left p) [] (replicate c.args.steps.count p) _ _ _ _ parts c.loop-done.invariant.scene
-    c.loop-done.invariant.told (breaks-first tells fails u p left _ _ _ (omega (arith, c.loop-done-test.true)) c.in_err-taken.ensures.fault))
+    rw (e.1, e.2) (breaks-block (g.T.Telling.tells c.args.telling.now) (g.T.Telling.fails c.args.telling.now) s u c.args.steps.count c.loop-done.done c.args.steps.pid _ _ _ _
+    (omega (arith, c.loop-done-test.true)) c.loop-done.invariant.scene c.loop-done.invariant.told c.in_err-taken.ensures.fault)

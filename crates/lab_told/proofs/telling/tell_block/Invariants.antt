@@ -1,5 +1,5 @@
 use Rattle.std.proofs.Common.{◌≡◌, ◌+◌, ◌-◌, ◌<◌, ◌≤◌, length, replicate}
-use Rattle.lab_told.specs.Scenes.{scene_after}
+use Rattle.lab_told.specs.Scenes.{scene_at, scene_after}
 use Rattle.lab_told.specs.Tellings.{TellsAll}
 use Rattle.lab_told.proofs.telling.tell_block.Given as goal
 
@@ -7,10 +7,8 @@ use Rattle.lab_told.proofs.telling.tell_block.Given as goal
 abbrev pub invariant-loop-done : goal.invariant-loop-done
 invariant-loop-done g l = record {
   within : l.done ≤ l.steps.count;
-  scene : record { number = l.steps.first + l.done; world = l.world; tally = l.tally }
-      ≡ scene_after (record { number = l.steps.first; world = l.fn.world; tally = l.fn.tally }) (replicate l.done l.steps.pid);
-  told : TellsAll (g.T.Telling.tells l.telling) (record { number = l.steps.first; world = l.fn.world; tally = l.fn.tally })
-      (replicate l.done l.steps.pid) l.fn.output l.output;
+  scene : scene_at (l.steps.first + l.done) l.world l.tally ≡ scene_after (scene_at l.steps.first l.fn.world l.fn.tally) (replicate l.done l.steps.pid);
+  told : TellsAll (g.T.Telling.tells l.telling) (scene_at l.steps.first l.fn.world l.fn.tally) (replicate l.done l.steps.pid) l.fn.output l.output;
   there : l.steps.pid < length l.world.processes;
 }
 
