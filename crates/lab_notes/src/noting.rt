@@ -1,11 +1,11 @@
 //! What is noted of a run that is told.
-ghost use Rattle.std.specs.Prelude.{◌≡◌, IfOk};
+ghost use Rattle.std.specs.Prelude.{◌≡◌, ⊤, IfOk};
 ghost use Rattle.lab_sched.specs.Schedules.{steps_of};
+ghost use Rattle.lab_told.specs.Scenes.{told};
 ghost use Rattle.lab_told.specs.Tellings.{AreThere};
-ghost use Rattle.lab_notes.specs.Notes.{notes};
-ghost use Rattle.lab_notes.specs.Private.Noting.{NotesStep, Fails};
+ghost use Rattle.lab_notes.specs.Notes.{notes, registers_behind, rows_by};
 
-use crate::rows::{Noted, Rows, registers_of};
+use crate::rows::{Noted, keep, new_rows, registers_of};
 use lab_sched::{Schedule, World};
 use lab_told::{Taken, Tally, Telling, tell_run};
 use std::alloc::{AllocError, Global};
@@ -13,23 +13,24 @@ use std::alloc::{AllocError, Global};
 /// Notes the steps of a run.
 struct Noting;
 
-impl Telling<Rows> for Noting {
+impl Telling<Vec<Noted>> for Noting {
     type Fault = AllocError;
 
-    ghost tells = { λ v. NotesStep };
+    ghost tells = { λ _ s p old new. new.items
+        ≡ rows_by p (registers_behind s p) (told s p) old.items };
 
-    ghost fails = { λ v. Fails };
+    ghost fails = { λ _ _ _ _ _ _. ⊤ };
 
-    ghost refused = { λ v s p o e refused. tt };
+    ghost refused = { λ _ _ _ _ _ _. tt };
 
     fn tell_step(
         &self,
         alloc: Global,
-        rows: &mut Rows,
+        rows: &mut Vec<Noted>,
         taken: &Taken<'_>,
     ) -> Result<(), AllocError> {
         let registers = registers_of(taken.world, taken.pid);
-        rows.keep(alloc, taken.pid, taken.told, registers)?;
+        keep(rows, alloc, taken.pid, taken.told, registers)?;
         Ok(())
     }
 }
@@ -44,7 +45,7 @@ pub fn noted(
     ensures noted { IfOk result (λ rows. rows.items ≡ notes world.old (steps_of schedule.now)) }
 {
     let mut tally = Tally::new(alloc, world.count())?;
-    let mut rows = Rows::new(alloc, world.count())?;
+    let mut rows = new_rows(alloc, world.count())?;
     tell_run(&Noting, &mut rows, world, &mut tally, schedule.blocks())?;
-    Ok(rows.into_rows())
+    Ok(rows)
 }

@@ -1,13 +1,10 @@
 //! A note in words.
 ghost use Rattle.std.specs.Prelude.{◌≡◌, ◌++◌, OnOk, string_bytes};
 ghost use Rattle.lab_notes.specs.Texts.{more_text};
-ghost use Rattle.lab_notes.specs.Private.Texts.{call_text};
 
 use crate::rows::Refusal;
 use crate::why::push_why;
 use ipc_errors::error_name;
-use ipc_names::Errno;
-use ipc_traps::Service;
 use std::alloc::AllocError;
 
 /// Adds how many more were refused, where there are more.
@@ -21,16 +18,6 @@ pub fn push_more(text: &mut String, more: u32) -> Result<(), AllocError>
     Ok(())
 }
 
-/// Adds a call and the error that it had.
-#[tactic(auto, unfolding(crate::specs::Private::Texts::call_text))]
-fn push_call(text: &mut String, service: Service, error: Errno) -> Result<(), AllocError>
-    ensures text { OnOk result (string_bytes text.new ≡ string_bytes text.old
-        ++ call_text service error) }
-{
-    let (name, error) = (service.name(), error_name(error));
-    write!(text, "{name} = {error}")
-}
-
 /// Adds a note of process `pid`, without its end: its first refused call, where that stands, and why it was refused.
 pub fn push_note(
     text: &mut String,
@@ -38,9 +25,11 @@ pub fn push_note(
     refusal: &Refusal,
     place: &str,
 ) -> Result<(), AllocError> {
-    write!(text, "lc3lab: note: process {pid}: ")?;
-    push_call(text, refusal.service, refusal.error)?;
-    write!(text, ", at {place} (")?;
+    let (name, error) = (refusal.service.name(), error_name(refusal.error));
+    write!(
+        text,
+        "lc3lab: note: process {pid}: {name} = {error}, at {place} ("
+    )?;
     push_why(text, refusal)?;
     text.push_str(")")
 }

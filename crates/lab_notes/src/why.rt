@@ -140,7 +140,10 @@ fn push_invalid_open(text: &mut String, refusal: &Refusal) -> Result<(), AllocEr
         let flags = Hex(r1);
         return write!(text, "{flags} are no flags");
     }
-    if !has_attributes(refusal.registers) || !may_be_name(object) {
+    // a name that is shown has its slash and no other one, and no blank
+    let rest = object.strip_prefix('/').unwrap_or("");
+    let may_be_name = !rest.is_empty() && !rest.contains('/') && !rest.contains(' ');
+    if !has_attributes(refusal.registers) || !may_be_name {
         return push_no_name(text, object);
     }
     let at = Hex(r2);
@@ -148,14 +151,6 @@ fn push_invalid_open(text: &mut String, refusal: &Refusal) -> Result<(), AllocEr
         write!(text, "the form of the name, or an attribute at {at}")
     } else {
         write!(text, "an attribute at {at}")
-    }
-}
-
-/// Whether a name that is shown has its slash and no other one, and no blank.
-fn may_be_name(shown: &str) -> bool {
-    match shown.strip_prefix('/') {
-        Some(rest) => !rest.is_empty() && !rest.contains('/') && !rest.contains(' '),
-        None => false,
     }
 }
 

@@ -13,7 +13,7 @@ returns c =
     let first = c.in_ok-tally.ensures.empty ∙ ap new_tally c.count.ensures.count in
     let told = rw c.blocks-2.ensures.value at c.in_ok-tell_run.ensures.told in
     record {
-      noted = c.into_rows.ensures.rows ∙ rows-all (scene_at 1 w c.in_ok-tally.tally) ps c.in_ok-rows.rows _ told
-          ∙ ap (λ t. rows_after (scene_at 1 w t) ps c.in_ok-rows.rows) first
+      noted = rows-all (λ v. v.items) (scene_at 1 w c.in_ok-tally.tally) ps c.in_ok-rows.rows _ told
+          ∙ ap (λ t. rows_after (scene_at 1 w t) ps c.in_ok-rows.rows.items) first
           ∙ ap (rows_after (first_scene w) ps) (c.in_ok-rows.ensures.rows ∙ ap new_rows c.count-2.ensures.count);
     }

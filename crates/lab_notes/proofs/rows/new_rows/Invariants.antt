@@ -1,6 +1,6 @@
 use Rattle.std.proofs.Common.{◌≡◌, replicate}
 use Rattle.lab_notes.specs.Notes.{new_row}
-use Rattle.lab_notes.proofs.rows.Rows.new.Given as goal
+use Rattle.lab_notes.proofs.rows.new_rows.Given as goal
 
 -- the rows so far
 abbrev pub invariant-loop : goal.invariant-loop

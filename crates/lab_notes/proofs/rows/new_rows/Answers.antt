@@ -1,6 +1,6 @@
 use Rattle.std.proofs.Common.{◌≡◌, ap, ◌∙◌, replicate, arith}
 use Rattle.lab_notes.specs.Notes.{new_row}
-use Rattle.lab_notes.proofs.rows.Rows.new.Goals as goal
+use Rattle.lab_notes.proofs.rows.new_rows.Goals as goal
 
 pub returns : goal.returns
 returns c =
