@@ -1,16 +1,16 @@
 -- The lines of steps, one after another.
-use Rattle.std.proofs.Common.{◌≡◌, ℕ, zero, suc, ◌≤◌, List, [], ◌∷◌, ◌++◌, Option, replicate, refl, sym, ap, subst, ◌∙◌, append_assoc, arith}
+use Rattle.std.proofs.Common.{◌≡◌, ℕ, List, [], ◌∷◌, ◌++◌, Option, replicate, refl, sym, ap, subst, ◌∙◌, append_assoc}
 use Rattle.std.specs.Io.KnownBytes.{Appends}
 use Rattle.std.proofs.KnownBytes.{Appends-nil, Appends-trans}
 use Rattle.lab_io.specs.Device.{Device, AppendsPrefix}
 use Rattle.lab_io.proofs.Prefixes.{AppendsPrefix-after}
 use Rattle.lab_sched.specs.Worlds.{nothing, step_effect_in}
 use Rattle.lab_told.specs.Scenes.{Scene, told, next, scene_after}
-use Rattle.lab_told.specs.Tellings.{TellsAll, BreaksOff}
+use Rattle.lab_told.specs.Tellings.{IsNext, TellsAll, BreaksOff}
+use Rattle.lab_told.specs.declared.telling.Taken.{Taken}
 use Rattle.lab_told.specs.declared.told.Told.{Told}
-use Rattle.lab_told.specs.declared.told.Told.TheVariants.{Nothing}
 use Rattle.lab_told.proofs.SceneLemmas.{renumbered, told-still}
-use Rattle.lab_told.proofs.TellingLemmas.{told-stands}
+use Rattle.lab_told.proofs.TellingLemmas.{told-once}
 use Rattle.lab_trace.specs.Forms.{Form}
 use Rattle.lab_trace.specs.Lines.{step_line, line, events}
 use Rattle.lab_trace.specs.Private.Written.{WritesLine, BreaksLine}
@@ -27,23 +27,13 @@ line-still v s p e = ap (λ (t : Told). step_line v s.number p t) (told-still s 
 
 module _ {D : Type 0} (contents : D → Option (List ℕ)) where
   -- a step, and the others for which it stands
-  pub line-told : (v : Form) (s : Scene) (p k : ℕ) (a b : Device D) → 1 ≤ k → ((told s p ≡ Nothing → ⊥) → k ≡ 1)
-      → WritesLine contents v s p a b → TellsAll (WritesLine contents v) s (replicate k p) a b
-  line-told v s p zero a b some one line = absurd (omega (arith, some))
-  line-told v s p (suc k) a b some one line = told-stands (WritesLine contents v) s p (suc k) held one line (λ e n j. each e n j (still e j))
-    where
-      held : ℕ → Device D
-      held zero = a
-      held (suc j) = b
-
-      still : step_effect_in s.world p ≡ nothing → (j : ℕ) → Appends (contents (held j).device) (contents (held (suc j)).device) []
-      still e zero = subst (λ (l : List ℕ). Appends (contents a.device) (contents b.device) l) (line-still v s p e) line
-      still e (suc j) = Appends-nil (contents b.device)
-
-      each : step_effect_in s.world p ≡ nothing → (n j : ℕ) → Appends (contents (held j).device) (contents (held (suc j)).device) []
-          → WritesLine contents v (renumbered s n) p (held j) (held (suc j))
-      each e n j kept =
-          subst (λ (l : List ℕ). Appends (contents (held j).device) (contents (held (suc j)).device) l) (sym (line-still v (renumbered s n) p e)) kept
+  pub line-told : (v : Form) (s : Scene) (x : Taken) (a b : Device D) → IsNext s x → WritesLine contents v s x.pid a b
+      → TellsAll (WritesLine contents v) s (replicate x.count x.pid) a b
+  line-told v s x a b taken line =
+      told-once (WritesLine contents v) s x a b taken line (λ e n. (
+        subst (λ (l : List ℕ). Appends (contents a.device) (contents b.device) l) (line-still v s x.pid e ∙ sym (line-still v (renumbered s n) x.pid e)) line,
+        subst (λ (l : List ℕ). Appends (contents b.device) (contents b.device) l) (sym (line-still v (renumbered s n) x.pid e)) (Appends-nil (contents b.device)),
+      ))
 
   pub lines-told : (v : Form) (s : Scene) (ps : List ℕ) (a b : Device D) → TellsAll (WritesLine contents v) s ps a b
       → Appends (contents a.device) (contents b.device) (events v s ps)

@@ -23,32 +23,24 @@ on_ok (Ok x) P p = p
 on_ok (Err e) P p = tt
 
 -- a whole trace, by its parts
-pub trace-parts : (w : WorldState) (ss : List (Option Source)) (ps : List ℕ) (v : Form) (t : TallyState) → v ≡ form_for (length ps) (length w.processes) ss → t ≡ new_tally (length w.processes)
-    → trace_text w ss ps ≡ trace_with v (scene_at 1 w t) ps
+pub trace-parts : (w : WorldState) (ss : List (Option Source)) (ps : List ℕ) (v : Form) (t : TallyState) (total count many : ℕ) → v ≡ form_for total count ss → total ≡ length ps
+    → count ≡ length w.processes → t ≡ new_tally many → many ≡ length w.processes → trace_text w ss ps ≡ trace_with v (scene_at 1 w t) ps
 unfolding trace_text
-trace-parts w ss ps v t v-is t-is =
-    ap (λ x. trace_with x (first_scene w) ps) (sym v-is) ∙ ap (λ x. trace_with v (scene_at 1 w x) ps) (sym t-is)
+trace-parts w ss ps v t total count many v-is steps processes t-is each =
+    let form = v-is ∙ ap (λ n. form_for n count ss) steps ∙ ap (λ n. form_for (length ps) n ss) processes in
+    let tally = t-is ∙ ap new_tally each in
+    ap (λ x. trace_with x (first_scene w) ps) (sym form) ∙ ap (λ x. trace_with v (scene_at 1 w x) ps) (sym tally)
 
 -- what stands behind the lines, by the world and the tally that the steps led to
-pub trace-whole : (w u : WorldState) (ss : List (Option Source)) (ps : List ℕ) (v : Form) (t r : TallyState) (n : ℕ) → v ≡ form_for (length ps) (length w.processes) ss → t ≡ new_tally (length w.processes)
-    → scene_at n u r ≡ scene_after (scene_at 1 w t) ps → trace_text w ss ps ≡ events v (scene_at 1 w t) ps ++ ending v u r
-trace-whole w u ss ps v t r n v-is t-is led =
-    trace-parts w ss ps v t v-is t-is ∙ ap (λ (x : Scene). events v (scene_at 1 w t) ps ++ ending v x.world x.tally) (sym led)
+pub trace-whole : (s : Scene) (ps : List ℕ) (v : Form) (u : WorldState) (r : TallyState) (n : ℕ) (whole : List ℕ) → whole ≡ trace_with v s ps → scene_at n u r ≡ scene_after s ps
+    → whole ≡ events v s ps ++ ending v u r
+trace-whole s ps v u r n whole parts led = parts ∙ ap (λ (x : Scene). events v s ps ++ ending v x.world x.tally) (sym led)
 
 -- all the lines are a beginning of the trace
-pub lines-prefix : (w : WorldState) (ss : List (Option Source)) (ps : List ℕ) (v : Form) (t : TallyState) (a b : Option (List ℕ)) → v ≡ form_for (length ps) (length w.processes) ss
-    → t ≡ new_tally (length w.processes) → Appends a b (events v (scene_at 1 w t) ps) → AppendsPrefix a b (trace_text w ss ps)
-lines-prefix w ss ps v t a b v-is t-is sent =
-    let last : Scene = scene_after (scene_at 1 w t) ps in
-    record { sent = events v (scene_at 1 w t) ps; unsent = ending v last.world last.tally; whole = trace-parts w ss ps v t v-is t-is; appended = sent }
+pub lines-prefix : (s : Scene) (ps : List ℕ) (v : Form) (a b : Option (List ℕ)) (whole : List ℕ) → whole ≡ trace_with v s ps → Appends a b (events v s ps) → AppendsPrefix a b whole
+lines-prefix s ps v a b whole parts sent =
+    let last : Scene = scene_after s ps in record { sent = events v s ps; unsent = ending v last.world last.tally; whole = parts; appended = sent }
 
 -- a beginning of the lines is one of the trace
-pub prefix-lines : (w : WorldState) (ss : List (Option Source)) (ps : List ℕ) (v : Form) (t : TallyState) (a b : Option (List ℕ)) → v ≡ form_for (length ps) (length w.processes) ss
-    → t ≡ new_tally (length w.processes) → AppendsPrefix a b (events v (scene_at 1 w t) ps) → AppendsPrefix a b (trace_text w ss ps)
-prefix-lines w ss ps v t a b v-is t-is part =
-    subst (λ (l : List ℕ). AppendsPrefix a b l) (sym (trace-parts w ss ps v t v-is t-is)) (AppendsPrefix-longer a b (events v (scene_at 1 w t) ps) _ part)
-
--- the form, by the schedule and the world
-pub form-is : (v : Form) (total count : ℕ) (ps : List ℕ) (w : WorldState) (ss : List (Option Source)) → v ≡ form_for total count ss → total ≡ length ps
-    → count ≡ length w.processes → v ≡ form_for (length ps) (length w.processes) ss
-form-is v total count ps w ss is steps processes = is ∙ ap (λ n. form_for n count ss) steps ∙ ap (λ n. form_for (length ps) n ss) processes
+pub prefix-lines : (s : Scene) (ps : List ℕ) (v : Form) (a b : Option (List ℕ)) (whole : List ℕ) → whole ≡ trace_with v s ps → AppendsPrefix a b (events v s ps) → AppendsPrefix a b whole
+prefix-lines s ps v a b whole parts part = subst (λ (l : List ℕ). AppendsPrefix a b l) (sym parts) (AppendsPrefix-longer a b (events v s ps) _ part)

@@ -1,6 +1,6 @@
 //! The line of a step.
 ghost use Rattle.std.specs.Prelude.{◌≡◌, ◌++◌, OnOk, IfOk, string_bytes};
-ghost use Rattle.lab_trace.specs.Lines.{wait_note, notes, called_text, act_text, is_noted, columns, step_line};
+ghost use Rattle.lab_trace.specs.Lines.{wait_note, notes, act_text, is_noted, columns, step_line};
 
 use crate::bytes::QuotedBytes;
 use crate::form::{Form, Stand, separator};
@@ -37,25 +37,19 @@ fn push_notes(text: &mut String, call: &Called) -> Result<(), AllocError>
     push_wait_note(text, begun, call.since)
 }
 
-#[tactic(auto, unfolding(crate::specs::Lines::called_text))]
-fn push_called(text: &mut String, call: &Called) -> Result<(), AllocError>
-    ensures text { OnOk result (string_bytes text.new ≡ string_bytes text.old
-        ++ called_text call.now) }
-{
-    push_call(text, call.service, &call.arguments)?;
-    text.push_str(" ")?;
-    push_outcome(text, &call.outcome)?;
-    push_notes(text, call)
-}
-
 /// Adds what a step did by the instruction with this word.
-#[tactic(auto, unfolding(crate::specs::Lines::output_text))]
+#[tactic(auto, unfolding(crate::specs::Lines::called_text, crate::specs::Lines::output_text))]
 fn push_act(text: &mut String, word: u16, act: &Act) -> Result<(), AllocError>
     ensures text { OnOk result (string_bytes text.new ≡ string_bytes text.old
         ++ act_text word act.now) }
 {
     match act {
-        Act::Calls(call) => push_called(text, call),
+        Act::Calls(call) => {
+            push_call(text, call.service, &call.arguments)?;
+            text.push_str(" ")?;
+            push_outcome(text, &call.outcome)?;
+            push_notes(text, call)
+        }
         Act::Writes(bytes) => {
             let instruction = WordText(word);
             let bytes = QuotedBytes(bytes.as_slice());

@@ -1,6 +1,6 @@
 //! A call in words, what became of it, and the level of its object.
 ghost use Rattle.std.specs.Prelude.{◌≡◌, ◌++◌, OnOk, string_bytes};
-ghost use Rattle.lab_trace.specs.Outcomes.{call_text, given_text, outcome_text, level_text};
+ghost use Rattle.lab_trace.specs.Outcomes.{call_text, outcome_text, level_text};
 
 use ipc_errors::error_name;
 use ipc_kernel::Reply;
@@ -18,26 +18,8 @@ pub fn push_call(text: &mut String, service: Service, arguments: &Text) -> Resul
     write!(text, "{name}({arguments})")
 }
 
-/// Adds what a reply gives beside its result.
-#[tactic(auto, unfolding(crate::specs::Outcomes::given_text))]
-fn push_given(text: &mut String, reply: &Reply) -> Result<(), AllocError>
-    ensures text { OnOk result (string_bytes text.new ≡ string_bytes text.old
-        ++ given_text reply.now) }
-{
-    match reply {
-        Reply::Plain(_) => Ok(()),
-        Reply::Message { words, prio } => {
-            text.push_str(" ")?;
-            push_message(text, words.as_slice())?;
-            write!(text, " prio {prio}")
-        }
-        Reply::Attr(words) => push_attributes(text, words[0], words[1], words[2], words[3]),
-        Reply::Value(value) => write!(text, " value {value}"),
-    }
-}
-
 /// Adds what became of a call.
-#[tactic(auto, unfolding(crate::specs::Outcomes::outcome_text))]
+#[tactic(auto, unfolding(crate::specs::Outcomes::outcome_text, crate::specs::Outcomes::given_text))]
 pub fn push_outcome(text: &mut String, outcome: &Outcome) -> Result<(), AllocError>
     ensures text { OnOk result (string_bytes text.new ≡ string_bytes text.old
         ++ outcome_text outcome.now) }
@@ -51,7 +33,16 @@ pub fn push_outcome(text: &mut String, outcome: &Outcome) -> Result<(), AllocErr
         Outcome::Replied(reply) => {
             let result = result_in(reply);
             write!(text, "= {result}")?;
-            push_given(text, reply)
+            match reply {
+                Reply::Plain(_) => Ok(()),
+                Reply::Message { words, prio } => {
+                    text.push_str(" ")?;
+                    push_message(text, words.as_slice())?;
+                    write!(text, " prio {prio}")
+                }
+                Reply::Attr(words) => push_attributes(text, words[0], words[1], words[2], words[3]),
+                Reply::Value(value) => write!(text, " value {value}"),
+            }
         }
     }
 }

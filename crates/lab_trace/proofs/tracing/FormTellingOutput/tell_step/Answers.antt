@@ -1,4 +1,4 @@
-use Rattle.std.proofs.Common.{sym, ap, subst, ◌∙◌}
+use Rattle.std.proofs.Common.{ap, subst, ◌∙◌}
 use Rattle.std.specs.Io.KnownBytes.{Appends}
 use Rattle.std.proofs.lemmas.Result.{on_ok_weaker}
 use Rattle.lab_trace.specs.Lines.{step_line}
@@ -11,6 +11,6 @@ returns-clause-told g c = λ s next.
     let taken = c.args.taken.now in
     let text = c.deref.ensures ∙ c.in_ok-line.ensures.line ∙ ap (λ n. step_line v n taken.pid taken.told.now) next.number ∙ ap (λ t. step_line v s.number taken.pid t) next.told in
     on_ok_weaker c.write_text.result
-    (λ more. line-told g.W.Write.contents v s taken.pid taken.count _ _ next.some (λ other. next.other (λ e. other (sym next.told ∙ e)))
+    (λ more. line-told g.W.Write.contents v s taken _ _ next
     (subst (λ l. Appends (g.W.Write.contents c.args.output.now.device) (g.W.Write.contents c.write_text.new.output.device) l) text more))
     c.write_text.ensures.written
