@@ -4,7 +4,7 @@ ghost use Rattle.std.specs.Option.{option_map};
 ghost use Rattle.serde_json.specs.View.{view};
 ghost use Rattle.lab_moments.specs.Between.{count_of, with_steps, between_after, count_data, between_data};
 
-use crate::values::push_some;
+use crate::values::made_below;
 use lab_told::{Taken, Told};
 use serde_json::{Value, json};
 use std::alloc::{AllocError, Global};
@@ -21,20 +21,22 @@ pub struct StepCount {
 /// No step.
 pub const NO_STEPS: StepCount = StepCount { local: 0, idle: 0 };
 
-fn count_value(alloc: Global, pid: usize, count: StepCount) -> Result<Option<Value>, AllocError>
-    ensures value { IfOk result (λ v. option_to_list (option_map view v) ≡ count_data pid count) }
-{
-    let StepCount { local, idle } = count;
-    if local == 0 && idle == 0 {
-        return Ok(None);
-    }
-    Ok(Some(json!(in alloc; [pid, local, idle])?))
-}
-
 fn count_of(between: &[StepCount], pid: usize) -> StepCount
     ensures count { result ≡ count_of between.now pid }
 {
     between.get(pid).copied().unwrap_or(NO_STEPS)
+}
+
+/// The steps of process `pid`, where there are any.
+fn count_at(alloc: Global, between: &[StepCount], pid: usize) -> Result<Option<Value>, AllocError>
+    ensures value { IfOk result (λ v. option_to_list (option_map view v)
+        ≡ count_data pid (count_of between.now pid)) }
+{
+    let StepCount { local, idle } = count_of(between, pid);
+    if local == 0 && idle == 0 {
+        return Ok(None);
+    }
+    Ok(Some(json!(in alloc; [pid, local, idle])?))
 }
 
 /// Adds so many counted steps of process `pid`, and so many without an effect.
@@ -73,16 +75,10 @@ pub fn keep_between(between: &mut Vec<StepCount>, taken: &Taken<'_>) -> Result<(
 }
 
 /// The steps of each process that took some, one by one.
-#[tactic(auto, using(crate::proofs::ValueLemmas::below), unfolding(crate::specs::Between::between_data))]
+#[tactic(auto, unfolding(crate::specs::Between::between_data))]
 pub fn between_value(alloc: Global, between: &[StepCount]) -> Result<Value, AllocError>
     ensures value { IfOk result (λ v. view v ≡ between_data between.now) }
 {
-    let mut values = Vec::new(alloc);
-    for pid in 0..between.len() {
-        push_some(
-            &mut values,
-            count_value(alloc, pid, count_of(between, pid))?,
-        )?;
-    }
-    Ok(Value::Array(values))
+    let counts = made_below(alloc, between.len(), |pid| count_at(alloc, between, pid))?;
+    Ok(Value::Array(counts))
 }

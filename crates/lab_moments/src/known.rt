@@ -6,7 +6,7 @@ ghost use Rattle.ipc_kernel.specs.Places.{place_at};
 ghost use Rattle.lab_moments.specs.Changes.{known_at, known_with, known_of, known_after, made_with, is_same, is_about, object_told, objects_told};
 
 use crate::objects::object_value;
-use crate::values::push_some;
+use crate::values::made_below;
 use ipc_kernel::{Kernel, OBJECT_PLACES};
 use lab_told::{Act, Taken, Tally};
 use serde_json::{Value, json};
@@ -130,7 +130,7 @@ fn object_told(
 }
 
 /// The objects that are told after a step, in order of place.
-#[tactic(auto, using(crate::proofs::ValueLemmas::below), unfolding(crate::specs::Changes::objects_told))]
+#[tactic(auto, unfolding(crate::specs::Changes::objects_told))]
 pub fn objects_told(
     alloc: Global,
     objects: &[Option<Known>],
@@ -140,9 +140,7 @@ pub fn objects_told(
     ensures objects { IfOk result (λ v. map view v.items ≡ objects_told taken.now.world.now
         taken.now.tally.now taken.now.pid act.now objects.now) }
 {
-    let mut told = Vec::new(alloc);
-    for place in 0..OBJECT_PLACES as u8 {
-        push_some(&mut told, object_told(alloc, objects, taken, act, place)?)?;
-    }
-    Ok(told)
+    made_below(alloc, OBJECT_PLACES, |place| {
+        object_told(alloc, objects, taken, act, place as u8)
+    })
 }

@@ -8,7 +8,7 @@ ghost use Rattle.lab_told.specs.Origins.{is_in};
 ghost use Rattle.lab_moments.specs.Values.{or_null};
 ghost use Rattle.lab_moments.specs.Objects.{name_data, awaited, awaited_at, waiters, taker_at, takers, semaphore_data, origin_data, message_data, message_at, messages, queue_data, object_data};
 
-use crate::values::{list_value, push_some};
+use crate::values::{list_value, made_below};
 use ipc_kernel::Kernel;
 use ipc_names::Name;
 use ipc_objects::Queue;
@@ -51,18 +51,13 @@ pub fn awaited_at(world: &World, pid: usize) -> Option<(Service, u8)>
     awaited(world.kernel(), pid, world.process(pid)?)
 }
 
-#[tactic(auto, using(crate::proofs::ValueLemmas::below))]
 fn waiters(alloc: Global, world: &World, place: u8) -> Result<Vec<Value>, AllocError>
     ensures waiters { IfOk result (λ v. map view v.items ≡ waiters world.now place) }
 {
-    let mut waiters = Vec::new(alloc);
-    for pid in 0..world.count() {
-        match awaited_at(world, pid) {
-            Some((_, awaited)) if awaited == place => waiters.push(Value::from(pid))?,
-            _ => {}
-        }
-    }
-    Ok(waiters)
+    made_below(alloc, world.count(), |pid| match awaited_at(world, pid) {
+        Some((_, awaited)) if awaited == place => Ok(Some(Value::from(pid))),
+        _ => Ok(None),
+    })
 }
 
 /// Process `pid`, where it took more units of the semaphore in a place than it gave, with how many more, and whether it has ended.
@@ -85,7 +80,6 @@ fn taker_at(
 }
 
 /// The processes that took more units of the semaphore in a place than they gave.
-#[tactic(auto, using(crate::proofs::ValueLemmas::below))]
 pub fn takers(
     alloc: Global,
     world: &World,
@@ -94,11 +88,9 @@ pub fn takers(
 ) -> Result<Vec<Value>, AllocError>
     ensures takers { IfOk result (λ v. map view v.items ≡ takers world.now tally.now place) }
 {
-    let mut takers = Vec::new(alloc);
-    for pid in 0..world.count() {
-        push_some(&mut takers, taker_at(alloc, world, tally, place, pid)?)?;
-    }
-    Ok(takers)
+    made_below(alloc, world.count(), |pid| {
+        taker_at(alloc, world, tally, place, pid)
+    })
 }
 
 /// The place of an object in a world, with the tally of the steps to that.
@@ -186,19 +178,13 @@ fn message_at(
 }
 
 /// The messages of a queue in the order of receive.
-#[tactic(auto, using(crate::proofs::ValueLemmas::below))]
 fn messages(alloc: Global, queue: &Queue, origins: &[Origin]) -> Result<Vec<Value>, AllocError>
     ensures messages { IfOk result (λ v. map view v.items ≡ messages origins.now queue.now) }
 {
     let (_, _, count) = queue.attr();
-    let mut messages = Vec::new(alloc);
-    for index in 0..count {
-        push_some(
-            &mut messages,
-            message_at(alloc, queue, origins, index as usize)?,
-        )?;
-    }
-    Ok(messages)
+    made_below(alloc, count as usize, |index| {
+        message_at(alloc, queue, origins, index)
+    })
 }
 
 #[tactic(auto, unfolding(crate::specs::Objects::queue_data))]

@@ -1,6 +1,6 @@
 //! What a page keeps of the steps so far, beside the world and the tally.
 ghost use Rattle.std.specs.Prelude.{◌≡◌, IfOk, OnOk};
-ghost use Rattle.lab_moments.specs.Pasts.{first_past, past_after, past_with, received_by, unreceived_without};
+ghost use Rattle.lab_moments.specs.Pasts.{first_past, past_after, received_by, unreceived_without};
 
 use crate::between::{NO_STEPS, StepCount, keep_between};
 use crate::holds::{Hold, keep_holds};
@@ -69,22 +69,6 @@ impl Past {
         })
     }
 
-    fn keep_act(&mut self, taken: &Taken<'_>, act: &Act) -> Result<(), AllocError>
-        ensures kept { OnOk result (self.new ≡ past_with taken.now.number taken.now.pid
-            taken.now.world.now taken.now.tally.now act.now self.old) }
-    {
-        keep_holds(&mut self.holds, taken, &self.objects, act)?;
-        let alloc = *self.objects.allocator();
-        let objects = known_after(alloc, &self.objects, taken.world.kernel())?;
-        self.objects = objects;
-        self.words.keep(taken.world, taken.pid)?;
-        receive(&mut self.unreceived, act);
-        if let Some((Service::MqSend, _)) = act.done() {
-            self.unreceived.push(taken.number)?;
-        }
-        Ok(())
-    }
-
     /// Keeps steps that were taken.
     pub fn keep(&mut self, taken: &Taken<'_>) -> Result<(), AllocError>
         ensures kept { OnOk result (self.new ≡ past_after taken.now.count taken.now.number
@@ -93,7 +77,18 @@ impl Past {
     {
         keep_between(&mut self.between, taken)?;
         match taken.told {
-            Told::Shown(event) => self.keep_act(taken, &event.act),
+            Told::Shown(event) => {
+                keep_holds(&mut self.holds, taken, &self.objects, &event.act)?;
+                let alloc = *self.objects.allocator();
+                let objects = known_after(alloc, &self.objects, taken.world.kernel())?;
+                self.objects = objects;
+                self.words.keep(taken.world, taken.pid)?;
+                receive(&mut self.unreceived, &event.act);
+                if let Some((Service::MqSend, _)) = event.act.done() {
+                    self.unreceived.push(taken.number)?;
+                }
+                Ok(())
+            }
             Told::Counted => self.words.keep(taken.world, taken.pid),
             Told::Nothing => Ok(()),
         }

@@ -5,7 +5,7 @@ ghost use Rattle.lab_sched.specs.Held.{process_view};
 ghost use Rattle.lab_sched.specs.Worlds.{machine_of};
 ghost use Rattle.lab_moments.specs.States.{memory_from, words_around, shown_in, registers, state_in, states};
 
-use crate::values::list_value;
+use crate::values::{list_value, made_below};
 use lab_sched::{Process, World};
 use lab_texts::code_name;
 use lc3_word::{FIRST_DEVICE, Reg};
@@ -37,16 +37,14 @@ pub fn words_from(
     Ok(words)
 }
 
-#[tactic(auto, using(crate::proofs::ValueLemmas::below))]
 fn registers(alloc: Global, process: &Process) -> Result<Vec<Value>, AllocError>
     ensures registers { IfOk result (λ v. map view v.items
         ≡ registers (machine_of (process_view process.now))) }
 {
-    let mut registers = Vec::new(alloc);
-    for number in 0..8u16 {
-        registers.push(Value::from(process.machine().reg(Reg::of_low_bits(number))))?;
-    }
-    Ok(registers)
+    made_below(alloc, 8, |number| {
+        let register = Reg::of_low_bits(number as u16);
+        Ok(Some(Value::from(process.machine().reg(register))))
+    })
 }
 
 fn words_around(alloc: Global, process: &Process) -> Result<Vec<u16>, AllocError>
@@ -56,12 +54,8 @@ fn words_around(alloc: Global, process: &Process) -> Result<Vec<u16>, AllocError
     let pc = process.machine().pc();
     let first = pc.saturating_sub(BEFORE);
     let end = (usize::from(pc) + FROM).min(usize::from(FIRST_DEVICE));
-    words_from(
-        alloc,
-        process,
-        first,
-        end.saturating_sub(usize::from(first)),
-    )
+    let count = end.saturating_sub(usize::from(first));
+    words_from(alloc, process, first, count)
 }
 
 /// The words around the program counter of process `pid` of a world, where it is there.
@@ -94,13 +88,11 @@ pub fn state_in(alloc: Global, world: &World, pid: usize) -> Result<Value, Alloc
 }
 
 /// The processes of a world.
-#[tactic(auto, using(crate::proofs::ValueLemmas::below))]
 pub fn states(alloc: Global, world: &World) -> Result<Value, AllocError>
     ensures value { IfOk result (λ v. view v ≡ states world.now) }
 {
-    let mut states = Vec::new(alloc);
-    for pid in 0..world.count() {
-        states.push(state_in(alloc, world, pid)?)?;
-    }
+    let states = made_below(alloc, world.count(), |pid| {
+        Ok(Some(state_in(alloc, world, pid)?))
+    })?;
     Ok(Value::Array(states))
 }

@@ -1,9 +1,9 @@
 //! What the data of a page are made of: values of JSON.
-ghost use Rattle.std.specs.Prelude.{◌≡◌, ◌++◌, IfOk, OnOk, map, option_to_list};
+ghost use Rattle.std.specs.Prelude.{◌≡◌, ◌<◌, ◌++◌, ℕ, List, IfOk, OnOk, map, option_to_list};
 ghost use Rattle.std.specs.Option.{option_map};
 ghost use Rattle.serde_json.specs.Data.{Data};
 ghost use Rattle.serde_json.specs.View.{view};
-ghost use Rattle.lab_moments.specs.Values.{block_data, list, natural};
+ghost use Rattle.lab_moments.specs.Values.{all_below, block_data, list, natural};
 
 use lab_sched::Block;
 use serde_json::{Value, json};
@@ -78,4 +78,26 @@ pub fn push_some(values: &mut Vec<Value>, value: Option<Value>) -> Result<(), Al
         Some(value) => Ok(values.push(value)?),
         None => Ok(()),
     }
+}
+
+/// What is made for each number below another, in order, where something is.
+#[tactic(auto, using(crate::proofs::ValueLemmas::below))]
+pub fn made_below<F: Fn(usize) -> Result<Option<Value>, AllocError>>(
+    alloc: Global,
+    count: usize,
+    make: F,
+) -> Result<Vec<Value>, AllocError>
+    requires callable { (i : ℕ) → i < count → F.pre make i }
+    ensures made { (f : ℕ → List Data)
+        → ((i : ℕ) → i < count → (r : _) → F.post make i r
+        → IfOk r (λ o. option_to_list (option_map view o) ≡ f i))
+        → IfOk result (λ v. map view v.items ≡ all_below count f) }
+{
+    let mut values = Vec::new(alloc);
+    for i in 0..count {
+        if let Some(value) = make(i)? {
+            values.push(value)?;
+        }
+    }
+    Ok(values)
 }

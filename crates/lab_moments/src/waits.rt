@@ -4,12 +4,12 @@ ghost use Rattle.std.specs.List.{find, list_any};
 ghost use Rattle.std.specs.Option.{option_map, option_to_list};
 ghost use Rattle.serde_json.specs.View.{view};
 ghost use Rattle.lab_moments.specs.Objects.{awaited_at};
-ghost use Rattle.lab_moments.specs.Waits.{blocker, blocker_in, blockers, circle_from, circles_data, followed, is_blocking, others, taken_data, wait_in, waits_data};
+ghost use Rattle.lab_moments.specs.Waits.{blocker, blocker_in, blockers, circle_from, circles_data, followed, is_blocking, others, wait_in, waits_data};
 
 use crate::holds::Hold;
 use crate::known::{Known, made_with};
 use crate::objects::{awaited_at, takers};
-use crate::values::{list_value, push_some};
+use crate::values::{list_value, made_below};
 use ipc_traps::Service;
 use lab_sched::{Process, World};
 use lab_told::{Tally, has_open};
@@ -35,24 +35,6 @@ fn others(
     Ok(others)
 }
 
-/// Who has taken units of the semaphore in a place, where that was made with a value above 0.
-fn taken_value(
-    alloc: Global,
-    world: &World,
-    tally: &Tally,
-    objects: &[Option<Known>],
-    place: u8,
-) -> Result<Value, AllocError>
-    ensures value { IfOk result (λ v. view v
-        ≡ taken_data world.now tally.now objects.now place) }
-{
-    if made_with(objects, place) > 0 {
-        Ok(Value::Array(takers(alloc, world, tally, place)?))
-    } else {
-        Ok(Value::Null)
-    }
-}
-
 /// Process `pid`, where it waits, who has taken what it waits for, and the others that could serve its call.
 fn wait_at(
     alloc: Global,
@@ -68,16 +50,16 @@ fn wait_at(
     let Some((service, place)) = awaited_at(world, pid) else {
         return Ok(None);
     };
-    let wait = json!(in alloc; [
-        pid,
-        taken_value(alloc, world, tally, objects, place)?,
-        others(alloc, world, pid, place, service)?
-    ])?;
-    Ok(Some(wait))
+    let taken = if made_with(objects, place) > 0 {
+        Value::Array(takers(alloc, world, tally, place)?)
+    } else {
+        Value::Null
+    };
+    Ok(Some(json!(in alloc; [pid, taken, others(alloc, world, pid, place, service)?])?))
 }
 
 /// The processes that wait, each with who could let it go on.
-#[tactic(auto, using(crate::proofs::ValueLemmas::below), unfolding(crate::specs::Waits::waits_data))]
+#[tactic(auto, unfolding(crate::specs::Waits::waits_data))]
 pub fn waits_value(
     alloc: Global,
     world: &World,
@@ -87,10 +69,9 @@ pub fn waits_value(
     ensures value { IfOk result (λ v. view v
         ≡ waits_data world.now tally.now objects.now) }
 {
-    let mut waits = Vec::new(alloc);
-    for pid in 0..world.count() {
-        push_some(&mut waits, wait_at(alloc, world, tally, objects, pid)?)?;
-    }
+    let waits = made_below(alloc, world.count(), |pid| {
+        wait_at(alloc, world, tally, objects, pid)
+    })?;
     Ok(Value::Array(waits))
 }
 
@@ -186,16 +167,26 @@ fn circle_from(alloc: Global, pid: usize, behind: &[usize]) -> Result<Option<Val
     Ok(Some(list_value(alloc, &circle)?))
 }
 
+/// The circle of which process `pid` is the least, where there is one.
+fn circle_of(
+    alloc: Global,
+    blockers: &[Option<usize>],
+    pid: usize,
+) -> Result<Option<Value>, AllocError>
+    ensures circle { IfOk result (λ v. option_to_list (option_map view v) ≡ circle_from pid
+        (followed blockers.now (length blockers.now) (blocker blockers.now pid))) }
+{
+    circle_from(alloc, pid, &followed(alloc, blockers, pid)?)
+}
+
 /// The circles of processes in a world, each by its least one, by the units that are taken.
-#[tactic(auto, using(crate::proofs::ValueLemmas::below), unfolding(crate::specs::Waits::circles_data))]
+#[tactic(auto, unfolding(crate::specs::Waits::circles_data))]
 pub fn circles_value(alloc: Global, world: &World, holds: &[Hold]) -> Result<Value, AllocError>
     ensures value { IfOk result (λ v. view v ≡ circles_data world.now holds.now) }
 {
     let blockers = blockers(alloc, world, holds)?;
-    let mut circles = Vec::new(alloc);
-    for pid in 0..blockers.len() {
-        let behind = followed(alloc, &blockers, pid)?;
-        push_some(&mut circles, circle_from(alloc, pid, &behind)?)?;
-    }
+    let circles = made_below(alloc, blockers.len(), |pid| {
+        circle_of(alloc, &blockers, pid)
+    })?;
     Ok(Value::Array(circles))
 }

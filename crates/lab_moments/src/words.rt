@@ -1,10 +1,12 @@
 //! The words that a page shows, and what they mean.
-ghost use Rattle.std.specs.Prelude.{◌≡◌, true, IfOk, OnOk, slice_set};
+ghost use Rattle.std.specs.Prelude.{◌≡◌, true, IfOk, OnOk, option_to_list, slice_set};
+ghost use Rattle.std.specs.Option.{option_map};
 ghost use Rattle.serde_json.specs.View.{view};
 ghost use Rattle.lab_moments.specs.States.{shown_in};
-ghost use Rattle.lab_moments.specs.Words.{word_data, none_seen, first_seen, seen_with, texts_data};
+ghost use Rattle.lab_moments.specs.Words.{none_seen, first_seen, seen_with, text_of, texts_data};
 
 use crate::state::{WORDS, shown_in};
+use crate::values::made_below;
 use lab_sched::World;
 use lab_told::service_of_word;
 use lc3_table::text;
@@ -24,20 +26,6 @@ impl Model for SeenWords {
     ghost Value = { List Bool };
 
     ghost view = { λ s. s.flags.items };
-}
-
-/// A word, the text of its instruction, and the name of the call that it makes, where it makes one.
-#[tactic(auto, unfolding(crate::specs::Words::word_data))]
-fn word_value(alloc: Global, word: u16) -> Result<Value, AllocError>
-    ensures value { IfOk result (λ v. view v ≡ word_data word) }
-{
-    match service_of_word(word) {
-        Some(service) => {
-            let name = service.name();
-            json!(in alloc; [word, text(alloc, word)?, name])
-        }
-        None => json!(in alloc; [word, text(alloc, word)?]),
-    }
 }
 
 impl SeenWords {
@@ -83,17 +71,31 @@ impl SeenWords {
         Ok(())
     }
 
+    /// A word that was seen, the text of its instruction, and the name of the call that it makes, where it makes one.
+    #[tactic(auto, unfolding(crate::specs::Words::word_data))]
+    fn text_of(&self, alloc: Global, word: u16) -> Result<Option<Value>, AllocError>
+        ensures text { IfOk result (λ v. option_to_list (option_map view v)
+            ≡ text_of self.now word) }
+    {
+        let Some(true) = self.flags.get(usize::from(word)) else {
+            return Ok(None);
+        };
+        let value = match service_of_word(word) {
+            Some(service) => {
+                let name = service.name();
+                json!(in alloc; [word, text(alloc, word)?, name])
+            }
+            None => json!(in alloc; [word, text(alloc, word)?]),
+        };
+        Ok(Some(value?))
+    }
+
     /// Each of the words with its text, in ascending order.
-    #[tactic(auto, using(crate::proofs::ValueLemmas::below), unfolding(crate::specs::Words::texts_data))]
+    #[tactic(auto, unfolding(crate::specs::Words::texts_data))]
     pub fn value(&self, alloc: Global) -> Result<Value, AllocError>
         ensures value { IfOk result (λ v. view v ≡ texts_data self.now) }
     {
-        let mut values = Vec::new(alloc);
-        for word in 0..WORDS {
-            if let Some(true) = self.flags.get(word) {
-                values.push(word_value(alloc, word as u16)?)?;
-            }
-        }
-        Ok(Value::Array(values))
+        let texts = made_below(alloc, WORDS, |word| self.text_of(alloc, word as u16))?;
+        Ok(Value::Array(texts))
     }
 }
