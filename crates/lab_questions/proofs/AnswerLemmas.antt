@@ -89,16 +89,21 @@ refuted word waiters start ends i each fault = by (slice_get ends 0) refl
               (subst (λ w. Meets word waiters first.world w) two.leads (subst (λ v. Meets word waiters v (run start (steps_of fault.end.schedule))) one.leads met)));
         }))
 
-fault_refuted : (word : Word) (waiters : List Waiter) (start : WorldState) (ends : List End) → AreEnds start ends → (o : Option ℕ) → IsFaultIn word waiters ends o
-    → IfSome o (λ i. IsRefuted word waiters start (schedule_at ends 0) (schedule_at ends i))
-fault_refuted word waiters start ends sound None fault = tt
-fault_refuted word waiters start ends sound (Some i) fault = refuted word waiters start ends i sound fault
+-- what each fault shows, the answers do
+pub each_fault : (P : Word → ℕ → Type 0) (waiters : List Waiter) (ends : List End) (answers : List Answer) → ((word : Word) (i : ℕ) → IsFault word waiters ends i → P word i)
+    → All (IsAnswer waiters ends) answers → All (λ a. IfSome a.fault (λ i. P a.word i)) answers
+each_fault P waiters ends answers shows each k d within = by (get_or answers k d).word (get_or answers k d).fault (each k d within)
+  where
+    by : (word : Word) (o : Option ℕ) → IsFaultIn word waiters ends o → IfSome o (λ i. P word i)
+    by word None fault = tt
+    by word (Some i) fault = shows word i fault
 
 -- the ends that answers name show it
 pub all_refuted : (waiters : List Waiter) (start : WorldState) (ends : List End) (answers : List Answer) → AreEnds start ends → All (IsAnswer waiters ends) answers
     → All (λ a. IfSome a.fault (λ i. IsRefuted a.word waiters start (schedule_at ends 0) (schedule_at ends i))) answers
-all_refuted waiters start ends answers sound each k d within =
-    fault_refuted (get_or answers k d).word waiters start ends sound (get_or answers k d).fault (each k d within)
+all_refuted waiters start ends answers sound each =
+    each_fault (λ word i. IsRefuted word waiters start (schedule_at ends 0) (schedule_at ends i)) waiters ends answers
+    (λ word i fault. refuted word waiters start ends i sound fault) each
 
 -- a word without such an end holds of every world at rest
 pub all_met : (waiters : List Waiter) (start : WorldState) (ends : List End) (answers : List Answer) → AreEnds start ends → HaveAllEnds start ends

@@ -18,11 +18,12 @@ use Rattle.lab_questions.specs.declared.asked.Word.TheVariants.{Ended, Stuck, Ha
 use Rattle.lab_questions.specs.declared.failure.Failure.{Failure}
 use Rattle.lab_questions.specs.declared.failure.Failure.TheVariants.{Not, Output, Reached, Endless, Call, Incomplete}
 use Rattle.lab_questions.specs.Requirements.{HasSettled, HaveSettled}
-use Rattle.lab_questions.specs.Judgments.{Meets, IsFault, IsFaultIn, IsAnswer, HasOtherVerdict, verdict_asked}
+use Rattle.lab_questions.specs.Judgments.{Meets, IsFault, IsAnswer, HasOtherVerdict, verdict_asked}
 use Rattle.lab_ways.specs.declared.ways.Ways.{Ways}
 use Rattle.lab_ways.specs.declared.ways.Ways.TheVariants.{Always, Without}
 use Rattle.lab_questions.specs.Called.{AreAlways, IsAgainst, NothingElse, IsFailureOfAll}
 use Rattle.lab_questions.specs.Private.CallFailures.{CallFails}
+use Rattle.lab_questions.proofs.AnswerLemmas.{each_fault}
 use Rattle.lab_questions.specs.Outputs.{IsUnwritten}
 use Rattle.lab_questions.specs.Programs.{AlwaysMeet, ComeTo, AsksRest, Passes, IsUnmet, IsReached, IsEndless, IsFailure}
 
@@ -136,14 +137,10 @@ other word waiters start ends i each fault = by word fault.unmet
     by Empty unmet = tt
     by Same unmet = tt
 
-fault_other : (word : Word) (waiters : List Waiter) (start : WorldState) (ends : List End) → AreEnds start ends → (o : Option ℕ) → IsFaultIn word waiters ends o → IfSome o (HasOtherVerdict ends word)
-fault_other word waiters start ends sound None fault = tt
-fault_other word waiters start ends sound (Some i) fault = other word waiters start ends i sound fault
-
 pub all_other : (waiters : List Waiter) (start : WorldState) (ends : List End) (answers : List Answer) → AreEnds start ends → All (IsAnswer waiters ends) answers
     → All (λ a. IfSome a.fault (λ i. HasOtherVerdict ends a.word i)) answers
-all_other waiters start ends answers sound each k d within =
-    fault_other (get_or answers k d).word waiters start ends sound (get_or answers k d).fault (each k d within)
+all_other waiters start ends answers sound each =
+    each_fault (HasOtherVerdict ends) waiters ends answers (λ word i fault. other word waiters start ends i sound fault) each
 
 -- where no process may wait, what is always as the word requires comes to the verdict that it asks for
 comes : (word : Word) (waiters : List Waiter) (start : WorldState) → waiters ≡ [] → AlwaysMeet word waiters start → (AsksRest word → AreBounded start)

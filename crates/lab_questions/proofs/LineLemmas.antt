@@ -1,5 +1,5 @@
 -- Whole lines, and the last line of a text.
-use Rattle.std.proofs.Common.{ℕ, zero, suc, ◌≡◌, ◌≢◌, ◌==◌, ◌/◌, ◌%◌, ◌&&◌, not, Bool, true, false, List, [], ◌∷◌, ◌++◌, refl, subst, sym, append_assoc, cond, arith}
+use Rattle.std.proofs.Common.{ℕ, zero, suc, ◌≡◌, ◌≢◌, ◌<◌, ◌==◌, ◌/◌, ◌%◌, ◌&&◌, not, Bool, true, false, List, [], ◌∷◌, ◌++◌, refl, subst, sym, append_assoc, cond, arith}
 use Rattle.std.specs.List.{list_all}
 use Rattle.std.specs.Fmt.{decimal, digits, digits_onto, digit_glyph}
 use Rattle.std.proofs.lemmas.Bool.Decides.{nat_tests}
@@ -79,17 +79,22 @@ no_feed-append (x ∷ xs) ys h k = (h.0, no_feed-append xs ys h.1 k)
 glyph_no_feed : (d : ℕ) → digit_glyph false d ≢ 10
 glyph_no_feed d = grind (arith, nat_tests)
 
-either_no_feed : (b : Bool) (xs ys : List ℕ) → HasNoFeed xs → HasNoFeed ys → HasNoFeed (cond b xs ys)
-either_no_feed true xs ys h k = h
-either_no_feed false xs ys h k = k
+-- what holds of no bytes, and with a digit before those of which it holds, holds of a number
+module _ (P : List ℕ → Type 0) (more : (d : ℕ) (after : List ℕ) → d < 10 → P after → P (digit_glyph false d ∷ after)) where
+  either : (b : Bool) (xs ys : List ℕ) → P xs → P ys → P (cond b xs ys)
+  either true xs ys h k = h
+  either false xs ys h k = k
 
-digits_no_feed : (k n : ℕ) (after : List ℕ) → HasNoFeed after → HasNoFeed (digits_onto k 10 false n after)
-digits_no_feed zero n after h = h
-digits_no_feed (suc k) n after h =
-    let more : HasNoFeed (digit_glyph false (n % 10) ∷ after) = (glyph_no_feed (n % 10), h) in
-    either_no_feed (n / 10 == 0) _ _ more (digits_no_feed k (n / 10) (digit_glyph false (n % 10) ∷ after) more)
+  onto : (k n : ℕ) (after : List ℕ) → P after → P (digits_onto k 10 false n after)
+  onto zero n after h = h
+  onto (suc k) n after h =
+      let here : P (digit_glyph false (n % 10) ∷ after) = more (n % 10) after (omega arith) h in
+      either (n / 10 == 0) _ _ here (onto k (n / 10) (digit_glyph false (n % 10) ∷ after) here)
+
+  pub of_decimal : P [] → (n : ℕ) → P (decimal n)
+  unfolding digits
+  of_decimal none n = onto 64 n [] none
 
 -- a number has no line feed in it
 pub decimal_no_feed : (n : ℕ) → HasNoFeed (decimal n)
-unfolding digits
-decimal_no_feed n = digits_no_feed 64 n [] tt
+decimal_no_feed n = of_decimal HasNoFeed (λ d after small h. (glyph_no_feed d, h)) tt n

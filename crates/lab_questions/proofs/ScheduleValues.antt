@@ -1,11 +1,12 @@
 -- The characters of a schedule stand for themselves in a text.
-use Rattle.std.proofs.Common.{ℕ, zero, suc, ◌≡◌, ◌<◌, ◌≤◌, ◌==◌, ◌/◌, ◌%◌, ◌&&◌, ◌+◌, Bool, true, false, List, [], ◌∷◌, ◌++◌, nat_le, flat_map, refl, ap, ap₂, ◌∙◌, cond, arith}
-use Rattle.std.specs.Fmt.{decimal, digits, digits_onto, digit_glyph}
+use Rattle.std.proofs.Common.{ℕ, ◌≡◌, ◌<◌, ◌≤◌, ◌==◌, ◌&&◌, ◌+◌, true, false, List, [], ◌∷◌, ◌++◌, nat_le, flat_map, refl, ap, ap₂, ◌∙◌, arith}
+use Rattle.std.specs.Fmt.{decimal, digit_glyph}
 use Rattle.std.proofs.lemmas.Bool.Decides.{nat_tests}
 use Rattle.std.proofs.lemmas.List.Concat.{flat_map-append}
 use Rattle.lab_sched.specs.declared.schedule.block.Block.{Block}
 use Rattle.lab_sched.specs.ScheduleTexts.{block_text, schedule_text}
 use Rattle.lab_questions.specs.Values.{character_json, name_json, schedule_json, text_json}
+use Rattle.lab_questions.proofs.LineLemmas.{of_decimal}
 
 -- each character stands for itself
 abbrev IsPlain : List ℕ → Type 0
@@ -28,19 +29,8 @@ glyph_is d small = grind (arith, nat_tests)
 plain_glyph : (d : ℕ) → d < 10 → character_json (digit_glyph false d) ≡ digit_glyph false d ∷ []
 plain_glyph d small = let is = glyph_is d small in plain_between (digit_glyph false d) (omega (arith, is)) (omega (arith, is, small))
 
-plain_either : (b : Bool) (xs ys : List ℕ) → IsPlain xs → IsPlain ys → IsPlain (cond b xs ys)
-plain_either true xs ys h k = h
-plain_either false xs ys h k = k
-
-plain_digits : (k n : ℕ) (after : List ℕ) → IsPlain after → IsPlain (digits_onto k 10 false n after)
-plain_digits zero n after h = h
-plain_digits (suc k) n after h =
-    let more : IsPlain (digit_glyph false (n % 10) ∷ after) = ap₂ (λ a b. a ++ b) (plain_glyph (n % 10) (omega arith)) h in
-    plain_either (n / 10 == 0) _ _ more (plain_digits k (n / 10) (digit_glyph false (n % 10) ∷ after) more)
-
 plain_decimal : (n : ℕ) → IsPlain (decimal n)
-unfolding digits
-plain_decimal n = plain_digits 64 n [] refl
+plain_decimal n = of_decimal IsPlain (λ d after small h. ap₂ (λ a b. a ++ b) (plain_glyph d small) h) refl n
 
 plain_star : IsPlain (42 ∷ [])
 unfolding character_json
