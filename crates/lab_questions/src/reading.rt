@@ -1,5 +1,5 @@
 //! Reading what is required of outputs.
-ghost use Rattle.std.specs.Prelude.{◌≡◌, ◌≤◌, ◌<◌, ◌++◌, ℕ, List, [], ◌∷◌, Some, None, false, IfNone, IfOk, IfSome, IsTrue, OnOk, bytes_eq, drop, length, map, position, string_bytes};
+ghost use Rattle.std.specs.Prelude.{◌≡◌, ◌<◌, ◌++◌, ℕ, List, [], ◌∷◌, Some, None, false, IfNone, IfOk, IfSome, IsTrue, OnOk, bytes_eq, length, map, position, string_bytes};
 ghost use Rattle.std.specs.List.{before_first, after_first};
 ghost use Rattle.std.specs.Option.{option_map};
 ghost use Rattle.lab_questions.specs.Private.Readings.{ended, left};
@@ -10,15 +10,6 @@ use lc3_table::{escape, is_string_byte};
 use lc3_word::{unsigned, words_between};
 use std::alloc::{AllocError, Global};
 use std::mem::replace;
-
-/// Whether the quote that closes a string is next.
-fn is_closed(text: &[u8]) -> bool
-    ensures closed { IsTrue result → string_in text.now ≡ Some ([], drop 1 text.now) }
-    ensures there { IsTrue result → 1 ≤ length text.now }
-    ensures more { result ≡ false → (rest : List ℕ) → text.now ≡ 34 ∷ rest → ⊥ }
-{
-    matches!(text, [b'"', ..])
-}
 
 /// The first character of a string that isn't closed there, and what follows it.
 fn first_character(text: &[u8]) -> Option<(u8, &[u8])>
@@ -50,7 +41,7 @@ fn string_in<'a>(alloc: Global, text: &'a [u8]) -> Result<Option<Quoted<'a>>, Al
 {
     let mut bytes = Vec::new(alloc);
     let mut rest = text;
-    while !is_closed(rest) {
+    while !matches!(rest, [b'"', ..]) {
         let Some((byte, after)) = first_character(rest) else {
             return Ok(None);
         };
@@ -85,8 +76,7 @@ fn relation_in(word: &[u8]) -> Option<OutputRelation>
 pub(crate) fn process_in(word: &[u8]) -> Option<usize>
     ensures process { result ≡ process_in word.now }
 {
-    let number = unsigned(10, word)?;
-    Some(number as usize)
+    unsigned(10, word).map(|number| number as usize)
 }
 
 /// The process and the relation of words that begin with `out`.
@@ -192,40 +182,30 @@ fn add(
     Ok(())
 }
 
-#[tactic(auto, using(crate::proofs::ReadingLemmas::need_init, crate::proofs::ReadingLemmas::need_step, crate::proofs::ReadingLemmas::need_none, crate::proofs::ReadingLemmas::need_end))]
-fn alternatives_in(alloc: Global, text: &[u8]) -> Result<Option<Vec<Alternative>>, AllocError>
-    ensures value { IfOk result (λ read.
-        option_map (λ alternatives. need_read alternatives.items) read ≡ need_in text.now) }
-{
-    let Some(Front { part, rest, .. }) = front_in(alloc, true, text)? else {
-        return Ok(None);
-    };
-    let mut alternatives = Vec::new(alloc);
-    let mut parts = vec![in alloc; part]?;
-    let mut rest = rest;
-    while !rest.is_empty() {
-        let Some(next) = front_in(alloc, false, rest)? else {
-            return Ok(None);
-        };
-        rest = next.rest;
-        add(alloc, &mut alternatives, &mut parts, next.begins, next.part)?;
-    }
-    alternatives.push(Alternative { parts })?;
-    Ok(Some(alternatives))
-}
-
 impl OutputNeed {
     /// What a text requires of outputs: `out P = "TEXT"`, or `out P has "TEXT"`, with the escapes that a string of a source
     /// has; more of these with `and` between them, and more of those with `or` between them.
+    #[tactic(auto, using(crate::proofs::ReadingLemmas::need_init, crate::proofs::ReadingLemmas::need_step, crate::proofs::ReadingLemmas::need_none, crate::proofs::ReadingLemmas::need_end))]
     pub fn read(alloc: Global, text: &str) -> Result<Option<OutputNeed>, AllocError>
         ensures value { IfOk result (λ read.
             option_map (λ need. need_read need.alternatives.items) read ≡ need_in text.now) }
         ensures text { IfOk result (λ read.
             IfSome read (λ need. string_bytes need.text ≡ text.now)) }
     {
-        let Some(alternatives) = alternatives_in(alloc, text.as_bytes())? else {
+        let Some(Front { part, rest, .. }) = front_in(alloc, true, text.as_bytes())? else {
             return Ok(None);
         };
+        let mut alternatives = Vec::new(alloc);
+        let mut parts = vec![in alloc; part]?;
+        let mut rest = rest;
+        while !rest.is_empty() {
+            let Some(next) = front_in(alloc, false, rest)? else {
+                return Ok(None);
+            };
+            rest = next.rest;
+            add(alloc, &mut alternatives, &mut parts, next.begins, next.part)?;
+        }
+        alternatives.push(Alternative { parts })?;
         let text = String::from_str(alloc, text)?;
         Ok(Some(OutputNeed { text, alternatives }))
     }

@@ -2,7 +2,7 @@ use Rattle.std.proofs.Common.{◌≡◌, ◌<◌, false, Some, IfSome, arith, le
 use Rattle.std.specs.Prelude.{option_map}
 use Rattle.lab_questions.specs.Written.{front_in, need_in, part_read, parts_read, need_read}
 use Rattle.lab_questions.proofs.ReadingLemmas.{need_step}
-use Rattle.lab_questions.proofs.reading.alternatives_in.Goals as goal
+use Rattle.lab_questions.proofs.output.OutputNeed.read.Goals as goal
 
 pub loop-rest-preserved : goal.loop-rest-preserved
 loop-rest-preserved c =

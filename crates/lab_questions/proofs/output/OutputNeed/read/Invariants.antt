@@ -2,7 +2,7 @@ use Rattle.std.proofs.Common.{ℕ, ◌≡◌, ◌≤◌, length}
 use Rattle.std.specs.Prelude.{option_map}
 use Rattle.lab_questions.specs.Written.{parts_read, need_read, more_in, need_in}
 use Rattle.lab_questions.specs.Private.Readings.{joined}
-use Rattle.lab_questions.proofs.reading.alternatives_in.Given as goal
+use Rattle.lab_questions.proofs.output.OutputNeed.read.Given as goal
 
 -- the parts so far, with those that are left
 abbrev pub invariant-loop-rest : goal.invariant-loop-rest
