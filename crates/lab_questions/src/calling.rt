@@ -129,37 +129,7 @@ fn count_behind<'a, 'b>(words: &'a [&'b [u8]]) -> Option<(&'a [&'b [u8]], &'b [u
     }
 }
 
-/// How often a call is made at least, by the words behind `calls`.
-fn often(alloc: Global, words: &[&[u8]]) -> Result<Option<Pattern>, AllocError>
-    ensures pattern { IfOk result (λ read. IfSome read (λ pattern.
-        Say (codes "calls" ∷ map (λ word. word.now) words.now) pattern)) }
-    ensures forbids { IfOk result (λ read. IfSome read (λ pattern. forbids pattern ≡ false)) }
-{
-    let Some((call, number)) = count_behind(words) else {
-        return Ok(kind_in(alloc, words)?.map(|kind| Pattern::AtLeast(kind, 1)));
-    };
-    let Some(kind) = kind_in(alloc, call)? else {
-        return Ok(None);
-    };
-    match call_count(number) {
-        Some(count) => Ok(Some(Pattern::AtLeast(kind, count))),
-        None => Ok(None),
-    }
-}
-
-/// The semaphores that are held, by the words behind `holds`.
-fn together(alloc: Global, words: &[&[u8]]) -> Result<Option<Pattern>, AllocError>
-    ensures pattern { IfOk result (λ read. IfSome read (λ pattern.
-        Say (codes "holds" ∷ map (λ word. word.now) words.now) pattern)) }
-    ensures forbids { IfOk result (λ read. IfSome read (λ pattern. forbids pattern ≡ false)) }
-{
-    let words = without(alloc, "and", words)?;
-    if words.is_empty() || words.len() > MOST_NAMES {
-        return Ok(None);
-    }
-    Ok(names_in(alloc, &words)?.map(Pattern::Together))
-}
-
+/// What must be so.
 fn required_in(alloc: Global, words: &[&[u8]]) -> Result<Option<Pattern>, AllocError>
     ensures pattern { IfOk result (λ read. IfSome read (λ pattern.
         Say (map (λ word. word.now) words.now) pattern)) }
@@ -170,8 +140,22 @@ fn required_in(alloc: Global, words: &[&[u8]]) -> Result<Option<Pattern>, AllocE
             if is_word("calls", calls) && is_word("in", first) && is_word("order", second) => {
             Ok(kinds_in(alloc, kinds)?.map(Pattern::InOrder))
         }
-        [calls, rest @ ..] if is_word("calls", calls) => often(alloc, rest),
-        [holds, names @ ..] if is_word("holds", holds) => together(alloc, names),
+        [calls, rest @ ..] if is_word("calls", calls) => {
+            let Some((call, number)) = count_behind(rest) else {
+                return Ok(kind_in(alloc, rest)?.map(|kind| Pattern::AtLeast(kind, 1)));
+            };
+            let Some(kind) = kind_in(alloc, call)? else {
+                return Ok(None);
+            };
+            Ok(call_count(number).map(|count| Pattern::AtLeast(kind, count)))
+        }
+        [holds, names @ ..] if is_word("holds", holds) => {
+            let names = without(alloc, "and", names)?;
+            if names.is_empty() || names.len() > MOST_NAMES {
+                return Ok(None);
+            }
+            Ok(names_in(alloc, &names)?.map(Pattern::Together))
+        }
         _ => Ok(None),
     }
 }
