@@ -2,17 +2,11 @@
 ghost use Rattle.std.specs.Prelude.{◌≡◌, ◌↔◌, IsTrue, slice_get};
 ghost use Rattle.std.specs.Option.{option_map};
 ghost use Rattle.lab_sched.specs.Held.{process_view};
-ghost use Rattle.lab_questions.specs.Requirements.{MayWait, HasSettled, HaveSettled, outputs};
+ghost use Rattle.lab_questions.specs.Requirements.{HasSettled, HaveSettled, outputs};
 
 use crate::Waiter;
 use lab_sched::{Process, World};
 use lc3_machine::How;
-
-fn may_wait(waiters: &[Waiter], pid: usize, pc: u16) -> bool
-    ensures may { IsTrue result ↔ MayWait waiters.now pid pc }
-{
-    waiters.iter().any(|waiter| waiter.process == pid && waiter.first <= pc && pc <= waiter.last)
-}
 
 fn has_settled(by_halt: bool, waiters: &[Waiter], pid: usize, process: &Process) -> bool
     ensures settled { IsTrue result
@@ -20,7 +14,12 @@ fn has_settled(by_halt: bool, waiters: &[Waiter], pid: usize, process: &Process)
 {
     match process {
         Process::Running(_) => false,
-        Process::Waiting(waiting, _) => may_wait(waiters, pid, waiting.machine().pc()),
+        Process::Waiting(waiting, _) => {
+            let pc = waiting.machine().pc();
+            waiters.iter().any(|waiter| waiter.process == pid
+                && waiter.first <= pc
+                && pc <= waiter.last)
+        }
         Process::Ended(ended) => !by_halt || matches!(ended.how(), How::Halt),
     }
 }
