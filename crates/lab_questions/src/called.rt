@@ -1,14 +1,12 @@
 //! What is asked of calls on every way, and what a way shows not to be so.
-ghost use Rattle.std.specs.Prelude.{◌≡◌, ◌↔◌, ℕ, List, None, Some, IfOk, IfSome, IsTrue, slice_get, string_bytes};
-ghost use Rattle.lab_sched.specs.declared.schedule.block.Block.{Block};
+ghost use Rattle.std.specs.Prelude.{◌≡◌, ◌↔◌, ℕ, None, IfOk, IfSome, IsTrue};
 ghost use Rattle.lab_ways.specs.Ways.{AreAllWays};
-ghost use Rattle.lab_ways.specs.declared.ways.Ways.TheVariants.{Always, Without};
-ghost use Rattle.lab_questions.specs.Called.{AreAlways, IsAgainst, ShowsWay};
+ghost use Rattle.lab_questions.specs.Called.{AreAlways, IsAgainst};
 
 use lab_sched::Fresh;
 use lab_ways::{Wanted, Ways, ask_ways};
 use lab_worlds::{ExploreFault, Limits, Observer};
-use std::alloc::{AllocError, Global};
+use std::alloc::Global;
 
 /// What is asked of calls, as it was written.
 #[derive(Drop)]
@@ -52,21 +50,4 @@ pub(crate) fn are_always(ways: &[Ways]) -> bool
     ensures always { IsTrue result ↔ AreAlways ways.now }
 {
     ways.iter().all(|one| matches!(one, Ways::Always))
-}
-
-/// The text of the schedule of the way that shows number `number` of what is asked of calls, counted from 0, not to be so.
-pub(crate) fn way_schedule(
-    alloc: Global,
-    ways: &[Ways],
-    number: usize,
-) -> Result<Option<String>, AllocError>
-    ensures way { IfOk result (λ shown. IfSome shown (λ text.
-        ShowsWay ways.now number (string_bytes text))) }
-    ensures none { IfOk result (λ shown. shown ≡ None → (s : List Block)
-        → slice_get ways.now number ≡ Some (Without s) → ⊥) }
-{
-    match ways.get(number) {
-        Some(Ways::Without(schedule)) => Ok(Some(schedule.text(alloc)?)),
-        _ => Ok(None),
-    }
 }

@@ -1,57 +1,27 @@
 //! Schedules that show why ends aren't as they are required to be.
 ghost use Rattle.std.specs.Prelude.{◌≡◌, ◌⊎◌, ℕ, ◌≤◌, List, None, Some, Ok, All, Any, IfOk, IfSome, length, slice_get, string_bytes};
-ghost use Rattle.lab_sched.specs.ScheduleTexts.{reading};
+ghost use Rattle.lab_sched.specs.ScheduleTexts.{reading, schedule_text};
 ghost use Rattle.lab_sched.specs.declared.schedule.block.Block.{Block};
 ghost use Rattle.lab_questions.specs.declared.failure.Failure.TheVariants.{Not, Output, Reached, Endless, Call, Incomplete};
 ghost use Rattle.lab_questions.specs.declared.asked.Word.{Word};
 ghost use Rattle.lab_ways.specs.declared.ways.Ways.TheVariants.{Without};
 ghost use Rattle.lab_questions.specs.Called.{ShowsWay};
-ghost use Rattle.lab_questions.specs.Texts.{IsBeyond, IsTooLong, round_text, ShowsFault, ShowsOutput, ShowsReached, ShowsLasso};
+ghost use Rattle.lab_questions.specs.Texts.{IsBeyond, IsTooLong, round_text, schedule_at, ShowsFault, ShowsOutput, ShowsReached, ShowsLasso};
 
-use crate::called::way_schedule;
 use crate::failure::first_unmet;
-use crate::{Answer, Answers, Failure};
+use crate::{Answers, Failure};
 use lab_sched::{SchedFault, Schedule};
-use lab_worlds::{Exploration, Lasso};
+use lab_ways::Ways;
+use lab_worlds::{End, Lasso};
 use std::alloc::{AllocError, Global};
 
-/// The text of the schedule of the first end that isn't as it is required.
-fn fault_schedule(
-    alloc: Global,
-    found: &Exploration,
-    answers: &[Answer],
-) -> Result<Option<String>, AllocError>
-    ensures fault { IfOk result (λ shown. IfSome shown (λ text.
-        ShowsFault found.now.ends.items answers.now (string_bytes text))) }
-    ensures none { IfOk result (λ shown. shown ≡ None
-        → All (λ a. a.fault ≡ None) answers.now
-        ⊎ Any (IsBeyond (length found.now.ends.items)) answers.now) }
+/// The text of the schedule of end number `number`, counted from 0, if it is there.
+fn end_schedule(alloc: Global, ends: &[End], number: usize) -> Result<Option<String>, AllocError>
+    ensures some { IfOk result (λ shown. IfSome shown (λ text.
+        string_bytes text ≡ schedule_text (schedule_at ends.now number))) }
+    ensures none { IfOk result (λ shown. shown ≡ None → length ends.now ≤ number) }
 {
-    let Some((_, number)) = first_unmet(answers) else {
-        return Ok(None);
-    };
-    match found.ends.get(number) {
-        Some(end) => Ok(Some(end.schedule.text(alloc)?)),
-        None => Ok(None),
-    }
-}
-
-/// The text of the schedule of the first end that shows an output, by its number, not to be as it is required.
-fn output_schedule(
-    alloc: Global,
-    found: &Exploration,
-    faults: &[Option<usize>],
-    number: usize,
-) -> Result<Option<String>, AllocError>
-    ensures output { IfOk result (λ shown. IfSome shown (λ text.
-        ShowsOutput found.now.ends.items faults.now number (string_bytes text))) }
-    ensures none { IfOk result (λ shown. shown ≡ None → (i : ℕ)
-        → slice_get faults.now number ≡ Some (Some i) → length found.now.ends.items ≤ i) }
-{
-    let Some(Some(at)) = faults.get(number) else {
-        return Ok(None);
-    };
-    match found.ends.get(*at) {
+    match ends.get(number) {
         Some(end) => Ok(Some(end.schedule.text(alloc)?)),
         None => Ok(None),
     }
@@ -113,10 +83,14 @@ impl Answers {
     {
         let found = &self.exploration;
         match self.failure {
-            Some(Failure::Not(_)) => fault_schedule(alloc, found, &self.answers),
-            Some(Failure::Output(number)) => {
-                output_schedule(alloc, found, &self.output_faults, number)
-            }
+            Some(Failure::Not(_)) => match first_unmet(&self.answers) {
+                Some((_, number)) => end_schedule(alloc, &found.ends, number),
+                None => Ok(None),
+            },
+            Some(Failure::Output(number)) => match self.output_faults.get(number) {
+                Some(Some(at)) => end_schedule(alloc, &found.ends, *at),
+                _ => Ok(None),
+            },
             Some(Failure::Reached(number)) => match found.reached.get(number) {
                 Some(Some(schedule)) => Ok(Some(schedule.text(alloc)?)),
                 _ => Ok(None),
@@ -128,7 +102,10 @@ impl Answers {
                 },
                 None => Ok(None),
             },
-            Some(Failure::Call(number)) => way_schedule(alloc, &self.ways, number),
+            Some(Failure::Call(number)) => match self.ways.get(number) {
+                Some(Ways::Without(schedule)) => Ok(Some(schedule.text(alloc)?)),
+                _ => Ok(None),
+            },
             Some(Failure::Incomplete) | None => Ok(None),
         }
     }
