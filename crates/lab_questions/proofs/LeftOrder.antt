@@ -1,15 +1,17 @@
 -- Places in the order of the lines of their messages.
-use Rattle.std.proofs.Common.{ℕ, zero, suc, ◌≡◌, ◌+◌, ◌==◌, Bool, true, false, not, cond, nat_lt, Some, None, List, [], ◌∷◌, insert, length, map, position, string_bytes, unwrap_or, refl, sym, ap, ◌∙◌, arith}
+use Rattle.std.proofs.Common.{ℕ, zero, suc, ◌≡◌, ◌+◌, ◌==◌, Bool, true, false, not, cond, nat_lt, Option, Some, None, List, [], ◌∷◌, insert, length, map, position, string_bytes, unwrap_or, refl, sym, ap, ◌∙◌, arith}
 use Rattle.std.specs.List.{position_or_len}
 use Rattle.std.proofs.lemmas.Bool.Decides.{nat_tests}
 use Rattle.std.proofs.lemmas.List.Sums.{prefix_len-le-length}
 use Rattle.ipc_kernel.specs.declared.place.Place.{Place}
+use Rattle.ipc_kernel.specs.declared.place.Place.TheVariants.{Empty, Mq, Sem}
 use Rattle.ipc_kernel.specs.Kernel.{KernelState}
-use Rattle.ipc_kernel.specs.Places.{place_at}
+use Rattle.ipc_kernel.specs.Places.{place_at, queue_and_name}
+use Rattle.ipc_objects.specs.Queue.{QueueState}
 use Rattle.lab_questions.specs.declared.left.Left.{Left}
 use Rattle.lab_questions.specs.Left.{is_text, left_lines, left_places, put_left, put_place}
 use Rattle.lab_questions.specs.Orders.{comes_before}
-use Rattle.lab_questions.specs.Private.Lefts.{place_for, AreLeft}
+use Rattle.lab_questions.specs.Private.Lefts.{place_for, place_of, AreLeft}
 
 -- a text is one unless its length is 0
 pub text_is : (text : List ℕ) → (length text == 0) ≡ not (is_text text)
@@ -54,6 +56,20 @@ put-is p (q ∷ qs) = by (comes_before (left_lines p) (left_lines q)) (put-is p 
         let more : suc n ≡ 1 + n = omega arith in
         ap (λ zs. q ∷ zs) rest ∙ ap (λ i. insert (q ∷ qs) i p) more
 
+-- a place without a queue has no lines
+pub no-lines : (p : Place) → queue_and_name p ≡ None → is_text (left_lines p) ≡ false
+no-lines Empty none = refl
+no-lines (Mq name queue) none = absurd (cc)
+no-lines (Sem name value) none = refl
+
+-- a place with a queue is no other
+pub queue-is : (p : Place) (name : Option (List ℕ)) (queue : QueueState) → queue_and_name p ≡ Some (name, queue) → Mq name queue ≡ p
+queue-is Empty name queue is = absurd (cc)
+queue-is (Mq other held) name queue is =
+    let both : ◌≡◌ {A = Option (List ℕ) × QueueState} (other, held) (name, queue) = cc in
+    ap (λ (r : Option (List ℕ) × QueueState). Mq r.0 r.1) (sym both)
+queue-is (Sem other value) name queue is = absurd (cc)
+
 -- at first there is none
 pub lefts-none : (k : KernelState) → AreLeft k 0 []
 unfolding left_places
@@ -71,19 +87,18 @@ lefts-same k n lefts none these =
     record { places = these.places ∙ same; lines = these.lines ∙ ap (map left_lines) same }
 
 -- where some are, it is put among them
-pub lefts-more : (k : KernelState) (n : ℕ) (olds : List Left) (i : ℕ) (left : Left) → string_bytes left.lines ≡ left_lines (place_at k.places n) → left.place ≡ n
+pub lefts-more : (k : KernelState) (n : ℕ) (olds : List Left) (i : ℕ) (left : Left) → string_bytes left.lines ≡ left_lines (place_at k.places n) → place_of left ≡ place_at k.places n
     → is_text (left_lines (place_at k.places n)) ≡ true → i ≡ place_for (string_bytes left.lines) (map (λ l. string_bytes l.lines) olds)
     → AreLeft k n olds → AreLeft k (n + 1) (insert olds i left)
 lefts-more k n olds i left lines place some for these =
     let p = place_at k.places n in
     let ps = left_places n k in
-    let held : Left → Place = λ l. place_at k.places l.place in
     let told : Left → List ℕ = λ l. string_bytes l.lines in
     let at : i ≡ place_for (left_lines p) (map left_lines ps) = for ∙ ap (λ t. place_for t (map told olds)) lines ∙ ap (place_for (left_lines p)) these.lines in
     let put : insert ps i p ≡ left_places (n + 1) k =
     ap (λ j. insert ps j p) at ∙ sym (put-is p ps) ∙ sym (ap (λ b. cond b (put_place p ps) ps) some) ∙ next-places k n in
     record {
-      places = map-insert held olds i left ∙ ap (λ qs. insert qs i (held left)) these.places ∙ ap (λ m. insert ps i (place_at k.places m)) place ∙ put;
+      places = map-insert place_of olds i left ∙ ap (λ qs. insert qs i (place_of left)) these.places ∙ ap (insert ps i) place ∙ put;
       lines = map-insert told olds i left ∙ ap (λ ts. insert ts i (told left)) these.lines ∙ ap (λ t. insert (map left_lines ps) i t) lines
           ∙ sym (map-insert left_lines ps i p) ∙ ap (map left_lines) put;
     }

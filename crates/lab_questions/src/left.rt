@@ -2,8 +2,7 @@
 ghost use Rattle.std.specs.Prelude.{◌≡◌, ◌++◌, OnOk, IfOk, flat_map, length, position, string_bytes, unwrap_or};
 ghost use Rattle.std.specs.Option.{option_copied};
 ghost use Rattle.ipc_kernel.specs.Limits.{object_places};
-ghost use Rattle.ipc_kernel.specs.Places.{place_at};
-ghost use Rattle.lab_questions.specs.Left.{left_line, left_lines, left_text};
+ghost use Rattle.lab_questions.specs.Left.{left_line, left_text};
 ghost use Rattle.lab_questions.specs.Orders.{comes_before};
 ghost use Rattle.lab_questions.specs.Private.Lefts.{AreLeft};
 
@@ -14,43 +13,34 @@ use lab_texts::{NameText, push_message};
 use std::alloc::{AllocError, Global};
 use std::fmt::Write;
 
-fn push_messages(text: &mut String, name: Option<&Name>, queue: &Queue) -> Result<(), AllocError>
-    ensures text { OnOk result (string_bytes text.new ≡ string_bytes text.old
-        ++ flat_map (left_line (option_copied name.entry)) queue.now.messages) }
+/// The lines of the messages in a queue of this name, or of none, each `left NAME PRIORITY WORDS`, in the order in which they would be received.
+fn left_lines(alloc: Global, name: Option<&Name>, queue: &Queue) -> Result<String, AllocError>
+    ensures lines { IfOk result (λ text. string_bytes text
+        ≡ flat_map (left_line (option_copied name.entry)) queue.now.messages) }
 {
     let (_, _, count) = queue.attr();
+    let mut text = String::new(alloc);
     for i in 0..count {
         let Some((priority, words)) = queue.entry(i as usize) else {
-            return Ok(());
+            return Ok(text);
         };
         let name = NameText(name);
         write!(text, "left {name}")?;
-        push_message(text, priority, words)?;
-    }
-    Ok(())
-}
-
-/// The lines of the messages in a place, each `left NAME PRIORITY WORDS`, in the order in which they would be received.
-fn left_lines(alloc: Global, kernel: &Kernel, place: u8) -> Result<String, AllocError>
-    ensures lines { IfOk result (λ text.
-        string_bytes text ≡ left_lines (place_at kernel.now.places place)) }
-{
-    let mut text = String::new(alloc);
-    if let Some((name, queue)) = kernel.queue_at(place) {
-        push_messages(&mut text, name, queue)?;
+        push_message(&mut text, priority, words)?;
     }
     Ok(text)
 }
 
-/// A place with messages, and their lines.
+/// A queue with messages, its name, if it has one, and their lines.
 #[derive(Drop)]
-pub(crate) struct Left {
+pub(crate) struct Left<'a> {
     pub lines: String,
-    pub place: u8,
+    pub name: Option<&'a Name>,
+    pub queue: &'a Queue,
 }
 
 /// The number of those before the first whose lines these come before.
-fn index_for(lefts: &[Left], lines: &str) -> usize
+fn index_for(lefts: &[Left<'_>], lines: &str) -> usize
     ensures index { result
         ≡ unwrap_or (position (λ l. comes_before lines.now (string_bytes l.lines)) lefts.now)
         (length lefts.now) }
@@ -61,18 +51,21 @@ fn index_for(lefts: &[Left], lines: &str) -> usize
         .unwrap_or(lefts.len())
 }
 
-/// The places in which messages are left, in the order of their lines.
-pub(crate) fn lefts_of(alloc: Global, kernel: &Kernel) -> Result<Vec<Left>, AllocError>
+/// The queues in which messages are left, in the order of their lines.
+pub(crate) fn lefts_of(alloc: Global, kernel: &Kernel) -> Result<Vec<Left<'_>>, AllocError>
     ensures lefts { IfOk result (λ lefts. AreLeft kernel.now object_places lefts.items) }
 {
     let mut lefts = Vec::new(alloc);
     for place in 0..OBJECT_PLACES as u8 {
-        let lines = left_lines(alloc, kernel, place)?;
+        let Some((name, queue)) = kernel.queue_at(place) else {
+            continue;
+        };
+        let lines = left_lines(alloc, name, queue)?;
         if lines.is_empty() {
             continue;
         }
         let at = index_for(&lefts, &lines);
-        lefts.insert(at, Left { lines, place })?;
+        lefts.insert(at, Left { lines, name, queue })?;
     }
     Ok(lefts)
 }

@@ -1,8 +1,8 @@
 //! Messages that are left, as JSON.
 ghost use Rattle.std.specs.Prelude.{Some, map};
 ghost use Rattle.std.specs.Option.{option_copied};
-ghost use Rattle.ipc_kernel.specs.Places.{place_at};
 ghost use Rattle.lab_questions.specs.LeftMembers.{place_json, left_member};
+ghost use Rattle.lab_questions.specs.Private.Lefts.{place_of};
 ghost use Rattle.lab_questions.specs.ProcessMembers.{name_or_null, word_json, message_json};
 
 use crate::json::values::{Array, Listed, Text, Values};
@@ -80,24 +80,20 @@ impl Values for Messages<'_> {
     }
 }
 
-/// The messages in places of a kernel.
 #[derive(Clone, Copy)]
-struct Places<'a> {
-    kernel: &'a Kernel,
-    lefts: &'a [Left],
-}
+struct Queues<'a>(&'a [Left<'a>]);
 
-impl Values for Places<'_> {
-    ghost values = { λ p. map (λ l. place_json (place_at p.kernel.now.places l.place)) p.lefts.now };
+impl Values for Queues<'_> {
+    ghost values = { λ q. map (λ l. place_json (place_of l)) q.0.now };
 
     fn count(&self) -> usize {
-        self.lefts.len()
+        self.0.len()
     }
 
+    #[tactic(auto, using(crate::proofs::ValueLemmas::value_at))]
     fn write<W: fmt::Write>(&self, place: usize, f: &mut fmt::Formatter<W>) -> fmt::Result {
-        let Some((name, queue)) = self.kernel.queue_at(self.lefts[place].place) else {
-            return Ok(());
-        };
+        let left = &self.0[place];
+        let (name, queue) = (left.name, left.queue);
         Listed(Messages { name, queue }).fmt(f)
     }
 }
@@ -118,10 +114,7 @@ impl fmt::Display for LeftMember<'_> {
             return Ok(());
         }
         let lefts = lefts_of(self.alloc, self.kernel)?;
-        let places = Array(Places {
-            kernel: self.kernel,
-            lefts: &lefts,
-        });
-        write!(f, ",\"left\":{places}")
+        let queues = Array(Queues(&lefts));
+        write!(f, ",\"left\":{queues}")
     }
 }
