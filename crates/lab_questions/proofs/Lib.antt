@@ -22,4 +22,3 @@ mod LeftOrder
 mod UnmetLemmas
 mod ScheduleValues
 mod CallLemmas
-mod LineOfAnswers

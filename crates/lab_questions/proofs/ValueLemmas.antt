@@ -13,7 +13,7 @@ use Rattle.lab_questions.specs.declared.asked.Show.{Show}
 use Rattle.lab_questions.specs.Findings.{end_or_null, ends_told}
 use Rattle.lab_questions.specs.Private.Rows.{comma_before}
 use Rattle.lab_questions.specs.ProcessMembers.{process_json, status_word, stop_member}
-use Rattle.lab_questions.specs.Values.{array_json, character_json, further_json, name_json, text_json, values_json}
+use Rattle.lab_questions.specs.Values.{array_json, character_json, further_json, text_json, values_json}
 use Rattle.lab_questions.proofs.ListLemmas.{flat_map-next}
 
 -- the value in a place
@@ -66,10 +66,15 @@ two_listed a b = simp (append_assoc, append-nil)
 
 -- a process, and what it has written alone
 pub process_told : (s : Process) → process_json false s
-    ≡ codes "{\"status\":" ++ (name_json (status_word s) ++ (codes ",\"pc\":" ++ (name_json (hexadecimal_text (machine_of s).pc) ++ (codes "," ++ (stop_member s
+    ≡ codes "{\"status\":\"" ++ (status_word s ++ (codes "\",\"pc\":\"" ++ (hexadecimal_text (machine_of s).pc ++ (codes "\"," ++ (stop_member s
     ++ (codes ",\"out\":" ++ (text_json (machine_of s).output ++ codes "}")))))))
 unfolding process_json
-process_told s = refl
+process_told s =
+    let word = status_word s in
+    let pc = hexadecimal_text (machine_of s).pc in
+    let rest = codes "," ++ (stop_member s ++ (codes ",\"out\":" ++ (text_json (machine_of s).output ++ codes "}"))) in
+    ap (λ t. codes "{\"status\":\"" ++ t) (append_assoc word (codes "\"") (codes ",\"pc\":\"" ++ ((pc ++ codes "\"") ++ rest)))
+    ∙ ap (λ t. codes "{\"status\":\"" ++ (word ++ (codes "\",\"pc\":\"" ++ t))) (append_assoc pc (codes "\"") rest)
 
 pub output_told : (s : Process) → process_json true s ≡ codes "{\"out\":" ++ (text_json (machine_of s).output ++ codes "}")
 unfolding process_json

@@ -1,29 +1,54 @@
 //! The answers as one object.
-ghost use Rattle.std.specs.Prelude.{◌≡◌, Some, IfOk, string_bytes};
+ghost use Rattle.std.specs.Prelude.{◌≡◌, Some, IfOk, map, string_bytes};
 ghost use Rattle.std.specs.Fmt.{decimal};
 ghost use Rattle.std.specs.Option.{option_copied};
-ghost use Rattle.lab_questions.specs.Findings.{answers_line, found_part, last_part, unit_text};
-ghost use Rattle.lab_questions.specs.Values.{member};
+ghost use Rattle.lab_questions.specs.Findings.{answers_line, found_part, last_part, limits_met, unit_text};
+ghost use Rattle.lab_questions.specs.Values.{array_json, member, name_json};
 
 mod closing;
 mod ends;
 mod faults;
 mod left;
 mod limit;
-mod reasons;
 mod values;
 
 use crate::json::closing::{Cycle, Objects, holds_name};
 use crate::json::ends::Ends;
 use crate::json::faults::UnmetArray;
 use crate::json::limit::Limit;
-use crate::json::reasons::limits_json;
 use crate::json::values::{Array, Quoted};
-use crate::lines::extent_of;
+use crate::texts::extent_of;
 use crate::{Answers, LimitMet, Reach};
-use lab_worlds::Walks;
+use lab_worlds::{Exploration, Walks};
 use std::alloc::{AllocError, Global};
 use std::fmt;
+
+/// The limits that were met, where not everything was visited, as an array.
+fn limits_json(found: &Exploration, reach: Reach) -> &'static str
+    ensures text { result.now ≡ array_json (map name_json
+        (limits_met found.now reach.limits reach.is_stage reach.walks)) }
+{
+    if let Some(walks) = reach.walks {
+        return match (found.refused, found.worlds < walks.count, reach.is_stage) {
+            (true, _, _) => "[\"memory\",\"random\"]",
+            (false, true, _) => "[\"limit\",\"random\"]",
+            (false, false, true) => "[\"first\",\"random\"]",
+            (false, false, false) => "[\"random\"]",
+        };
+    }
+    if found.complete {
+        return "[]";
+    }
+    let is_full = found.worlds >= reach.limits.worlds;
+    match (is_full, found.refused, reach.is_stage) {
+        (true, true, true) => "[\"memory\",\"first\"]",
+        (true, true, false) => "[\"worlds\",\"memory\"]",
+        (true, false, true) => "[\"first\"]",
+        (true, false, false) => "[\"worlds\"]",
+        (false, true, _) => "[\"memory\"]",
+        (false, false, _) => "[\"limit\"]",
+    }
+}
 
 /// The member for how many worlds were visited, or walks taken.
 #[derive(Clone, Copy)]
@@ -72,6 +97,7 @@ pub(crate) struct Found<'a> {
 impl fmt::Display for Found<'_> {
     ghost output = { λ x. Some (found_part x.answers.now) };
 
+    #[tactic(auto, unfolding(crate::specs::Findings::found_part))]
     fn fmt<W: fmt::Write>(&self, f: &mut fmt::Formatter<W>) -> fmt::Result {
         let ends = Array(Ends(*self));
         let required = UnmetArray(*self, false);

@@ -1,11 +1,8 @@
 //! The lines of answers.
 ghost use Rattle.std.specs.Prelude.{◌≡◌, ◌++◌, Some, map, OnOk, IfOk, string_bytes};
-ghost use Rattle.lab_questions.specs.EndTexts.{text_of, told_ends, AreTold, lasso_text};
-ghost use Rattle.lab_questions.specs.Texts.{word_lines, last_lines, answers_text};
-ghost use Rattle.lab_questions.specs.declared.unmet.Kind.TheVariants.{Words};
-ghost use Rattle.lab_questions.specs.Private.Rows.{all_unmet};
+ghost use Rattle.lab_questions.specs.EndTexts.{extent_text, text_of, told_ends, AreTold, lasso_text};
+ghost use Rattle.lab_questions.specs.Texts.{last_lines, answers_text};
 
-use crate::lines::extent_of;
 use crate::told::{Told, told_of};
 use crate::unmet::{Judged, Kind, push_unmet};
 use lab_sched::Steps;
@@ -13,6 +10,13 @@ use lab_worlds::Lasso;
 use std::alloc::{AllocError, Global};
 use std::fmt;
 use std::fmt::Write;
+
+/// Whether an exploration is complete, in a word.
+pub(crate) fn extent_of(complete: bool) -> &'static str
+    ensures text { result.now ≡ extent_text complete }
+{
+    if complete { "complete" } else { "incomplete" }
+}
 
 /// The lines of a lasso, if there is one.
 #[derive(Clone, Copy)]
@@ -32,17 +36,6 @@ impl fmt::Display for LassoLines<'_> {
             None => Ok(()),
         }
     }
-}
-
-fn push_words(text: &mut String, judged: Judged<'_>) -> Result<(), AllocError>
-    ensures text { OnOk result (string_bytes text.new
-        ≡ string_bytes text.old
-        ++ word_lines judged.entry.asked.now.plain (all_unmet Words judged.entry)) }
-{
-    if judged.asked.plain {
-        return Ok(());
-    }
-    push_unmet(text, judged, Kind::Words)
 }
 
 /// Adds the last lines: of walks how many were taken; else what was reached, a lasso, and whether everything was visited.
@@ -74,7 +67,9 @@ pub(crate) fn tell(alloc: Global, judged: Judged<'_>, walks: bool) -> Result<Tol
         judged.entry.found.now.ends.items told.numbers.items) }
 {
     let mut told = told_of(alloc, judged.asked.show, &judged.found.ends)?;
-    push_words(&mut told.text, judged)?;
+    if !judged.asked.plain {
+        push_unmet(&mut told.text, judged, Kind::Words)?;
+    }
     push_unmet(&mut told.text, judged, Kind::Outputs)?;
     push_unmet(&mut told.text, judged, Kind::Calls)?;
     push_last(&mut told.text, judged, walks)?;

@@ -1,12 +1,11 @@
 //! What isn't as it has to be, with the schedules that show it.
 ghost use Rattle.std.specs.Prelude.{◌≡◌, ◌++◌, OnOk, IfOk, flat_map, map, option_map, string_bytes};
 ghost use Rattle.lab_questions.specs.Findings.{told_of};
-ghost use Rattle.lab_questions.specs.Texts.{word_unmet, need_unmet, call_unmet, condition_unmet, unmet_lines};
+ghost use Rattle.lab_questions.specs.Texts.{schedule_at, required, word_unmet, call_unmet, condition_unmet, unmet_lines};
 ghost use Rattle.lab_questions.specs.declared.unmet.Kind.TheVariants.{Words, Outputs, Calls, Conditions};
 ghost use Rattle.lab_questions.specs.Private.Rows.{unmet_of, row_count, row_at, all_unmet, told_row};
 
-use crate::lines::steps_at;
-use crate::{Answer, Asked, CallWord, OutputNeed, Word};
+use crate::{Answer, Asked, CallWord, Word};
 use lab_conditions::Never;
 use lab_sched::{Schedule, Steps};
 use lab_ways::Ways;
@@ -49,36 +48,45 @@ pub(crate) struct Unmet<'a> {
     pub steps: Steps<'a>,
 }
 
-fn word_unmet(ends: &[End], answer: Answer) -> Option<Unmet<'_>>
-    ensures unmet { option_map unmet_of result
-        ≡ word_unmet ends.now answer.word answer.fault }
+/// The schedule of end number `number`, counted from 0, without blocks where there is no such end.
+fn steps_at(ends: &[End], number: usize) -> Steps<'_>
+    ensures steps { result.0.now ≡ schedule_at ends.now number }
 {
-    let number = answer.fault?;
-    let steps = steps_at(ends, number);
-    let first = match answer.word {
-        Word::Same => Some(steps_at(ends, 0)),
-        Word::Ended | Word::Stuck | Word::Halted | Word::Empty => None,
-    };
+    match ends.get(number) {
+        Some(end) => Steps(end.schedule.blocks()),
+        None => Steps(&[]),
+    }
+}
+
+/// What is required, if an end shows that it isn't so.
+fn required<'a>(
+    ends: &'a [End],
+    asked: &'a str,
+    first: Option<Steps<'a>>,
+    fault: Option<usize>,
+) -> Option<Unmet<'a>>
+    ensures unmet { option_map unmet_of result ≡ option_map (required ends.now asked.now
+        (option_map (λ s. s.0.now) first.entry)) fault }
+{
+    let steps = steps_at(ends, fault?);
     Some(Unmet {
         never: false,
         head: "not",
-        asked: answer.word.text(),
+        asked,
         first,
         steps,
     })
 }
 
-fn need_unmet<'a>(ends: &'a [End], need: &'a OutputNeed, fault: Option<usize>) -> Option<Unmet<'a>>
-    ensures unmet { option_map unmet_of result ≡ need_unmet ends.now need.now fault }
+fn word_unmet(ends: &[End], answer: Answer) -> Option<Unmet<'_>>
+    ensures unmet { option_map unmet_of result
+        ≡ word_unmet ends.now answer.word answer.fault }
 {
-    let number = fault?;
-    Some(Unmet {
-        never: false,
-        head: "not",
-        asked: need.text.as_str(),
-        first: None,
-        steps: steps_at(ends, number),
-    })
+    let first = match answer.word {
+        Word::Same => Some(steps_at(ends, 0)),
+        Word::Ended | Word::Stuck | Word::Halted | Word::Empty => None,
+    };
+    required(ends, answer.word.text(), first, answer.fault)
 }
 
 fn call_unmet<'a>(word: &'a CallWord, ways: &'a Ways) -> Option<Unmet<'a>>
@@ -119,11 +127,10 @@ fn row_at<'a>(judged: Judged<'a>, kind: Kind, number: usize) -> Option<Unmet<'a>
     let Judged { asked, found, .. } = judged;
     match kind {
         Kind::Words => word_unmet(&found.ends, *judged.answers.get(number)?),
-        Kind::Outputs => need_unmet(
-            &found.ends,
-            asked.outputs.get(number)?,
-            *judged.faults.get(number)?,
-        ),
+        Kind::Outputs => {
+            let need = asked.outputs.get(number)?;
+            required(&found.ends, &need.text, None, *judged.faults.get(number)?)
+        }
         Kind::Calls => call_unmet(asked.call_words.get(number)?, judged.ways.get(number)?),
         Kind::Conditions => condition_unmet(asked.never.get(number)?, found.reached.get(number)?),
     }

@@ -1,37 +1,12 @@
 //! What stands at the end of the answers.
 ghost use Rattle.std.specs.Prelude.{◌≡◌, Some};
 ghost use Rattle.lab_questions.specs.Members.{objects_told, lasso_json, holds_json};
-ghost use Rattle.lab_questions.specs.Objects.{object_text};
-ghost use Rattle.lab_questions.specs.Values.{text_json};
 
 use crate::json::values::{Characters, StepsValue, Values};
 use crate::{Failure, Object};
 use lab_sched::Steps;
 use lab_worlds::Lasso;
 use std::fmt;
-use std::fmt::Display;
-
-/// An object, as a condition names it.
-#[derive(Clone, Copy)]
-struct ObjectValue<'a>(&'a Object);
-
-impl fmt::Display for ObjectValue<'_> {
-    ghost output = { λ o. Some (text_json (object_text o.0.now)) };
-
-    #[tactic(auto, using(crate::proofs::ValueLemmas::semaphore_told, crate::proofs::ValueLemmas::queue_told))]
-    fn fmt<W: fmt::Write>(&self, f: &mut fmt::Formatter<W>) -> fmt::Result {
-        match self.0 {
-            Object::Semaphore(name) => {
-                let name = Characters(name.text().as_bytes());
-                write!(f, "\"sem {name}\"")
-            }
-            Object::Queue(name) => {
-                let name = Characters(name.text().as_bytes());
-                write!(f, "\"mq {name}\"")
-            }
-        }
-    }
-}
 
 /// Objects, each as a condition names it.
 #[derive(Clone, Copy)]
@@ -44,9 +19,18 @@ impl Values for Objects<'_> {
         self.0.len()
     }
 
-    #[tactic(auto, using(crate::proofs::ValueLemmas::value_at))]
+    #[tactic(auto, using(crate::proofs::ValueLemmas::value_at, crate::proofs::ValueLemmas::semaphore_told, crate::proofs::ValueLemmas::queue_told))]
     fn write<W: fmt::Write>(&self, place: usize, f: &mut fmt::Formatter<W>) -> fmt::Result {
-        ObjectValue(&self.0[place]).fmt(f)
+        match &self.0[place] {
+            Object::Semaphore(name) => {
+                let name = Characters(name.text().as_bytes());
+                write!(f, "\"sem {name}\"")
+            }
+            Object::Queue(name) => {
+                let name = Characters(name.text().as_bytes());
+                write!(f, "\"mq {name}\"")
+            }
+        }
     }
 }
 
@@ -77,11 +61,7 @@ pub(crate) fn holds_name(judged: bool, failure: Option<Failure>) -> &'static str
     }
     match failure {
         None => "true",
-        Some(Failure::Not(_))
-        | Some(Failure::Output(_))
-        | Some(Failure::Reached(_))
-        | Some(Failure::Endless)
-        | Some(Failure::Call(_)) => "false",
         Some(Failure::Incomplete) => "null",
+        Some(_) => "false",
     }
 }

@@ -7,10 +7,11 @@ ghost use Rattle.lab_questions.specs.ProcessMembers.{process_json, stop_member};
 use crate::Show;
 use crate::json::Found;
 use crate::json::left::LeftMember;
-use crate::json::values::{Array, Quoted, StepsValue, Text, Values, WordValue};
+use crate::json::values::{Array, Quoted, StepsValue, Text, Values};
 use lab_sched::{Process, Steps, World};
 use lab_texts::{Standing, how_name};
 use lab_worlds::End;
+use lc3_word::Hex;
 use std::alloc::Global;
 use std::fmt;
 use std::fmt::Display;
@@ -32,37 +33,6 @@ impl fmt::Display for Stop<'_> {
     }
 }
 
-/// A process, or what it has written alone.
-#[derive(Clone, Copy)]
-struct ProcessValue<'a> {
-    process: &'a Process,
-    out: bool,
-}
-
-impl fmt::Display for ProcessValue<'_> {
-    ghost output = { λ p. Some (process_json p.out (process_view p.process.now)) };
-
-    #[tactic(auto, using(crate::proofs::ValueLemmas::output_told, crate::proofs::ValueLemmas::process_told))]
-    fn fmt<W: fmt::Write>(&self, f: &mut fmt::Formatter<W>) -> fmt::Result {
-        let machine = self.process.machine();
-        let output = Text(machine.output());
-        if self.out {
-            return write!(f, "{{\"out\":{output}}}");
-        }
-        let status = Quoted(match self.process {
-            Process::Running(_) => "running",
-            Process::Waiting(_, _) => "waiting",
-            Process::Ended(_) => "ended",
-        });
-        let pc = WordValue(machine.pc());
-        let stop = Stop(self.process);
-        write!(
-            f,
-            "{{\"status\":{status},\"pc\":{pc},{stop},\"out\":{output}}}"
-        )
-    }
-}
-
 /// The processes of a world, or what they have written alone.
 #[derive(Clone, Copy)]
 struct Processes<'a> {
@@ -77,17 +47,30 @@ impl Values for Processes<'_> {
         self.world.count()
     }
 
-    #[tactic(auto, using(crate::proofs::ValueLemmas::value_found))]
+    #[tactic(auto, using(crate::proofs::ValueLemmas::value_found, crate::proofs::ValueLemmas::output_told, crate::proofs::ValueLemmas::process_told))]
     fn write<W: fmt::Write>(&self, place: usize, f: &mut fmt::Formatter<W>) -> fmt::Result {
         let Some(process) = self.world.process(place) else {
             return Ok(());
         };
-        let out = self.out;
-        ProcessValue { process, out }.fmt(f)
+        let machine = process.machine();
+        let output = Text(machine.output());
+        if self.out {
+            return write!(f, "{{\"out\":{output}}}");
+        }
+        let status = match process {
+            Process::Running(_) => "running",
+            Process::Waiting(_, _) => "waiting",
+            Process::Ended(_) => "ended",
+        };
+        let pc = Hex(machine.pc());
+        let stop = Stop(process);
+        write!(
+            f,
+            "{{\"status\":\"{status}\",\"pc\":\"{pc}\",{stop},\"out\":{output}}}"
+        )
     }
 }
 
-/// An end under a number.
 #[derive(Clone, Copy)]
 struct EndValue<'a> {
     alloc: Global,

@@ -30,7 +30,6 @@ impl fmt::Display for Schedules<'_> {
     }
 }
 
-/// All of what isn't as it has to be.
 #[derive(Clone, Copy)]
 struct Unmets<'a>(&'a [Unmet<'a>]);
 

@@ -1,11 +1,9 @@
 //! Values of JSON.
 ghost use Rattle.std.specs.Prelude.{◌≡◌, ◌<◌, ℕ, List, [], Some, flat_map, get_or, length};
 ghost use Rattle.std.specs.Fmt.{WritesOnOk};
-ghost use Rattle.lab_questions.specs.ProcessMembers.{word_json};
 ghost use Rattle.lab_questions.specs.Values.{number_json, character_json, text_json, schedule_json, values_json, array_json, name_json};
 
 use lab_sched::Steps;
-use lc3_word::Hex;
 use std::fmt;
 
 /// A character by its number.
@@ -88,19 +86,6 @@ impl fmt::Display for Quoted<'_> {
     }
 }
 
-/// A word of a machine as a text.
-#[derive(Clone, Copy)]
-pub(crate) struct WordValue(pub u16);
-
-impl fmt::Display for WordValue {
-    ghost output = { λ w. Some (word_json w.0) };
-
-    fn fmt<W: fmt::Write>(&self, f: &mut fmt::Formatter<W>) -> fmt::Result {
-        let word = Hex(self.0);
-        write!(f, "\"{word}\"")
-    }
-}
-
 /// Values, each told by its place.
 pub(crate) trait Values {
     ghost values: { Self → List (List ℕ) };
@@ -108,7 +93,6 @@ pub(crate) trait Values {
     fn count(&self) -> usize
         ensures count { result ≡ length (values self.now) };
 
-    /// Writes the value in a place.
     fn write<W: fmt::Write>(&self, place: usize, f: &mut fmt::Formatter<W>) -> fmt::Result
     where
         Self: Sized,
@@ -134,7 +118,6 @@ impl<V: Values> fmt::Display for Listed<V> {
     }
 }
 
-/// An array of values.
 #[derive(Clone, Copy)]
 pub(crate) struct Array<V>(pub V);
 
