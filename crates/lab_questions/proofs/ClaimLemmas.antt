@@ -24,6 +24,7 @@ use Rattle.lab_questions.specs.Claims.{SaysComplete, SaysEndless, SaysStuck, Tel
 use Rattle.lab_questions.specs.EndTexts.{text_of, told_ends, schedule_line, end_lines, ends_text, endless_line, lasso_text, extent_line}
 use Rattle.lab_questions.specs.Left.{left_text}
 use Rattle.lab_questions.specs.Lines.{AreLines, StandIn}
+use Rattle.lab_questions.specs.Private.Says.{Says}
 use Rattle.lab_questions.specs.Shown.{outputs_text, outcome_text, head_text, with_left, shown_text}
 use Rattle.lab_questions.specs.Texts.{Unmet, unmet_words, unmet_outputs, unmet_calls, unmet_conditions, first_line, unmet_lines, word_lines, judged_lines, answers_text}
 use Rattle.lab_questions.proofs.LineLemmas.{lines-append, lines-feed, lines-onto, same_last}
@@ -103,7 +104,7 @@ module _ (asked : Asked) (found : Exploration) (answers : List Answer) (faults :
       (lines-append reached (lasso_text found.lasso) (unmet_whole (unmet_conditions asked.never.items found.reached.items)) (lasso_whole found.lasso))
 
   -- a text that says `complete` tells an exploration that is
-  pub is_complete : SaysComplete text → found.complete ≡ true
+  is_complete : SaysComplete text → found.complete ≡ true
   is_complete says =
       extent_tells found.complete found.worlds says.0
       (same_last (ends ++ words ++ (reached ++ lasso_text found.lasso)) says.1.above last (extent_line true says.0) above_whole says.1.whole
@@ -117,7 +118,7 @@ module _ (asked : Asked) (found : Exploration) (answers : List Answer) (faults :
       (stand_before these (ends ++ words) (reached ++ lasso_text found.lasso) (stand_before these ends words stands)))
 
   -- a text that doesn't say `endless` tells an exploration without a lasso
-  pub has_no_lasso : (SaysEndless text → ⊥) → found.lasso ≡ None
+  has_no_lasso : (SaysEndless text → ⊥) → found.lasso ≡ None
   has_no_lasso quiet = by found.lasso refl
     where
       by : (r : Option Lasso) → found.lasso ≡ r → found.lasso ≡ None
@@ -130,7 +131,7 @@ module _ (asked : Asked) (found : Exploration) (answers : List Answer) (faults :
           (stand_behind reached endless_line (lasso_text found.lasso) (unmet_whole (unmet_conditions asked.never.items found.reached.items)) stands)))))
 
   -- where all ends were found, by the fewest calls, the text tells each
-  pub tells_every_end : (start : WorldState) → AreEnds start found.ends.items
+  tells_every_end : (start : WorldState) → AreEnds start found.ends.items
       → IsNonDecreasingBy (λ e. e.calls) found.ends.items → HaveAllEnds start found.ends.items → HaveFewestCalls start found.ends.items → TellsEveryEnd asked.show start text
   tells_every_end start each sorted all fewest ps rest =
       let es = found.ends.items in
@@ -159,7 +160,7 @@ module _ (asked : Asked) (found : Exploration) (answers : List Answer) (faults :
       }
 
   -- a text that doesn't say `verdict stuck` tells no end that is stuck
-  pub none_stuck : (start : WorldState) → AreEnds start found.ends.items → (SaysStuck text → ⊥) → NoneStuck found.ends.items
+  none_stuck : (start : WorldState) → AreEnds start found.ends.items → (SaysStuck text → ⊥) → NoneStuck found.ends.items
   none_stuck start each quiet i d within stuck =
       let es = found.ends.items in
       let show = asked.show in
@@ -170,3 +171,14 @@ module _ (asked : Asked) (found : Exploration) (answers : List Answer) (faults :
       let stands = in_text (end_lines number (text_of show some.0) some.0.schedule) (end_stands show 1 (told_ends show es) some.1.0 some.0 some.1.1) in
       quiet (stuck_stands show e.world number some.0.schedule text (sym (verdict_from e.world e.verdict end.verdict) ∙ stuck)
       (subst (λ r. StandIn (end_lines number r some.0.schedule) text) some.2 stands))
+
+-- what the text of a search says
+pub says : (walks : Bool) (asked : Asked) (found : Exploration) (answers : List Answer) (faults : List (Option ℕ)) (ways : List Ways) (text : List ℕ)
+    → text ≡ answers_text walks asked found answers faults ways → walks ≡ false → Says asked.show found text
+says true asked found answers faults ways text is searched = absurd (cc)
+says false asked found answers faults ways text is searched = record {
+  complete = is_complete asked found answers faults ways text is;
+  bounded = has_no_lasso asked found answers faults ways text is;
+  free = none_stuck asked found answers faults ways text is;
+  every = tells_every_end asked found answers faults ways text is;
+}

@@ -9,7 +9,7 @@ use Rattle.std.proofs.lemmas.Option.{get_or_from_slice_get, slice_get-get_or}
 use Rattle.lab_sched.specs.declared.schedule.block.Block.{Block}
 use Rattle.lab_questions.specs.declared.object.Object.{Object}
 use Rattle.lab_questions.specs.Objects.{StandsBefore}
-use Rattle.lab_questions.specs.Private.Presences.{AddsNew, IsUnseen, unseen}
+use Rattle.lab_questions.specs.Private.Presences.{AddsNew, AreNamed, IsUnseen, unseen}
 
 -- what stands at a place below i is among the first i
 among_first : {X : Type 0} (xs : List X) (i j : ℕ) (x : X) → i < length xs → j < i → slice_get xs j ≡ Some x → Contains (take i xs) x
@@ -35,12 +35,16 @@ named_before names olds i x within only all new k d below =
       ],
     )
 
--- one name more
-module _ (names olds news : List Object) (i : ℕ) (x : Object) (within : i < length names) (is : (d : Object) → x ≡ get_or names i d) (adds : AddsNew olds x news) where
-  more : take (i + 1) names ≡ take i names ++ x ∷ []
-  more = take_more names i x within ∙ ap (λ o. take i names ++ o ∷ []) (sym (is x))
+-- at first there is none
+pub named_none : (names : List Object) → AreNamed names [] []
+named_none names = record { all = λ k d below. absurd (omega arith); only = λ k d below. absurd (omega arith); order = λ i j d less below. absurd (omega arith) }
 
-  pub new_all : All (Contains olds) (take i names) → All (Contains news) (take (i + 1) names)
+-- one name more
+module _ (names olds news : List Object) (i : ℕ) (x : Object) (within : i < length names) (is : x ≡ get_or names i x) (adds : AddsNew olds x news) where
+  more : take (i + 1) names ≡ take i names ++ x ∷ []
+  more = take_more names i x within ∙ ap (λ o. take i names ++ o ∷ []) (sym is)
+
+  new_all : All (Contains olds) (take i names) → All (Contains news) (take (i + 1) names)
   new_all all = elim adds [
     | inl old ↦ subst (All (Contains news)) (sym more) (All-push (Contains news) (take i names) x (subst (λ os. All (Contains os) (take i names)) (sym old.1) all) (subst (λ os. Contains os x) (sym old.1) old.0))
     | inr new ↦ subst (All (Contains news)) (sym more) (All-push (Contains news) (take i names) x
@@ -48,7 +52,7 @@ module _ (names olds news : List Object) (i : ℕ) (x : Object) (within : i < le
         (subst (λ os. Contains os x) (sym new.1) (Contains-push olds x)))
   ]
 
-  pub new_only : All (Contains (take i names)) olds → All (Contains (take (i + 1) names)) news
+  new_only : All (Contains (take i names)) olds → All (Contains (take (i + 1) names)) news
   new_only only =
       let wider : All (Contains (take (i + 1) names)) olds = λ k d below. subst (λ os. Contains os (get_or olds k d)) (sym more) (Contains-append_left (take i names) (x ∷ []) (get_or olds k d) (only k d below)) in
       elim adds [
@@ -56,11 +60,14 @@ module _ (names olds news : List Object) (i : ℕ) (x : Object) (within : i < le
         | inr new ↦ subst (All (Contains (take (i + 1) names))) (sym new.1) (All-push (Contains (take (i + 1) names)) olds x wider (subst (λ os. Contains os x) (sym more) (Contains-push (take i names) x)))
       ]
 
-  pub new_order : All (Contains (take i names)) olds → All (Contains olds) (take i names) → AllPairs (StandsBefore names) olds → AllPairs (StandsBefore names) news
+  new_order : All (Contains (take i names)) olds → All (Contains olds) (take i names) → AllPairs (StandsBefore names) olds → AllPairs (StandsBefore names) news
   new_order only all order = elim adds [
     | inl old ↦ subst (AllPairs (StandsBefore names)) (sym old.1) order
     | inr new ↦ subst (AllPairs (StandsBefore names)) (sym new.1) (all_pairs_push (StandsBefore names) olds x order (named_before names olds i x within only all new.0))
   ]
+
+  pub named_next : AreNamed names (take i names) olds → AreNamed names (take (i + 1) names) news
+  named_next before = record { all = new_all before.all; only = new_only before.only; order = new_order before.only before.all before.order }
 
 -- what holds of all objects holds of those without a schedule
 unseen_within : (P : Object → Type 0) (os : List Object) (seen : List (Option (List Block))) → All P os → All P (unseen os seen)

@@ -24,38 +24,22 @@ along_next R xs ys zs n x y h within read here pushed =
     let more = take_more xs n x within ∙ ap (λ z. take n xs ++ z ∷ []) (sym read) in
     subst (Alongside R (take (n + 1) xs)) (sym pushed) (subst (λ us. Alongside R us (ys ++ y ∷ [])) (sym more) (alongside_push R (take n xs) ys x y h here))
 
--- at least as many as the first ones
-pub front_within : {A B : Type 0} (R : A → B → Type 0) (xs us : List A) (ys : List B) → Alongside R (xs ++ us) ys → length xs ≤ length ys
-front_within R [] us ys h = omega arith
-front_within R (x ∷ xs) us [] h = absurd (h 0)
-front_within R (x ∷ xs) us (y ∷ ys) h = let rest = front_within R xs us ys (λ p. h (suc p)) in omega (arith, rest)
-
--- the first ones
-pub front : {A B : Type 0} (R : A → B → Type 0) (xs us : List A) (ys : List B) → Alongside R (xs ++ us) ys → Alongside R xs (take (length xs) ys)
-front R [] us ys h p = tt
-front R (x ∷ xs) us [] h p = absurd (h 0)
-front R (x ∷ xs) us (y ∷ ys) h zero = h 0
-front R (x ∷ xs) us (y ∷ ys) h (suc p) = front R xs us ys (λ q. h (suc q)) p
-
--- and those behind them
-pub behind : {A B : Type 0} (R : A → B → Type 0) (xs us : List A) (ys : List B) → Alongside R (xs ++ us) ys → Alongside R us (drop (length xs) ys)
-behind R [] us ys h p = h p
-behind R (x ∷ xs) us [] h p = absurd (h 0)
-behind R (x ∷ xs) us (y ∷ ys) h p = behind R xs us ys (λ q. h (suc q)) p
+-- what stands beside the first of some, and what beside those that stand behind them
+split : {A B : Type 0} (R : A → B → Type 0) (xs us : List A) (ys : List B) → Alongside R (xs ++ us) ys
+    → (length xs ≤ length ys) × Alongside R xs (take (length xs) ys) × Alongside R us (drop (length xs) ys)
+split R [] us ys h = (omega arith, λ p. tt, h)
+split R (x ∷ xs) us [] h = absurd (h 0)
+split R (x ∷ xs) us (y ∷ ys) h = let rest = split R xs us ys (λ p. h (suc p)) in (omega (arith, rest.0), first rest.1, rest.2)
+  where
+    first : Alongside R xs (take (length xs) ys) → Alongside R (x ∷ xs) (take (length (x ∷ xs)) (y ∷ ys))
+    first later zero = h 0
+    first later (suc p) = later p
 
 -- what is told of the conditions of a search, and what of those that were put behind them
-pub first_ones : {A B : Type 0} (R : A → B → Type 0) (xs us whole : List A) (ys firsts : List B) (n : ℕ) → whole ≡ xs ++ us → n ≡ length xs → firsts ≡ take n ys → Alongside R whole ys → Alongside R xs firsts
-first_ones R xs us whole ys firsts n is count taken h =
-    subst (Alongside R xs) (sym (taken ∙ ap (λ k. take k ys) count)) (front R xs us ys (subst (λ zs. Alongside R zs ys) is h))
-
-pub last_ones : {A B : Type 0} (R : A → B → Type 0) (xs us whole : List A) (ys lasts : List B) (n : ℕ) → whole ≡ xs ++ us → n ≡ length xs → lasts ≡ drop n ys → Alongside R whole ys → Alongside R us lasts
-last_ones R xs us whole ys lasts n is count dropped h =
-    subst (Alongside R us) (sym (dropped ∙ ap (λ k. drop k ys) count)) (behind R xs us ys (subst (λ zs. Alongside R zs ys) is h))
-
-pub enough : {A B : Type 0} (R : A → B → Type 0) (xs us whole : List A) (ys : List B) (n : ℕ) → whole ≡ xs ++ us → n ≡ length xs → Alongside R whole ys → n ≤ length ys
-enough R xs us whole ys n is count h =
-    let within = front_within R xs us ys (subst (λ zs. Alongside R zs ys) is h) in
-    omega (arith, within, count)
+pub parted : {A B : Type 0} (R : A → B → Type 0) (xs us whole : List A) (ys : List B) (n : ℕ) → whole ≡ xs ++ us → n ≡ length xs → Alongside R whole ys
+    → (n ≤ length ys) × Alongside R xs (take n ys) × Alongside R us (drop n ys)
+parted R xs us whole ys n is count h =
+    subst (λ k. (k ≤ length ys) × Alongside R xs (take k ys) × Alongside R us (drop k ys)) (sym count) (split R xs us ys (subst (λ zs. Alongside R zs ys) is h))
 
 -- where the condition never holds, the object is never there
 never_there : (start : WorldState) (o : Object) (n : Never) → AsksFor o n → IsKept start n → IsNeverOpened start o

@@ -5,3 +5,4 @@ pub mod Lefts
 pub mod Readings
 pub mod CallFailures
 pub mod Rows
+pub mod Says

@@ -1,11 +1,12 @@
 //! Answers on what was found.
-ghost use Rattle.std.specs.Prelude.{◌≡◌, None, map, position, string_bytes, bytes_eq, All, IfOk, IfSome};
+ghost use Rattle.std.specs.Prelude.{◌≡◌, false, None, map, position, string_bytes, bytes_eq, All, IfOk, IfSome};
 ghost use Rattle.std.specs.Option.{option_copied};
 ghost use Rattle.lab_questions.specs.EndTexts.{text_of, told_ends, AreTold, told_end};
 ghost use Rattle.lab_worlds.specs.Calls.{Alongside};
 ghost use Rattle.lab_questions.specs.Judgments.{IsAnswer};
 ghost use Rattle.lab_questions.specs.Outputs.{IsOutputAnswer};
 ghost use Rattle.lab_questions.specs.Called.{AreAlways, IsFailureOfAll};
+ghost use Rattle.lab_questions.specs.Private.Says.{Says};
 ghost use Rattle.lab_questions.specs.Programs.{Passes};
 ghost use Rattle.lab_questions.specs.Shown.{shown_text};
 ghost use Rattle.lab_questions.specs.Texts.{answers_text};
@@ -121,6 +122,8 @@ pub(crate) fn said_of(
         ≡ asked.now.words.items) }
     ensures answers { IfOk result (λ s.
         All (IsAnswer asked.now.waiters.items found.now.ends.items) s.answers.items) }
+    ensures says { IfOk result (λ s. walks ≡ false
+        → Says asked.now.show found.now (string_bytes s.text)) }
     ensures outputs { IfOk result (λ s. Alongside (IsOutputAnswer found.now.ends.items)
         asked.now.outputs.items s.output_faults.items) }
     ensures text { IfOk result (λ s. string_bytes s.text

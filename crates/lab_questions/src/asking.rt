@@ -18,8 +18,9 @@ ghost use Rattle.lab_questions.specs.Texts.{schedule_at, answers_text};
 
 use crate::answers::said_of;
 use crate::called::ways_in;
-use crate::finding::find;
+use crate::presence::{unopened_in, watch};
 use crate::{Answers, Asked};
+use lab_explore::explore;
 use lab_sched::Fresh;
 use lab_worlds::{ExploreFault, Limits, Observer, Workers};
 use std::alloc::Global;
@@ -134,23 +135,21 @@ pub fn ask<O: Observer, R: Threads + Sync>(
 {
     let mut asked = asked;
     let ways = ways_in(alloc, again, limits, &asked.wanted, observer)?;
-    let found = find(
-        alloc,
-        fresh,
-        limits,
-        &mut asked.never,
-        asked.fair,
-        observer,
-        workers,
-    )?;
-    let said = said_of(alloc, &asked, &found.exploration, &ways, false)?;
+    let count = asked.never.len();
+    let objects = watch(alloc, &mut asked.never)?;
+    let fair = asked.fair;
+    let mut exploration = explore(alloc, fresh, limits, &asked.never, fair, observer, workers)?;
+    asked.never.truncate(count);
+    let complete = exploration.complete;
+    let unopened = unopened_in(alloc, complete, objects, &mut exploration.reached, count)?;
+    let said = said_of(alloc, &asked, &exploration, &ways, false)?;
     Ok(Answers {
         asked,
-        exploration: found.exploration,
+        exploration,
         answers: said.answers,
         output_faults: said.output_faults,
         ways,
-        unopened: found.unopened,
+        unopened,
         text: said.text,
         told: said.told,
         texts: said.texts,

@@ -1,6 +1,7 @@
 //! Semaphores and queues that conditions name.
-ghost use Rattle.std.specs.Prelude.{◌≡◌, ◌++◌, All, AllPairs, Contains, IfOk, OnOk, flat_map};
-ghost use Rattle.lab_questions.specs.Objects.{objects_in, named, StandsBefore};
+ghost use Rattle.std.specs.Prelude.{◌≡◌, ◌++◌, IfOk, OnOk, flat_map};
+ghost use Rattle.lab_questions.specs.Objects.{objects_in, named};
+ghost use Rattle.lab_questions.specs.Private.Presences.{AreNamed};
 
 use ipc_names::Name;
 use lab_conditions::{Never, Part};
@@ -58,10 +59,8 @@ fn all_named(alloc: Global, conditions: &[Never]) -> Result<Vec<Object>, AllocEr
 
 /// The objects that conditions name, each once, in the order in which they first do.
 pub(crate) fn named_in(alloc: Global, conditions: &[Never]) -> Result<Vec<Object>, AllocError>
-    ensures all { IfOk result (λ objects. All (Contains objects.items) (named conditions.now)) }
-    ensures only { IfOk result (λ objects. All (Contains (named conditions.now)) objects.items) }
-    ensures order { IfOk result (λ objects.
-        AllPairs (StandsBefore (named conditions.now)) objects.items) }
+    ensures named { IfOk result (λ objects.
+        AreNamed (named conditions.now) (named conditions.now) objects.items) }
 {
     let repeated = all_named(alloc, conditions)?;
     let mut objects = Vec::new(alloc);

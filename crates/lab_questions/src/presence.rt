@@ -1,9 +1,9 @@
 //! Whether semaphores and queues that conditions name are ever there.
-ghost use Rattle.std.specs.Prelude.{◌≡◌, ◌≤◌, ◌++◌, false, List, [], All, AllPairs, Contains, IfOk, IsTrue, OnOk, drop, length, take};
+ghost use Rattle.std.specs.Prelude.{◌≡◌, ◌≤◌, ◌++◌, false, List, [], IfOk, IsTrue, OnOk, drop, length, take};
 ghost use Rattle.lab_worlds.specs.Calls.{Alongside};
 ghost use Rattle.lab_conditions.specs.declared.never.Never.{Never as Asking};
-ghost use Rattle.lab_questions.specs.Objects.{named, presence, StandsBefore};
-ghost use Rattle.lab_questions.specs.Private.Presences.{AsksFor, unseen};
+ghost use Rattle.lab_questions.specs.Objects.{named, presence};
+ghost use Rattle.lab_questions.specs.Private.Presences.{AreNamed, AsksFor, unseen};
 
 use crate::Object;
 use crate::object::named_in;
@@ -52,12 +52,8 @@ pub(crate) fn watch(alloc: Global, conditions: &mut Vec<Never>) -> Result<Vec<Ob
     ensures asks { IfOk result (λ objects. (presences : List Asking)
         × (conditions.new.items ≡ conditions.old.items ++ presences)
         × Alongside AsksFor objects.items presences) }
-    ensures all { IfOk result (λ objects.
-        All (Contains objects.items) (named conditions.old.items)) }
-    ensures only { IfOk result (λ objects.
-        All (Contains (named conditions.old.items)) objects.items) }
-    ensures order { IfOk result (λ objects.
-        AllPairs (StandsBefore (named conditions.old.items)) objects.items) }
+    ensures named { IfOk result (λ objects.
+        AreNamed (named conditions.old.items) (named conditions.old.items) objects.items) }
 {
     let objects = named_in(alloc, conditions)?;
     let mut presences = presences_of(alloc, &objects)?;

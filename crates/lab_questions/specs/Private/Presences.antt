@@ -1,16 +1,22 @@
 -- Objects that are looked for in the worlds of a search.
-use Rattle.std.specs.Prelude.{ℕ, ◌≡◌, ◌⊎◌, Contains, List, [], ◌∷◌, ◌++◌, Option, Some, None, slice_get}
+use Rattle.std.specs.Prelude.{ℕ, ◌≡◌, ◌⊎◌, All, AllPairs, Contains, List, [], ◌∷◌, ◌++◌, Option, Some, None, slice_get}
 use Rattle.lab_sched.specs.declared.schedule.block.Block.{Block}
 use Rattle.lab_conditions.specs.declared.never.Never.{Never}
 use Rattle.lab_conditions.specs.declared.never.Never.TheVariants.{Holds, Lost, Refused}
 use Rattle.lab_questions.specs.declared.object.Object.{Object}
-use Rattle.lab_questions.specs.Objects.{presence}
+use Rattle.lab_questions.specs.Objects.{presence, StandsBefore}
 
 -- the condition holds of a world exactly where the object is there
 abbrev pub AsksFor : Object → Never → Type 0
 AsksFor o (Holds c) = c.parts.items ≡ presence o ∷ []
 AsksFor o Lost = ⊥
 AsksFor o (Refused r) = ⊥
+
+-- the objects are those that stand at the front of names, in the order in which the names first do
+pub record AreNamed (names front objects : List Object) : Type 0 where
+  pub all : All (Contains objects) front
+  pub only : All (Contains front) objects
+  pub order : AllPairs (StandsBefore names) objects
 
 -- an object is added at the end of objects, unless it is one of them
 abbrev pub AddsNew : List Object → Object → List Object → Type 0
