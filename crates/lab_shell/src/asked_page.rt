@@ -11,7 +11,7 @@ use lab_questions::{Answer, Word, through_round};
 use lab_sched::Schedule;
 use lab_ways::Ways;
 use lab_worlds::Exploration;
-use std::alloc::{AllocError, Global};
+use std::alloc::AllocError;
 use std::fmt::Display;
 
 /// How many runs to ends there are, what was asked, the runs beside those to ends, and which of these goes through the round, if
@@ -28,11 +28,11 @@ impl Told {
     /// Adds what was asked by these words, and whether it isn't so, with the runs that show that.
     fn add<F: Display + Drop>(
         &mut self,
-        alloc: Global,
         words: F,
         failed: bool,
         shown: &[Option<ShownRun>],
     ) -> Result<(), AllocError> {
+        let alloc = *self.asked.allocator();
         let text = format!(in alloc; "{words}")?;
         let runs = shown.iter().copied().flatten().collect(alloc)?;
         self.asked.push(Asked { text, failed, runs })?;
@@ -58,12 +58,6 @@ impl<'j, 'a, T, P> Explored<'j, 'a, T, P> {
             others: EndList::new(alloc),
             round: None,
         };
-        self.add_asked(&mut told)?;
-        Ok(told)
-    }
-
-    fn add_asked(&self, told: &mut Told) -> Result<(), Complaint<'a>> {
-        let alloc = self.given.job.alloc;
         let answers = &self.search.answers;
         let lasso = answers.exploration.lasso.as_ref();
         if let Some(lasso) = lasso
@@ -73,16 +67,16 @@ impl<'j, 'a, T, P> Explored<'j, 'a, T, P> {
             told.round = self.add_run(&schedule, before, &mut told.others)?;
         }
         for answer in &answers.answers {
-            self.add_word(*answer, told)?;
+            self.add_word(*answer, &mut told)?;
         }
-        self.add_outputs(told)?;
-        self.add_nevers(told)?;
-        self.add_calls(told)?;
+        self.add_outputs(&mut told)?;
+        self.add_nevers(&mut told)?;
+        self.add_calls(&mut told)?;
         if answers.asked.fair {
             let round = told.round.map(ShownRun::Other);
-            told.add(alloc, "--fair", lasso.is_some(), &[round])?;
+            told.add("--fair", lasso.is_some(), &[round])?;
         }
-        Ok(())
+        Ok(told)
     }
 
     /// Adds the run of the programs by a schedule to a list, with a number; tells its number there, if there was room for it.
@@ -113,9 +107,8 @@ impl<'j, 'a, T, P> Explored<'j, 'a, T, P> {
         let needs = answers.asked.outputs.iter();
         for (need, fault) in needs.zip(answers.output_faults.iter()) {
             let run = self.end_run(*fault, told)?;
-            let text = need.text.as_str();
-            let words = format_args!("--require {text}");
-            told.add(self.given.job.alloc, words, fault.is_some(), &[run])?;
+            let words = format_args!("--require {}", need.text);
+            told.add(words, fault.is_some(), &[run])?;
         }
         Ok(())
     }
@@ -135,7 +128,6 @@ impl<'j, 'a, T, P> Explored<'j, 'a, T, P> {
         let word = answer.word.text();
         let failed = is_unmet(&self.search.answers.exploration, answer);
         told.add(
-            self.given.job.alloc,
             format_args!("--require {word}"),
             failed,
             &[first, fault, round],
@@ -150,7 +142,7 @@ impl<'j, 'a, T, P> Explored<'j, 'a, T, P> {
         for (never, reached) in nevers.zip(answers.exploration.reached.iter()) {
             let run = self.other_run(reached.as_ref(), told)?;
             let words = format_args!("--never {never}");
-            told.add(self.given.job.alloc, words, reached.is_some(), &[run])?;
+            told.add(words, reached.is_some(), &[run])?;
         }
         Ok(())
     }
@@ -168,9 +160,8 @@ impl<'j, 'a, T, P> Explored<'j, 'a, T, P> {
             };
             let run = self.other_run(against, told)?;
             let option = if word.never { "--never" } else { "--require" };
-            let text = word.text.as_str();
-            let words = format_args!("{option} {text}");
-            told.add(self.given.job.alloc, words, against.is_some(), &[run])?;
+            let words = format_args!("{option} {}", word.text);
+            told.add(words, against.is_some(), &[run])?;
         }
         Ok(())
     }

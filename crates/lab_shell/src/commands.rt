@@ -138,10 +138,10 @@ fn tell_debugged<T, P: Progress>(
     start: World,
     debugged: &Debugged,
 ) -> Result<(), AllocError> {
-    let mut sources = Vec::new(job.alloc);
-    for process in 0..start.count() {
-        sources.push(debugged.source(process))?;
-    }
+    let processes = 0..start.count();
+    let sources = processes
+        .map(|process| debugged.source(process))
+        .collect(job.alloc)?;
     let mut notes = Notes::new(job, sources);
     if let Some(schedule) = debugged.schedule(job.alloc)? {
         notes.tell(start, &schedule)?;

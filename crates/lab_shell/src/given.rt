@@ -37,7 +37,10 @@ impl<'j, 'a, T: Files, P: Progress> Given<'j, 'a, T, P> {
         ensures setup { IfOk result (λ g. g.setup.now ≡ setup.now) }
     {
         let programs = read_programs(job, setup.programs.as_slice())?;
-        let sources = page_sources(job, files.as_slice(), &programs)?;
+        let files = files.iter().enumerate();
+        let sources = files
+            .map(|(process, file)| page_source(job, *file, process, &programs))
+            .try_collect(job.alloc)?;
         Ok(Given {
             job,
             setup,
@@ -122,17 +125,6 @@ fn source_files<'a>(
         }
     }
     Ok(files)
-}
-
-fn page_sources<'a, T: Files, P>(
-    job: &Job<'_, T, P>,
-    files: &[Option<&'a str>],
-    given: &Programs,
-) -> Result<Vec<Option<Source>>, Complaint<'a>> {
-    let files = files.iter().enumerate();
-    files
-        .map(|(process, file)| page_source(job, *file, process, given))
-        .try_collect(job.alloc)
 }
 
 /// What a page shows of the source of a process: of that in a file, which is assembled to its program, and where no file is named

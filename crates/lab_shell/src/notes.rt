@@ -80,7 +80,6 @@ pub struct Notes<'a, T, P> {
 }
 
 impl<'a, T, P: Progress> Notes<'a, T, P> {
-    /// Nothing was told.
     pub fn new(job: &'a Job<'a, T, P>, sources: Vec<Option<&'a Source>>) -> Notes<'a, T, P> {
         Notes {
             job,
@@ -97,7 +96,7 @@ impl<'a, T, P: Progress> Notes<'a, T, P> {
             return Ok(false);
         };
         self.left = left;
-        if let Some(_) = missing_after(&mut world, schedule) {
+        if missing_after(&mut world, schedule).is_some() {
             return Ok(true);
         }
         let rows = noted(self.job.alloc, &mut world, schedule)?;
