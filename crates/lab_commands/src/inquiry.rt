@@ -6,10 +6,10 @@ ghost use Rattle.lab_commands.specs.Private.Inquiries.{required_words, IsAsked, 
 use crate::advice::{line_on, meant_by};
 use crate::calls::{push_calls, wanted_in};
 use crate::complaint::{Complaint, Misuse};
-use crate::labels::{Unresolved, reversed};
+use crate::labels::Labelled;
 use crate::outputs::{need_in, needs_of};
 use crate::places::Place;
-use crate::resolving::{outlined, resolved, spread};
+use crate::resolving::outlined;
 use lab_arguments::{Choice, Question, Requirements, Rest, is_of_calls};
 use lab_conditions::{Condition, Never, Part, ReadFault, State};
 use lab_questions::{Asked, Reach, Show, Waiter, Word};
@@ -81,9 +81,9 @@ pub fn asked_of<'a>(
     let never = question.never.as_slice();
     let mut asked = Asked {
         words: words_required(alloc, question.required)?,
-        outputs: Vec::new(alloc),
-        waiters: Vec::new(alloc),
-        never: Vec::new(alloc),
+        outputs: needs_of(alloc, outputs, count)?,
+        waiters: waiters_of(alloc, question.waiters.as_slice(), sources)?,
+        never: nevers_of(alloc, never, sources)?,
         call_words: Vec::new(alloc),
         wanted: Vec::new(alloc),
         fair: question.fair,
@@ -93,9 +93,6 @@ pub fn asked_of<'a>(
         },
         plain: !question.asks_more(),
     };
-    asked.outputs = needs_of(alloc, outputs, count)?;
-    asked.waiters = waiters_of(alloc, question.waiters.as_slice(), sources)?;
-    asked.never = nevers_of(alloc, never, sources)?;
     push_calls(
         &mut asked.call_words,
         &mut asked.wanted,
@@ -202,11 +199,16 @@ fn waiters_of<'a>(
 {
     let mut waiters = Vec::new(alloc);
     for word in words {
-        let outcome = resolved(alloc, sources, word);
-        let text = outcome.map_err(|fault| fault.of(Misuse::UnfitWaiter, word))?;
+        let labelled = Labelled {
+            alloc,
+            sources,
+            word: *word,
+            unfit: Misuse::UnfitWaiter,
+        };
+        let text = labelled.resolved(word)?;
         match read_waiter(alloc, &text)? {
             Some(waiter) => waiters.push(waiter)?,
-            None => return Err(reversed(alloc, &text).of(Misuse::UnfitWaiter, word)),
+            None => return Err(labelled.reversed(&text)),
         }
     }
     Ok(waiters)
@@ -222,53 +224,53 @@ fn nevers_of<'a>(
 {
     let mut nevers = Vec::new(alloc);
     for word in words {
-        match push_nevers(alloc, &mut nevers, sources, word) {
-            Ok(()) => {}
-            Err(fault) => return Err(fault.of(Misuse::UnfitCondition, word)),
-        }
+        push_nevers(&mut nevers, sources, word)?;
     }
     Ok(nevers)
 }
 
 /// Adds what must never be so, as a word writes it, or as it is meant where it has labels, unless it is of calls.
 #[tactic(auto, using(crate::proofs::AskedLemmas::asked_read, crate::proofs::AskedLemmas::asked_unread, crate::proofs::AskedLemmas::asked_with))]
-fn push_nevers(
-    alloc: Global,
+fn push_nevers<'a>(
     nevers: &mut Vec<Never>,
     sources: &[Option<Source>],
-    word: &str,
-) -> Result<(), Unresolved>
+    word: &'a str,
+) -> Result<(), Complaint<'a>>
     ensures more { OnOk result ((more : List Condemned)
         × (nevers.new.items ≡ nevers.old.items ++ more)) }
     ensures written { OnOk result (IsAsked nevers.new.items word.now) }
 {
+    let alloc = *nevers.allocator();
     match Never::read(alloc, word) {
-        Ok(never) => {
-            nevers.push(never)?;
-            Ok(())
-        }
-        Err(ReadFault::NoCondition) if is_of_calls(word) => Ok(()),
+        Ok(never) => nevers.push(never)?,
+        Err(ReadFault::NoCondition) if is_of_calls(word) => (),
         Err(ReadFault::NoCondition) => {
-            let texts = spread(alloc, sources, word)?;
-            let read = texts.iter().map(|text| never_in(alloc, sources, text));
-            let mut labelled: Vec<Never> = read.try_collect(alloc)?;
-            nevers.append(&mut labelled)?;
-            Ok(())
+            let labelled = Labelled {
+                alloc,
+                sources,
+                word,
+                unfit: Misuse::UnfitCondition,
+            };
+            let texts = labelled.spread()?;
+            let read = texts.iter().map(|text| never_in(&labelled, text));
+            let mut meant: Vec<Never> = read.try_collect(alloc)?;
+            nevers.append(&mut meant)?;
         }
-        Err(ReadFault::NoMemory) => Err(Unresolved::NoMemory),
+        Err(ReadFault::NoMemory) => return Err(Complaint::from(AllocError)),
     }
+    Ok(())
 }
 
 /// What must never be so, as a text writes it, by the labels of the processes. It is told as it was written.
-fn never_in(alloc: Global, sources: &[Option<Source>], text: &str) -> Result<Never, Unresolved> {
-    let meant = resolved(alloc, sources, text)?;
-    match read_or_none(Never::read(alloc, &meant))? {
+fn never_in<'a>(labelled: &Labelled<'_, 'a>, text: &str) -> Result<Never, Complaint<'a>> {
+    let meant = labelled.resolved(text)?;
+    match read_or_none(Never::read(labelled.alloc, &meant))? {
         Some(Never::Holds(Condition { parts, .. })) => {
-            let text = String::from_str(alloc, text)?;
+            let text = String::from_str(labelled.alloc, text)?;
             Ok(Never::Holds(Condition { text, parts }))
         }
         Some(never) => Ok(never),
-        None => Err(reversed(alloc, &meant)),
+        None => Err(labelled.reversed(&meant)),
     }
 }
 

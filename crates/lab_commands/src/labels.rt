@@ -1,12 +1,12 @@
 //! The addresses that places of conditions stand for, or why they stand for none.
 use crate::advice::advice_line;
-use crate::complaint::{Complaint, Misuse, Reason};
+use crate::complaint::{Complaint, Misuse};
 use crate::places::address;
 use lab_arguments::Shown;
 use lab_sources::Source;
 use lc3_spelling::suggestion;
 use lc3_word::Hex;
-use std::alloc::{AllocError, AllocFailed, Global};
+use std::alloc::{AllocError, Global};
 use std::fmt::{self, Display};
 use std::slice;
 
@@ -69,95 +69,61 @@ pub(crate) fn span_in(sources: &[Option<Source>], pid: usize, place: &str) -> Op
     })
 }
 
-/// Why the labels of a condition stand for no addresses.
-#[derive(Drop)]
-pub(crate) enum Unresolved {
-    /// This line says it.
-    Because(String),
-    NoMemory,
+/// A word that may have labels, and the sources of the processes that it speaks of.
+#[derive(Clone, Copy)]
+pub(crate) struct Labelled<'s, 'a> {
+    pub alloc: Global,
+    pub sources: &'s [Option<Source>],
+    pub word: &'a str,
+    /// What is wrong with it where its labels stand for no addresses.
+    pub unfit: Misuse,
 }
 
-impl From<AllocError> for Unresolved {
-    fn from(_refused: AllocError) -> Unresolved {
-        Unresolved::NoMemory
+impl<'a> Labelled<'_, 'a> {
+    /// This is why its labels stand for no addresses, and that was meant, if it is known.
+    pub(crate) fn because<F: Display + Drop>(&self, why: F, meant: Option<&str>) -> Complaint<'a> {
+        match advice_line(self.alloc, why, meant) {
+            Ok(line) => self.unfit.of(self.word).followed(Some(line)),
+            Err(refused) => Complaint::from(refused),
+        }
     }
-}
 
-impl<T: Drop> From<AllocFailed<T>> for Unresolved {
-    fn from(_refused: AllocFailed<T>) -> Unresolved {
-        Unresolved::NoMemory
+    /// Why it is no condition with these addresses in the place of labels.
+    pub(crate) fn reversed(&self, text: &str) -> Complaint<'a> {
+        let text = Shown(text);
+        let why = format_args!("{text}: the first address of a range is above the second");
+        self.because(why, None)
     }
-}
 
-impl Unresolved {
-    /// This is why, and that was meant, if it is known.
-    pub(crate) fn because<F: Display + Drop>(
-        alloc: Global,
+    /// Why a place stands for no addresses in a process: it has no source, or this one has no such label.
+    pub(crate) fn not_in(&self, pid: usize, place: &str) -> Complaint<'a> {
+        let Some(source) = self.sources.get(pid).filter(|source| source.is_some()) else {
+            let place = Shown(place);
+            let why = format_args!(
+                "{place}: process {pid} is given as an object file, which has no labels"
+            );
+            return self.because(why, None);
+        };
+        let why = format_args!("process {pid} has no such label");
+        self.without_label(slice::from_ref(source), place, why)
+    }
+
+    /// Why a place stands for no addresses by any of some sources: this is so of the end that none has, or of the first one where
+    /// none has both. The label that is spelled most like it is named, if one is like it.
+    pub(crate) fn without_label<F: Display + Drop>(
+        &self,
+        sources: &[Option<Source>],
+        place: &str,
         why: F,
-        meant: Option<&str>,
-    ) -> Unresolved {
-        match advice_line(alloc, why, meant) {
-            Ok(line) => Unresolved::Because(line),
-            Err(AllocError) => Unresolved::NoMemory,
+    ) -> Complaint<'a> {
+        let (first, last) = ends_of(place);
+        let has_first = (0..sources.len()).any(|pid| span_in(sources, pid, first).is_some());
+        let end = if has_first { last } else { first };
+        let shown = Shown(end);
+        match nearest_to(self.alloc, sources, end) {
+            Ok(nearest) => self.because(format_args!("{shown}: {why}"), nearest),
+            Err(refused) => Complaint::from(refused),
         }
-    }
-
-    pub(crate) fn of(self, misuse: Misuse, word: &str) -> Complaint<'_> {
-        match self {
-            Unresolved::Because(line) => misuse.of(word).followed(Some(line)),
-            Unresolved::NoMemory => Reason::NoMemory.at("run"),
-        }
-    }
-}
-
-/// Why a condition with addresses in the place of labels is none.
-pub(crate) fn reversed(alloc: Global, text: &str) -> Unresolved {
-    let text = Shown(text);
-    Unresolved::because(
-        alloc,
-        format_args!("{text}: the first address of a range is above the second"),
-        None,
-    )
-}
-
-/// Why a place stands for no addresses in a process: it has no source, or this one has no such label.
-pub(crate) fn not_in(
-    alloc: Global,
-    sources: &[Option<Source>],
-    pid: usize,
-    place: &str,
-) -> Unresolved {
-    let Some(source) = sources.get(pid).filter(|source| source.is_some()) else {
-        let place = Shown(place);
-        return Unresolved::because(
-            alloc,
-            format_args!("{place}: process {pid} is given as an object file, which has no labels"),
-            None,
-        );
-    };
-    without_label(
-        alloc,
-        slice::from_ref(source),
-        place,
-        format_args!("process {pid} has no such label"),
-    )
-}
-
-/// Why a place stands for no addresses by any of some sources: this is so of the end that none has, or of the first one where none
-/// has both. The label that is spelled most like it is named, if one is like it.
-pub(crate) fn without_label<F: Display + Drop>(
-    alloc: Global,
-    sources: &[Option<Source>],
-    place: &str,
-    why: F,
-) -> Unresolved {
-    let (first, last) = ends_of(place);
-    let has_first = (0..sources.len()).any(|pid| span_in(sources, pid, first).is_some());
-    let end = if has_first { last } else { first };
-    let shown = Shown(end);
-    match nearest_to(alloc, sources, end) {
-        Ok(nearest) => Unresolved::because(alloc, format_args!("{shown}: {why}"), nearest),
-        Err(AllocError) => Unresolved::NoMemory,
     }
 }
 
