@@ -1,8 +1,7 @@
 -- What is asked of conditions, and of calls.
-use Rattle.std.proofs.Common.{◌≡◌, ℕ, Bool, ◌+◌, ◌<◌, ◌≤◌, true, false, List, [], ◌∷◌, ◌++◌, Some, None, Bor, length, take, get_or, map, ap, sym, subst, ◌∙◌, All, Any, arith}
-use Rattle.std.proofs.lemmas.List.{take_more, take_all, map-append}
+use Rattle.std.proofs.Common.{◌≡◌, ℕ, Bool, ◌+◌, ◌<◌, ◌≤◌, true, false, List, [], ◌∷◌, ◌++◌, Some, None, Bor, length, take, get_or, sym, subst, All, Any, arith}
 use Rattle.std.proofs.lemmas.Grind.{common_steps}
-use Rattle.std.proofs.lemmas.List.Elements.{All-push}
+use Rattle.std.proofs.lemmas.List.Elements.{All-more, All-weaker}
 use Rattle.std.proofs.lemmas.List.Quantifiers.{Any-push}
 use Rattle.lab_conditions.specs.declared.never.Never.{Never}
 use Rattle.lab_conditions.specs.declared.never.Never.TheVariants.{Holds, Lost, Refused}
@@ -41,25 +40,15 @@ called_with never wanted more text asked w = any_with (AsksSo never text) wanted
 pub called_last : (never : Bool) (wanted : List Wanted) (one : Wanted) (text : List ℕ) → AsksSo never text one → IsAskedOfCalls never (wanted ++ one ∷ []) text
 called_last never wanted one text asks w = Any-push (AsksSo never text) wanted one asks
 
--- of all these texts it stays asked
+-- of all these words it stays asked
 pub still_asked : {W : Type 0} (P : List W → List ℕ → Type 0) → ((ws more : List W) (text : List ℕ) → P ws text → P (ws ++ more) text)
-    → (ws more next : List W) (texts : List (List ℕ)) → next ≡ ws ++ more → All (P ws) texts → All (P next) texts
-still_asked P stays ws more next texts is all k d within =
-    subst (λ asked. P asked (get_or texts k d)) (sym is) (stays ws more (get_or texts k d) (all k d within))
+    → (ws more next : List W) (words : List (Bor (List ℕ))) → next ≡ ws ++ more → All (λ word. P ws word.now) words → All (λ word. P next word.now) words
+still_asked P stays ws more next words is all =
+    All-weaker (λ word. P ws word.now) (λ word. P next word.now) (λ word asked. subst (λ all. P all word.now) (sym is) (stays ws more word.now asked)) words all
 
--- the words so far with one more, of which it is asked
+-- of the words so far and one more
 pub asked_next : {W : Type 0} (P : List W → List ℕ → Type 0) → ((ws more : List W) (text : List ℕ) → P ws text → P (ws ++ more) text)
     → (ws more next : List W) (words : List (Bor (List ℕ))) (i : ℕ) (d : Bor (List ℕ)) → i < length words → next ≡ ws ++ more
-    → All (P ws) (map (λ word. word.now) (take i words)) → P next (get_or words i d).now
-    → All (P next) (map (λ word. word.now) (take (i + 1) words))
+    → All (λ word. P ws word.now) (take i words) → P next (get_or words i d).now → All (λ word. P next word.now) (take (i + 1) words)
 asked_next P stays ws more next words i d within is all last =
-    let seen : Bor (List ℕ) → List ℕ = λ word. word.now in
-    let split : map seen (take (i + 1) words) ≡ map seen (take i words) ++ (get_or words i d).now ∷ [] =
-    ap (map seen) (take_more words i d within) ∙ map-append seen (take i words) (get_or words i d ∷ []) in
-    subst (λ texts. All (P next) texts) (sym split)
-    (All-push (P next) (map seen (take i words)) (get_or words i d).now (still_asked P stays ws more next (map seen (take i words)) is all) last)
-
--- all words, where there are no more
-pub asked_all : (P : List ℕ → Type 0) (words : List (Bor (List ℕ))) (i : ℕ) → length words ≤ i → All P (map (λ word. word.now) (take i words))
-    → All P (map (λ word. word.now) words)
-asked_all P words i done all = subst (λ (ws : List (Bor (List ℕ))). All P (map (λ word. word.now) ws)) (take_all i words done) all
+    All-more (λ word. P next word.now) words i d within (still_asked P stays ws more next (take i words) is all) last

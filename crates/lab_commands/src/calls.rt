@@ -1,5 +1,5 @@
 //! What is asked of calls, read from words.
-ghost use Rattle.std.specs.Prelude.{◌≡◌, ◌++◌, List, map, All, IfOk, OnOk};
+ghost use Rattle.std.specs.Prelude.{◌≡◌, ◌++◌, List, All, IfOk, OnOk};
 ghost use Rattle.lab_ways.specs.declared.wanted.Wanted.{Wanted as Asked};
 ghost use Rattle.lab_commands.specs.Private.Inquiries.{AsksSo, IsAskedOfCalls};
 
@@ -23,7 +23,7 @@ pub(crate) fn push_calls<'a>(
     ensures more { OnOk result ((more : List Asked)
         × (wanted.new.items ≡ wanted.old.items ++ more)) }
     ensures each { OnOk result (
-        All (IsAskedOfCalls never wanted.new.items) (map (λ word. word.now) words.now)) }
+        All (λ word. IsAskedOfCalls never wanted.new.items word.now) words.now) }
 {
     for word in words {
         push_call(texts, wanted, word, never, count)?;

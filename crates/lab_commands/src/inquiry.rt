@@ -1,5 +1,5 @@
 //! What is asked of an exploration, read from words.
-ghost use Rattle.std.specs.Prelude.{◌≡◌, ◌++◌, List, true, false, map, length, All, IfOk, OnOk};
+ghost use Rattle.std.specs.Prelude.{◌≡◌, ◌++◌, List, true, false, length, All, IfOk, OnOk};
 ghost use Rattle.lab_conditions.specs.declared.never.Never.{Never as Condemned};
 ghost use Rattle.lab_commands.specs.Private.Inquiries.{required_words, IsAsked, IsAskedOfCalls};
 
@@ -67,11 +67,11 @@ pub fn asked_of<'a>(
     ensures waiters { IfOk result (λ asked.
         length asked.waiters.items ≡ length question.now.waiters.items) }
     ensures never { IfOk result (λ asked.
-        All (IsAsked asked.never.items) (map (λ word. word.now) question.now.never.items)) }
-    ensures calls { IfOk result (λ asked. All (IsAskedOfCalls false asked.wanted.items)
-        (map (λ word. word.now) question.now.outputs.items)) }
-    ensures never_called { IfOk result (λ asked. All (IsAskedOfCalls true asked.wanted.items)
-        (map (λ word. word.now) question.now.never.items)) }
+        All (λ word. IsAsked asked.never.items word.now) question.now.never.items) }
+    ensures calls { IfOk result (λ asked. All (λ word.
+        IsAskedOfCalls false asked.wanted.items word.now) question.now.outputs.items) }
+    ensures never_called { IfOk result (λ asked. All (λ word.
+        IsAskedOfCalls true asked.wanted.items word.now) question.now.never.items) }
     ensures fair { IfOk result (λ asked. asked.fair ≡ question.now.fair) }
     ensures out { IfOk result (λ asked. asked.show.out ≡ question.now.out) }
     ensures left { IfOk result (λ asked. asked.show.left ≡ question.now.left) }
@@ -220,7 +220,7 @@ fn nevers_of<'a>(
     sources: &[Option<Source>],
 ) -> Result<Vec<Never>, Complaint<'a>>
     ensures each { IfOk result (λ nevers.
-        All (IsAsked nevers.items) (map (λ word. word.now) words.now)) }
+        All (λ word. IsAsked nevers.items word.now) words.now) }
 {
     let mut nevers = Vec::new(alloc);
     for word in words {

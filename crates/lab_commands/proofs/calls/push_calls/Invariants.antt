@@ -1,4 +1,4 @@
-use Rattle.std.proofs.Common.{◌≡◌, ◌++◌, List, map, All, take}
+use Rattle.std.proofs.Common.{◌≡◌, ◌++◌, List, All, take}
 use Rattle.lab_ways.specs.declared.wanted.Wanted.{Wanted}
 use Rattle.lab_commands.specs.Private.Inquiries.{IsAskedOfCalls}
 use Rattle.lab_commands.proofs.calls.push_calls.Given as goal
@@ -7,4 +7,4 @@ use Rattle.lab_commands.proofs.calls.push_calls.Given as goal
 abbrev pub invariant-loop-word : goal.invariant-loop-word
 invariant-loop-word l =
     ((more : List Wanted) × (l.wanted.items ≡ l.initial.wanted.items ++ more))
-    × All (IsAskedOfCalls l.never l.wanted.items) (map (λ word. word.now) (take l.word-index l.words))
+    × All (λ word. IsAskedOfCalls l.never l.wanted.items word.now) (take l.word-index l.words)

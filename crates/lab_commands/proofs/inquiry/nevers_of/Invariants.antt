@@ -1,7 +1,7 @@
-use Rattle.std.proofs.Common.{map, All, take}
+use Rattle.std.proofs.Common.{All, take}
 use Rattle.lab_commands.specs.Private.Inquiries.{IsAsked}
 use Rattle.lab_commands.proofs.inquiry.nevers_of.Given as goal
 
 -- the words so far are asked
 abbrev pub invariant-loop-word : goal.invariant-loop-word
-invariant-loop-word l = All (IsAsked l.nevers.items) (map (λ word. word.now) (take l.word-index l.words))
+invariant-loop-word l = All (λ word. IsAsked l.nevers.items word.now) (take l.word-index l.words)
