@@ -1,9 +1,9 @@
 //! The command `run`.
-ghost use Rattle.std.specs.Prelude.{◌≡◌, ◌≤◌, ℕ, List, false, IfOk, OnOk, string_bytes};
+ghost use Rattle.std.specs.Prelude.{◌≡◌, ◌≤◌, ℕ, List, false, IfOk, OnOk};
 ghost use Rattle.std.specs.Io.KnownBytes.{Appends};
 ghost use Rattle.lab_sched.specs.Worlds.{run};
 ghost use Rattle.lab_sched.specs.Schedules.{steps_of};
-ghost use Rattle.lab_commands.specs.Runs.{run_text, run_bytes, IsToldRun};
+ghost use Rattle.lab_commands.specs.Runs.{run_bytes, IsToldRun};
 ghost use Rattle.lab_threads.specs.Limits.{most_steps_each};
 
 use crate::complaint::{At, Complaint};
@@ -25,8 +25,9 @@ use std::sync::Wait;
 use std::thread::Threads;
 use std::time::Clock;
 
-/// Runs programs that were given on threads, and writes the report and the schedule of an interleaving that leads to it, with where
-/// processes stand in their sources; gives both.
+/// Runs programs that were given on threads, each for [`MOST_STEPS_EACH`] steps at most, and writes the report and the schedule of
+/// an interleaving that leads to it, with where processes stand in their sources; gives both. With a seed, workers pause before
+/// calls.
 pub fn run_given<T: Threads + Wait + Clock + Sync, W: Write, P: Progress>(
     job: &Job<'_, T, P>,
     given: &Programs,
@@ -40,30 +41,18 @@ pub fn run_given<T: Threads + Wait + Clock + Sync, W: Write, P: Progress>(
         × Appends (W.contents output.old.device) (W.contents output.new.device) bytes) }
 {
     let fresh = laboratory(job.alloc, given.programs.as_slice(), profile)?;
-    let report = run_fresh(job, fresh, manner)?;
+    let limit = manner.limit.clamp(1, MOST_STEPS_EACH);
+    let outcome = match manner.mix {
+        None => report_of(job, fresh, limit, &NoGate),
+        Some(seed) => report_of(job, fresh, limit, &PausingGate::new(job.rt, seed)),
+    };
+    let report = outcome.at(job.alloc, "run")?;
     let sources = given.numbered(job.alloc)?;
     write_bytes(
         &bytes_of(job.alloc, &sources, &report, manner.plain)?,
         output,
     )?;
     Ok(report)
-}
-
-/// Runs the programs of a laboratory on threads, each for [`MOST_STEPS_EACH`] steps at most. With a seed, workers pause before
-/// calls.
-fn run_fresh<T: Threads + Wait + Clock + Sync, P: Progress>(
-    job: &Job<'_, T, P>,
-    fresh: Fresh,
-    manner: Manner<'_>,
-) -> Result<Report, Complaint<'static>>
-    ensures world { IfOk result (λ r. run fresh (steps_of r.schedule) ≡ r.world) }
-{
-    let limit = manner.limit.clamp(1, MOST_STEPS_EACH);
-    let outcome = match manner.mix {
-        None => report_of(job, fresh, limit, &NoGate),
-        Some(seed) => report_of(job, fresh, limit, &PausingGate::new(job.rt, seed)),
-    };
-    outcome.at(job.alloc, "run")
 }
 
 /// The report on a run, with where processes stand in these sources, and a line with its schedule; and, where that is `plain`,
@@ -77,7 +66,15 @@ fn bytes_of(
     ensures bytes { IfOk result (λ bytes. bytes.items
         ≡ run_bytes sources.now plain report.now.world report.now.schedule) }
 {
-    let mut bytes = placed(alloc, sources, text_of(alloc, report)?.as_bytes())?;
+    let mut text = report_text(alloc, &report.world)?;
+    let schedule = report.schedule.text(alloc)?;
+    text.push_str("schedule")?;
+    if !schedule.is_empty() {
+        text.push(' ')?;
+        text.push_str(&schedule)?;
+    }
+    text.push_str("\n")?;
+    let mut bytes = placed(alloc, sources, text.as_bytes())?;
     if plain {
         bytes.extend_from_slice(&plain_output(alloc, &report.world)?)?;
     }
@@ -99,19 +96,4 @@ fn report_of<T: Threads + Wait + Sync, G: Gate, P: Progress>(
     let outcome = run_threads(job.rt, job.alloc, fresh, limit, &count);
     count.clear();
     outcome
-}
-
-fn text_of(alloc: Global, report: &Report) -> Result<String, AllocError>
-    ensures text { IfOk result (λ text. string_bytes text
-        ≡ run_text report.now.world report.now.schedule) }
-{
-    let mut text = report_text(alloc, &report.world)?;
-    let schedule = report.schedule.text(alloc)?;
-    text.push_str("schedule")?;
-    if !schedule.is_empty() {
-        text.push(' ')?;
-        text.push_str(&schedule)?;
-    }
-    text.push_str("\n")?;
-    Ok(text)
 }
