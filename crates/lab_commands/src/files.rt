@@ -71,12 +71,8 @@ fn source_meant<T: Files>(rt: &T, alloc: Global, name: &str) -> Option<String> {
     if !is_file(rt, &source) {
         return None;
     }
-    format!(in alloc;
-        "lc3lab: {}: did you mean {}?\n",
-        Shown(name),
-        Shown(&source)
-    )
-    .ok()
+    let (name, source) = (Shown(name), Shown(&source));
+    format!(in alloc; "lc3lab: {name}: did you mean {source}?\n").ok()
 }
 
 /// The bytes of a file, at most 4,000,000: a file with more is refused as too large.

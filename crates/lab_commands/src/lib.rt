@@ -27,6 +27,7 @@ mod stages;
 mod step;
 mod telling;
 
+pub use advice::advice_line;
 pub use asm::{Assembly, assemble_file};
 pub use check::{check_sources, messages_if};
 pub use complaint::{At, Complaint, Misuse, Reason};

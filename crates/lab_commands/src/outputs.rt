@@ -24,18 +24,15 @@ pub(crate) fn need_in<'a>(
     word: &'a str,
     count: usize,
 ) -> Result<OutputNeed, Complaint<'a>> {
-    match OutputNeed::read(alloc, word)? {
-        Some(need) if names_only(&need, count) => Ok(need),
-        Some(_) => Err(Misuse::NoSuchWriter.of(word)),
-        None => Err(Misuse::NoOutput.of(word).followed(advice_on(alloc, word))),
+    let Some(need) = OutputNeed::read(alloc, word)? else {
+        return Err(Misuse::NoOutput.of(word).followed(advice_on(alloc, word)));
+    };
+    let alternatives = need.alternatives.iter();
+    let mut parts = alternatives.flat_map(|alternative| alternative.parts.iter());
+    if parts.any(|part| part.process >= count) {
+        return Err(Misuse::NoSuchWriter.of(word));
     }
-}
-
-fn names_only(need: &OutputNeed, count: usize) -> bool {
-    need.alternatives.iter().all(|alternative| alternative
-        .parts
-        .iter()
-        .all(|part| part.process < count))
+    Ok(need)
 }
 
 /// The line that says why a word requires nothing of an output, where memory allows it.

@@ -165,10 +165,10 @@ impl<P: Progress, G: Gate> Gate for CallCount<'_, P, G> {
             return;
         }
         let calls = self.calls.fetch_add(1, Ordering::SeqCst).wrapping_add(1);
-        if calls % CALLS == 0 {
-            if let Ok(text) = format!(in self.alloc; "lc3lab: {calls} calls") {
-                self.progress.show(&text);
-            }
+        if calls % CALLS == 0
+            && let Ok(text) = format!(in self.alloc; "lc3lab: {calls} calls")
+        {
+            self.progress.show(&text);
         }
     }
 }

@@ -1,5 +1,6 @@
 //! What is advised where the words of `--require` are refused.
 use lab_arguments::{Shown, required_words};
+use lab_commands::advice_line;
 use std::alloc::{AllocError, Global};
 
 /// The words that `--require` has.
@@ -33,35 +34,24 @@ pub fn requirements_meant(
 }
 
 fn line_on(alloc: Global, value: &str) -> Result<String, AllocError> {
-    let mut line = String::from_str(alloc, "lc3lab: ")?;
-    match unknown_in(alloc, value)? {
+    let meant = meant_by(alloc, value)?;
+    let meant = meant.as_deref().filter(|meant| *meant != value);
+    let words = required_words(alloc, &[value])?;
+    match words.iter().copied().find(|word| !WORDS.contains(word)) {
         Some(word) => {
             let word = Shown(word);
-            write!(
-                line,
+            let told = format_args!(
                 "{word}: isn't understood; here stand ended, stuck, halted, empty, same and out P = \"TEXT\", with commas between"
-            )?;
+            );
+            advice_line(alloc, told, meant)
         }
         None => {
-            write!(
-                line,
+            let told = format_args!(
                 "{value}: each word stands once, and ended, stuck and halted exclude each other"
-            )?;
+            );
+            advice_line(alloc, told, meant)
         }
     }
-    if let Some(meant) = meant_by(alloc, value)?
-        && meant.as_str() != value
-    {
-        write!(line, "; did you mean {meant}?")?;
-    }
-    line.push_str("\n")?;
-    Ok(line)
-}
-
-/// The first word that `--require` doesn't have.
-fn unknown_in(alloc: Global, value: &str) -> Result<Option<&str>, AllocError> {
-    let words = required_words(alloc, &[value])?;
-    Ok(words.iter().copied().find(|word| !WORDS.contains(word)))
 }
 
 /// The words that were meant, with commas between them, if that is known: no two of them are ways in which processes come to rest.
