@@ -92,21 +92,14 @@ impl<T, E: Display + Drop> At<T> for Result<T, E> {
     }
 }
 
-#[derive(Drop)]
+#[derive(Debug, Drop, Error)]
 enum Text {
+    #[error(transparent)]
     Misuse(Misuse),
+    #[error(transparent)]
     Reason(Reason),
+    #[error("{0}")]
     Made(String),
-}
-
-impl Display for Text {
-    fn fmt<W: fmt::Write>(&self, f: &mut fmt::Formatter<W>) -> fmt::Result {
-        match self {
-            Text::Misuse(misuse) => misuse.fmt(f),
-            Text::Reason(reason) => reason.fmt(f),
-            Text::Made(text) => f.write_str(text),
-        }
-    }
 }
 
 /// A fault and where it was found: a file's name, or a part of the program's work.
