@@ -18,7 +18,7 @@ use Rattle.lab_questions.specs.Called.{ShowsWay}
 use Rattle.lab_questions.specs.Texts.{ShowsFault, ShowsOutput, ShowsReached, ShowsLasso}
 use Rattle.lab_places.specs.Placed.{SourceSeen}
 use Rattle.lab_commands.specs.declared.explore.Search.{Search}
-use Rattle.lab_commands.specs.Told.{ShowsFailure, numbered_end, IsChosen, line_or_none, TellsChosen, all_told, Tells, HasTold, HasBegun}
+use Rattle.lab_commands.specs.Told.{ShowsFailure, numbered_end, IsChosen, line_or_none, all_told, Tells, HasTold, HasBegun}
 
 -- no schedule shows too little
 shows_none : (a : Answers) (f : Option Failure) → ShowsFailure a f None

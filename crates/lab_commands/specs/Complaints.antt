@@ -1,7 +1,6 @@
 -- When `explore` complains of what was found.
 use Rattle.std.specs.Prelude.{ℕ, ◌&&◌, ◌||◌, ◌==◌, not, is_some, cond, Bool, true, false, Option, Some, None, List, [], ◌∷◌, length}
 use Rattle.lab_questions.specs.Programs.{judges}
-use Rattle.lab_questions.specs.declared.asked.Asked.{Asked}
 use Rattle.lab_questions.specs.declared.asked.Word.{Word}
 use Rattle.lab_questions.specs.declared.asked.Word.TheVariants.{Ended, Stuck, Halted, Empty, Same}
 use Rattle.lab_questions.specs.declared.failure.Failure.{Failure}
