@@ -1,5 +1,5 @@
 //! The programs of a laboratory, as the command line names them.
-ghost use Rattle.std.specs.Prelude.{◌≡◌, false, IfOk};
+ghost use Rattle.std.specs.Prelude.{◌≡◌, false, IfOk, OnOk};
 ghost use Rattle.lab_sched.specs.Starts.{fresh};
 
 use crate::advice::advice_line;
@@ -74,31 +74,18 @@ impl Programs {
             .map(with_lines)
             .collect(alloc)
     }
-
-    /// Reads the console input of the process that takes it from standard input, if one of these words says so.
-    pub fn fill<R: Read>(
-        &mut self,
-        alloc: Global,
-        words: &[&str],
-        input: &mut Input<R>,
-    ) -> Result<(), Complaint<'static>>
-        requires input_healthy { input.old.failed ≡ false }
-    {
-        if let Some(process) = words.iter().position(|word| takes_input(word))
-            && let Some(program) = self.programs.get_mut(process)
-        {
-            program.input = read_whole(alloc, input).at(alloc, "standard input")?;
-        }
-        Ok(())
-    }
 }
 
 /// The programs that words name, each by a source or an object file. A file is read and checked before the next one is
-/// opened. A console input that comes from standard input is empty here.
-pub fn read_programs<'a, T: Files, P: Progress>(
+/// opened, and behind them all the console input of the process that takes it from standard input, if one does.
+pub fn read_programs<'a, T: Files, R: Read, P: Progress>(
     job: &Job<'_, T, P>,
     words: &[&'a str],
-) -> Result<Programs, Complaint<'a>> {
+    input: &mut Input<R>,
+) -> Result<Programs, Complaint<'a>>
+    requires input_healthy { input.old.failed ≡ false }
+    ensures healthy { OnOk result (input.new.failed ≡ false) }
+{
     let mut given = Programs {
         programs: Vec::new(job.alloc),
         sources: Vec::new(job.alloc),
@@ -106,6 +93,11 @@ pub fn read_programs<'a, T: Files, P: Progress>(
     };
     for word in words {
         given.push(job, word)?;
+    }
+    if let Some(process) = words.iter().position(|word| takes_input(word))
+        && let Some(program) = given.programs.get_mut(process)
+    {
+        program.input = read_whole(job.alloc, input).at(job.alloc, "standard input")?;
     }
     Ok(given)
 }

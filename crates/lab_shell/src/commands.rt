@@ -36,8 +36,7 @@ pub fn step_programs<'j, 'a, T: Files, R: Read, W: Write, P: Progress>(
     ensures report { OnOk result ((text : List ℕ) × IsReport setup.now.profile text
         × Appends (W.contents output.old.device) (W.contents output.new.device) text) }
 {
-    let given = Given::read(job, setup, Vec::new(job.alloc))?;
-    given.tell_warnings();
+    let given = Given::read(job, setup, Vec::new(job.alloc), input)?;
     let schedule = read_schedule(job, input)?;
     write_bytes(
         &report_given(job, &given.programs, setup.profile, &schedule)?,
@@ -65,8 +64,7 @@ pub fn trace_programs<'j, 'a, T: Files, R: Read, W: Write, P: Progress>(
         Some(page) => page_files(job, setup, Some(page.file), page.sources.as_slice())?,
         None => Vec::new(job.alloc),
     };
-    let given = Given::read(job, setup, files)?;
-    given.tell_warnings();
+    let given = Given::read(job, setup, files, input)?;
     let schedule = read_schedule(job, input)?;
     match page {
         Some(page) => write_bytes(&given.write_page(page.file, &schedule)?, output),
@@ -97,7 +95,7 @@ pub fn run_programs<
         × Appends (W.contents output.old.device) (W.contents output.new.device) bytes) }
 {
     let files = page_files(job, setup, manner.page, &[])?;
-    let given = Given::read_filled(job, setup, files, input)?;
+    let given = Given::read(job, setup, files, input)?;
     let report = run_given(job, &given.programs, setup.profile, manner, output)?;
     given.tell_notes(&[&report.schedule]);
     match manner.page {
@@ -117,8 +115,7 @@ pub fn debug_programs<'j, 'a, T: Files, R: Read, W: Write, P: Progress>(
     requires input_healthy { input.old.failed ≡ false }
     requires output_healthy { output.old.failed ≡ false }
 {
-    let given = Given::read(job, setup, Vec::new(job.alloc))?;
-    given.tell_warnings();
+    let given = Given::read(job, setup, Vec::new(job.alloc), input)?;
     let start = if job.tells_notes() {
         Some(given.world()?)
     } else {

@@ -1,5 +1,5 @@
 //! Programs that a command runs, and the sources that a page shows of them.
-ghost use Rattle.std.specs.Prelude.{◌≡◌, false, IfOk};
+ghost use Rattle.std.specs.Prelude.{◌≡◌, false, IfOk, OnOk};
 ghost use Rattle.lab_shell.specs.Private.Runs.{start_of};
 
 use lab_arguments::{Console, Setup, program_of};
@@ -27,31 +27,9 @@ pub struct Given<'j, 'a, T, P> {
 }
 
 impl<'j, 'a, T: Files, P: Progress> Given<'j, 'a, T, P> {
-    /// Reads the programs of a setup, and for a page their sources, by its source files. A console input that comes from
-    /// standard input is empty here.
-    pub fn read(
-        job: &'j Job<'j, T, P>,
-        setup: &'j Setup<'a>,
-        files: Vec<Option<&'a str>>,
-    ) -> Result<Given<'j, 'a, T, P>, Complaint<'a>>
-        ensures setup { IfOk result (λ g. g.setup.now ≡ setup.now) }
-    {
-        let programs = read_programs(job, setup.programs.as_slice())?;
-        let files = files.iter().enumerate();
-        let sources = files
-            .map(|(process, file)| page_source(job, *file, process, &programs))
-            .try_collect(job.alloc)?;
-        Ok(Given {
-            job,
-            setup,
-            programs,
-            sources,
-        })
-    }
-
-    /// The same with the console input of the process that takes it from standard input, if one does; warnings of the sources
-    /// are told.
-    pub fn read_filled<R: Read>(
+    /// Reads the programs of a setup, and for a page their sources, by its source files, and the console input of the process
+    /// that takes it from standard input, if one does; warnings of the sources are told.
+    pub fn read<R: Read>(
         job: &'j Job<'j, T, P>,
         setup: &'j Setup<'a>,
         files: Vec<Option<&'a str>>,
@@ -59,11 +37,19 @@ impl<'j, 'a, T: Files, P: Progress> Given<'j, 'a, T, P> {
     ) -> Result<Given<'j, 'a, T, P>, Complaint<'a>>
         requires input_healthy { input.old.failed ≡ false }
         ensures setup { IfOk result (λ g. g.setup.now ≡ setup.now) }
+        ensures healthy { OnOk result (input.new.failed ≡ false) }
     {
-        let mut given = Given::read(job, setup, files)?;
-        given
-            .programs
-            .fill(job.alloc, setup.programs.as_slice(), input)?;
+        let programs = read_programs(job, setup.programs.as_slice(), input)?;
+        let files = files.iter().enumerate();
+        let sources = files
+            .map(|(process, file)| page_source(job, *file, process, &programs))
+            .try_collect(job.alloc)?;
+        let given = Given {
+            job,
+            setup,
+            programs,
+            sources,
+        };
         given.tell_warnings();
         Ok(given)
     }
