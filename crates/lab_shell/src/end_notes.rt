@@ -8,6 +8,7 @@ use crate::given::Given;
 use lab_arguments::{Choice, Question};
 use lab_commands::{Complaint, Progress, Search, SearchCost, find_ends, limit_met};
 use lab_questions::LimitMet;
+use lab_sched::Schedule;
 use std::alloc::AllocError;
 use std::rt::Files;
 use std::thread::Threads;
@@ -26,13 +27,10 @@ pub fn search_ends<'a, T: Files + Threads + Clock + Sync, P: Progress>(
     let began = Instant::now(job.rt).ok();
     let mut search = find_ends(job, &given.programs, profile, question)?;
     search.cost = began.and_then(|began| SearchCost::since(job, began));
-    search.limit = if search.inquiry.json || job.tells_notes() {
-        limit_met(job, &given.programs, profile, &search)
-            .ok()
-            .flatten()
-    } else {
-        None
-    };
+    if search.inquiry.json || job.tells_notes() {
+        let met = limit_met(job, &given.programs, profile, &search);
+        search.limit = met.ok().flatten();
+    }
     Ok(search)
 }
 
@@ -67,17 +65,15 @@ impl<T, P: Progress> Explored<'_, '_, T, P> {
     /// Tells the notes of the runs to the ends that are printed: where one is chosen it is printed alone.
     fn note_ends(&self) -> Result<(), AllocError> {
         let search = &self.search;
-        let mut schedules = Vec::new(self.given.job.alloc);
-        for at in 0..search.answers.told.len() {
-            let is_printed = match search.inquiry.choice {
-                None => true,
-                Some(Choice::End(number)) => number as usize == at + 1,
-                Some(Choice::Bad) => false,
-            };
-            if is_printed && let Some(end) = search.answers.end(at) {
-                schedules.push(&end.schedule)?;
-            }
-        }
+        let printed = (0..search.answers.told.len()).filter(|at| match search.inquiry.choice {
+            None => true,
+            Some(Choice::End(number)) => (number as usize).checked_sub(1) == Some(*at),
+            Some(Choice::Bad) => false,
+        });
+        let schedules: Vec<&Schedule> = printed
+            .filter_map(|at| search.answers.end(at))
+            .map(|end| &end.schedule)
+            .collect(self.given.job.alloc)?;
         self.given.tell_notes(schedules.as_slice());
         Ok(())
     }

@@ -121,21 +121,16 @@ fn page_source<'a, T: Files, P>(
     process: usize,
     given: &Programs,
 ) -> Result<Option<Source>, Complaint<'a>> {
-    let alloc = job.alloc;
-    match (
-        file,
-        given.programs.get(process),
-        given.sources.get(process),
-    ) {
-        (Some(file), Some(program), _) => {
-            Ok(Some(source_for(job, file, process, &program.image)?))
-        }
-        (_, _, Some(Some(source))) => {
-            let text = String::from_str(alloc, &source.text)?;
-            Ok(Some(source_of(alloc, text, &source.assembled)?))
-        }
-        _ => Ok(None),
+    if let Some(file) = file
+        && let Some(program) = given.programs.get(process)
+    {
+        return Ok(Some(source_for(job, file, process, &program.image)?));
     }
+    let Some(Some(source)) = given.sources.get(process) else {
+        return Ok(None);
+    };
+    let text = String::from_str(job.alloc, &source.text)?;
+    Ok(Some(source_of(job.alloc, text, &source.assembled)?))
 }
 
 /// The source in a file, which is assembled to the image of a process.

@@ -17,28 +17,20 @@ const LEAST_COUNTED: u32 = 1_000;
 impl<T, P: Progress> Given<'_, '_, T, P> {
     /// Tells the warnings of the sources that programs are given as, of each file once, where notes are told.
     pub fn tell_warnings(&self) {
-        if !self.job.tells_notes() {
+        let (job, profile) = (self.job, self.setup.profile);
+        if !job.tells_notes() {
             return;
         }
         let words = self.setup.programs.as_slice();
         for (process, word) in words.iter().enumerate() {
             let (file, _) = program_of(word);
-            let is_new = !words
-                .iter()
-                .take(process)
-                .any(|other| program_of(other).0 == file);
-            if is_new
+            let mut before = words.iter().take(process);
+            if !before.any(|other| program_of(other).0 == file)
                 && let Some(Some(source)) = self.programs.sources.get(process)
-                && let Some(report) = messages_if(
-                    self.job,
-                    file,
-                    source.text.as_bytes(),
-                    self.setup.profile,
-                    true,
-                )
+                && let Some(report) = messages_if(job, file, source.text.as_bytes(), profile, true)
                 && !report.text.is_empty()
             {
-                self.job.progress.tell(&report.text);
+                job.progress.tell(&report.text);
             }
         }
     }
