@@ -1,5 +1,4 @@
 //! The program, its commands and their options.
-use crate::examples;
 use lab_arguments::{
     CommandRow, MOST_LOCAL_STEPS, MOST_MEMORY, MOST_STEPS_EACH, MOST_THREADS, MOST_WALKS,
     MOST_WORLDS, ProgramRow, Row, Takes,
@@ -9,58 +8,92 @@ use lab_arguments::{
 pub(crate) const PROGRAM: ProgramRow = ProgramRow {
     about: "A laboratory of LC-3 processes",
     version: "1.0.0",
-    example: examples::PROGRAM,
+    example: "\
+Without a command it reads an image as hexadecimal words from standard input, the origin first, runs it for at most \
+100,000 steps and prints a report.
+
+Example:
+  printf '3000 2002 F021 F025 0048\\n' | lc3lab",
     commands: COMMANDS,
 };
 
-/// The commands, in the order of help.
+/// The commands, in the order of help. Each example works as it stands.
 const COMMANDS: &[CommandRow] = &[
     CommandRow {
         name: "asm",
         about: "Assembles a source and writes its object file",
-        example: examples::ASSEMBLE,
+        example: "\
+Example:
+  printf '.ORIG x3000\\nHALT\\n' > halt.asm
+  lc3lab asm halt.asm halt.obj --list",
         options: ASM,
     },
     CommandRow {
         name: "check",
         about: "Writes all that is wrong with sources, and warnings",
-        example: examples::CHECK,
+        example: "\
+Example:
+  printf '.ORIG x3000\\nHALT\\n' > halt.asm
+  lc3lab check halt.asm --werror",
         options: CHECK,
     },
     CommandRow {
         name: "dis",
         about: "Prints the words of an object file, or of a source (.asm), as instructions",
-        example: examples::DISASSEMBLE,
+        example: "\
+Example:
+  printf '.ORIG x3000\\nHALT\\n' > halt.asm
+  lc3lab asm halt.asm halt.obj && lc3lab dis halt.obj",
         options: DIS,
     },
     CommandRow {
         name: "step",
         about: "Runs programs by the schedule on standard input and prints a report",
-        example: examples::STEP,
+        example: "\
+Example:
+  printf '.ORIG x3000\\nHALT\\n' > halt.asm
+  lc3lab asm halt.asm halt.obj
+  echo '0 1' | lc3lab step halt.obj halt.obj",
         options: PROGRAMS,
     },
     CommandRow {
         name: "trace",
         about: "Runs programs by the schedule on standard input and prints what happened",
-        example: examples::TRACE,
+        example: "\
+Example:
+  printf '.ORIG x3000\\nHALT\\n' > halt.asm
+  lc3lab asm halt.asm halt.obj
+  echo '0 1' | lc3lab trace halt.obj halt.obj",
         options: TRACE,
     },
     CommandRow {
         name: "run",
         about: "Runs programs on threads and prints a report and an interleaving that leads to it",
-        example: examples::RUN,
+        example: "\
+Example:
+  printf '.ORIG x3000\\nHALT\\n' > halt.asm
+  lc3lab asm halt.asm halt.obj
+  lc3lab run halt.obj halt.obj",
         options: RUN,
     },
     CommandRow {
         name: "explore",
         about: "Visits every interleaving of programs and prints the ends that they can have",
-        example: examples::EXPLORE,
+        example: "\
+Example:
+  printf '.ORIG x3000\\nHALT\\n' > halt.asm
+  lc3lab asm halt.asm halt.obj
+  lc3lab explore halt.obj halt.obj",
         options: EXPLORE,
     },
     CommandRow {
         name: "debug",
         about: "Runs programs by commands on standard input, which also show them",
-        example: examples::DEBUG,
+        example: "\
+Example:
+  printf '.ORIG x3000\\nHALT\\n' > halt.asm
+  lc3lab asm halt.asm halt.obj
+  printf 'step 0 1\\nprocs\\n' | lc3lab debug halt.obj",
         options: PROGRAMS,
     },
 ];
