@@ -83,22 +83,8 @@ pub(crate) fn meant_by(
     text: &str,
 ) -> Result<Option<String>, AllocError> {
     let spread = spread(alloc, text)?;
-    let mut meant = String::new(alloc);
-    let mut place = first;
-    let mut before = "";
-    for word in spread.split(' ').filter(|piece| !piece.is_empty()) {
-        let next = word_meant(alloc, place, before, word)?;
-        if !meant.is_empty() {
-            meant.push_str(" ")?;
-        }
-        meant.push_str(&next)?;
-        let Some(behind) = place.behind(&next) else {
-            return Ok(None);
-        };
-        place = behind;
-        before = word;
-    }
-    Ok(Some(meant))
+    let words = words_of(alloc, &spread)?;
+    mended(alloc, first, &words)
 }
 
 /// A text with blanks around each run of `>`, `<` and `=`.
@@ -114,6 +100,25 @@ fn spread(alloc: Global, text: &str) -> Result<String, AllocError> {
         in_sign = is_sign;
     }
     Ok(spread)
+}
+
+fn mended(alloc: Global, first: Place, words: &[&str]) -> Result<Option<String>, AllocError> {
+    let mut text = String::new(alloc);
+    let mut place = first;
+    let mut before = "";
+    for word in words {
+        let meant = word_meant(alloc, place, before, word)?;
+        if !text.is_empty() {
+            text.push_str(" ")?;
+        }
+        text.push_str(&meant)?;
+        let Some(next) = place.behind(&meant) else {
+            return Ok(None);
+        };
+        place = next;
+        before = word;
+    }
+    Ok(Some(text))
 }
 
 /// The word that was meant by one at a place. A number is changed as the sign before it asks; no word where no number is so.
