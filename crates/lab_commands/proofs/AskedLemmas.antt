@@ -1,5 +1,6 @@
 -- What is asked of conditions, and of calls.
 use Rattle.std.proofs.Common.{◌≡◌, ℕ, Bool, ◌+◌, ◌<◌, ◌≤◌, true, false, List, [], ◌∷◌, ◌++◌, Some, None, Bor, length, take, get_or, sym, subst, All, Any, arith}
+use Rattle.std.proofs.lemmas.List.{take_all}
 use Rattle.std.proofs.lemmas.Grind.{common_steps}
 use Rattle.std.proofs.lemmas.List.Elements.{All-more, All-weaker}
 use Rattle.std.proofs.lemmas.List.Quantifiers.{Any-push}
@@ -52,3 +53,7 @@ pub asked_next : {W : Type 0} (P : List W → List ℕ → Type 0) → ((ws more
     → All (λ word. P ws word.now) (take i words) → P next (get_or words i d).now → All (λ word. P next word.now) (take (i + 1) words)
 asked_next P stays ws more next words i d within is all last =
     All-more (λ word. P next word.now) words i d within (still_asked P stays ws more next (take i words) is all) last
+
+-- all words, where there are no more
+pub asked_all : (P : List ℕ → Type 0) (words : List (Bor (List ℕ))) (i : ℕ) → length words ≤ i → All (λ word. P word.now) (take i words) → All (λ word. P word.now) words
+asked_all P words i done all = subst (λ (ws : List (Bor (List ℕ))). All (λ word. P word.now) ws) (take_all i words done) all

@@ -1,8 +1,8 @@
-use Rattle.std.proofs.Common.{◌++◌, ◌∙◌, ap, List}
+use Rattle.std.proofs.Common.{◌++◌, ◌∙◌, ap, List, arith}
 use Rattle.std.proofs.lemmas.List.{append_assoc}
 use Rattle.lab_ways.specs.declared.wanted.Wanted.{Wanted}
 use Rattle.lab_commands.specs.Private.Inquiries.{IsAskedOfCalls}
-use Rattle.lab_commands.proofs.AskedLemmas.{called_with, asked_next}
+use Rattle.lab_commands.proofs.AskedLemmas.{called_with, asked_next, asked_all}
 use Rattle.lab_commands.proofs.calls.push_calls.Goals as goal
 
 pub loop-word-preserved : goal.loop-word-preserved
@@ -16,3 +16,6 @@ loop-word-preserved c =
       asked_next (IsAskedOfCalls c.args.never) (called_with c.args.never) c.loop-word.wanted.items here.0 c.push_call.new.wanted.items c.args.words.now c.loop-word.word-index _ c.loop-word-test.true
           here.1 c.loop-word.invariant.1 c.in_ok-push_call.ensures.asked,
     )
+
+pub returns-clause-each : goal.returns-clause-each
+returns-clause-each c = asked_all (IsAskedOfCalls c.args.never c.loop-word.wanted.items) c.args.words.now c.loop-word.word-index (omega (arith, c.loop-word-test.false)) c.loop-word.invariant.1
