@@ -79,7 +79,7 @@ fn searched<'a, T: Threads + Sync, P: Progress>(
 
 /// Visits every interleaving of the programs of a laboratory, which is given twice, or takes the walks of an inquiry, and judges
 /// what is asked.
-#[tactic(auto, using(crate::proofs::FoundLemmas::are_searched, crate::proofs::FoundLemmas::are_walked))]
+#[tactic(auto, using(crate::proofs::FoundLemmas::are_walked))]
 fn explore<T: Threads + Sync, P: Progress>(
     job: &Job<'_, T, P>,
     fresh: Fresh,
@@ -91,17 +91,21 @@ fn explore<T: Threads + Sync, P: Progress>(
     ensures found { IfOk result (λ a. IsFoundBy inquiry.now.reach.walks fresh a) }
 {
     let Reach { limits, walks, .. } = inquiry.reach;
-    let counted = if walks.is_some() { WALKS } else { WORLDS };
-    let mut count = SearchCount::new(job.alloc, job.progress, counted);
-    let outcome = match walks {
-        Some(walks) => ask_walks(job.alloc, fresh, limits, walks, asked, &mut count),
-        None => {
-            let workers = Workers::new(job.rt, thread_count(job.rt, inquiry.threads));
-            ask(job.alloc, fresh, again, limits, asked, &mut count, &workers)
+    match walks {
+        Some(walks) => {
+            let mut count = SearchCount::new(job.alloc, job.progress, WALKS);
+            let outcome = ask_walks(job.alloc, fresh, limits, walks, asked, &mut count);
+            count.clear();
+            outcome
         }
-    };
-    count.clear();
-    outcome
+        None => {
+            let mut count = SearchCount::new(job.alloc, job.progress, WORLDS);
+            let workers = Workers::new(job.rt, thread_count(job.rt, inquiry.threads));
+            let outcome = ask(job.alloc, fresh, again, limits, asked, &mut count, &workers);
+            count.clear();
+            outcome
+        }
+    }
 }
 
 /// So many threads as were asked for, or as there are processors.
