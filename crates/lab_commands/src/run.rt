@@ -25,9 +25,8 @@ use std::sync::Wait;
 use std::thread::Threads;
 use std::time::Clock;
 
-/// Runs programs that were given on threads, each for [`MOST_STEPS_EACH`] steps at most, and writes the report and the schedule of
-/// an interleaving that leads to it, with where processes stand in their sources; gives both. With a seed, workers pause before
-/// calls.
+/// Runs programs that were given on threads, and writes the report and the schedule of an interleaving that leads to it, with where
+/// processes stand in their sources; gives both.
 pub fn run_given<T: Threads + Wait + Clock + Sync, W: Write, P: Progress>(
     job: &Job<'_, T, P>,
     given: &Programs,
@@ -41,18 +40,30 @@ pub fn run_given<T: Threads + Wait + Clock + Sync, W: Write, P: Progress>(
         × Appends (W.contents output.old.device) (W.contents output.new.device) bytes) }
 {
     let fresh = laboratory(job.alloc, given.programs.as_slice(), profile)?;
-    let limit = manner.limit.clamp(1, MOST_STEPS_EACH);
-    let outcome = match manner.mix {
-        None => report_of(job, fresh, limit, &NoGate),
-        Some(seed) => report_of(job, fresh, limit, &PausingGate::new(job.rt, seed)),
-    };
-    let report = outcome.at(job.alloc, "run")?;
+    let report = run_fresh(job, fresh, manner)?;
     let sources = given.numbered(job.alloc)?;
     write_bytes(
         &bytes_of(job.alloc, &sources, &report, manner.plain)?,
         output,
     )?;
     Ok(report)
+}
+
+/// Runs the programs of a laboratory on threads, each for [`MOST_STEPS_EACH`] steps at most. With a seed, workers pause before
+/// calls.
+fn run_fresh<T: Threads + Wait + Clock + Sync, P: Progress>(
+    job: &Job<'_, T, P>,
+    fresh: Fresh,
+    manner: Manner<'_>,
+) -> Result<Report, Complaint<'static>>
+    ensures world { IfOk result (λ r. run fresh (steps_of r.schedule) ≡ r.world) }
+{
+    let limit = manner.limit.clamp(1, MOST_STEPS_EACH);
+    let outcome = match manner.mix {
+        None => report_of(job, fresh, limit, &NoGate),
+        Some(seed) => report_of(job, fresh, limit, &PausingGate::new(job.rt, seed)),
+    };
+    outcome.at(job.alloc, "run")
 }
 
 /// The report on a run, with where processes stand in these sources, and a line with its schedule; and, where that is `plain`,
