@@ -6,7 +6,7 @@ ghost use Rattle.lc3_machine.specs.Effects.{next_step};
 ghost use Rattle.lc3_machine.specs.declared.want.Want.TheVariants.{Trap};
 ghost use Rattle.ipc_kernel.specs.declared.call.Call.TheVariants.{MqUnlink, SemUnlink};
 ghost use Rattle.ipc_traps.specs.Names.{is_in_memory, words_at};
-ghost use Rattle.ipc_traps.specs.Asked.{request_of, next_request, kernel_request, service_request, request_within, Calls, name_at, request_by_name, has_attributes, mq_open_request, sem_open_request, mq_send_request};
+ghost use Rattle.ipc_traps.specs.Asked.{request_of, next_request, kernel_request, service_request, request_within, Calls, name_at, request_by_name, has_attributes, mq_open_request, sem_open_request, mq_send_request, mq_receive_request};
 
 use crate::memory::{is_in_memory, name_length, read_few, read_four, read_words, register};
 use crate::{Asked, Service};
@@ -18,13 +18,19 @@ use std::alloc::{AllocError, Global};
 
 /// What a process asks of the kernel by the trap with this vector, which it stands before, or the refusal. The arguments
 /// are as they stand in the registers and in memory, not yet tested. An error is want of memory.
+// The calls that are made most are read here, so that little is compiled for each of their vectors.
 #[tactic(auto, unfolding(crate::specs::Asked::next_request))]
 #[inline(always)]
 pub fn read_by_vector(alloc: Global, machine: &Machine, vector: u8) -> Result<Asked, AllocError>
     requires trap { next_step machine.now.process ≡ Stops (Trap vector) }
     ensures asked { IfOk result (λ a. next_request machine.now.process ≡ request_of a) }
 {
+    let slot = register(machine, 0);
     match Service::of_vector(vector) {
+        Some(Service::MqSend) => read_send(alloc, machine),
+        Some(Service::MqReceive) => Ok(read_receive(machine)),
+        Some(Service::SemWait) => Ok(Asked::Kernel(Call::SemWait { slot })),
+        Some(Service::SemPost) => Ok(Asked::Kernel(Call::SemPost { slot })),
         Some(service) => read_service(alloc, machine, service),
         None => Ok(Asked::Kernel(Call::Exit)),
     }
@@ -43,7 +49,6 @@ pub fn read_call(alloc: Global, call: &AtCall) -> Result<Asked, AllocError>
 }
 
 /// A call whose memory ranges must lie below the device registers.
-#[inline(always)]
 fn within(inside: bool, call: Call) -> Asked
     ensures request { request_of result ≡ request_within inside (Calls call) }
 {
@@ -55,6 +60,20 @@ fn within(inside: bool, call: Call) -> Asked
 }
 
 #[inline(always)]
+fn read_receive(machine: &Machine) -> Asked
+    ensures request { request_of result ≡ mq_receive_request machine.now.process }
+{
+    let (len, prio_at) = (register(machine, 2), register(machine, 3));
+    if !is_in_memory(register(machine, 1), len) || (prio_at != 0 && !is_in_memory(prio_at, 1)) {
+        return Asked::Refused(Errno::Fault);
+    }
+    Asked::Kernel(Call::MqReceive {
+        mqd: register(machine, 0),
+        len,
+    })
+}
+
+#[inline(never)]
 fn read_service(alloc: Global, machine: &Machine, service: Service) -> Result<Asked, AllocError>
     ensures request { IfOk result (λ a. request_of a
         ≡ service_request service machine.now.process) }
@@ -65,11 +84,7 @@ fn read_service(alloc: Global, machine: &Machine, service: Service) -> Result<As
         Service::MqClose => Ok(Asked::Kernel(Call::MqClose { mqd: first })),
         Service::MqUnlink => read_unlink(alloc, machine),
         Service::MqSend => read_send(alloc, machine),
-        Service::MqReceive => {
-            let (len, prio_at) = (register(machine, 2), register(machine, 3));
-            let inside = is_in_memory(at, len) && (prio_at == 0 || is_in_memory(prio_at, 1));
-            Ok(within(inside, Call::MqReceive { mqd: first, len }))
-        }
+        Service::MqReceive => Ok(read_receive(machine)),
         Service::MqGetattr => Ok(within(is_in_memory(at, 4), Call::MqGetattr { mqd: first })),
         Service::MqSetattr => {
             let old_at = register(machine, 2);
