@@ -1,5 +1,5 @@
 -- Messages in buckets by priority.
-use Rattle.std.proofs.Common.{IfSome, IfNone, ◌≡◌, ℕ, ◌+◌, ◌-◌, ◌≤◌, ◌<◌, cond, List, [], ◌∷◌, ◌++◌, length, Option, Some, None, unwrap_or, IsSome, Result, Ok, Err, OnOk, OnErr, refl, sym, ap, subst, ◌∙◌, arith, All, append_assoc, append-nil, length-append, Ordering, Less, Equal, Greater, nat_cmp, is_eq}
+use Rattle.std.proofs.Common.{IfSome, IfNone, ◌≡◌, ℕ, ◌-◌, ◌≤◌, ◌<◌, cond, List, [], ◌∷◌, ◌++◌, length, Option, Some, None, unwrap_or, IsSome, Result, Ok, Err, OnOk, OnErr, refl, sym, ap, subst, ◌∙◌, arith, All, append_assoc, append-nil, length-append, Ordering, Less, Equal, Greater, nat_cmp, is_eq, rules}
 use Rattle.std.specs.Cmp.{nat_cmp_total}
 use Rattle.std.specs.Ordering.{match_ordering}
 use Rattle.std.specs.List.{slice_get, AllByRecursion}
@@ -16,6 +16,7 @@ use Rattle.ipc_objects.specs.declared.queue.Message.{Message}
 use Rattle.ipc_objects.specs.Queue.{after_send}
 use Rattle.ipc_objects.specs.Private.Buckets.{messages_of_buckets, bucket_at, buckets_with_message, after_greatest, AreBelow, IsBucket, AreBuckets}
 use Rattle.ipc_objects.proofs.SentLemmas.{All-sent, sent-all, sent-append-less, sent-append-greater, slice_get-append_here, slice_get-append_later}
+use Rattle.std.proofs.lemmas.Grind.{common_steps}
 
 abbrev Entries : Type 0
 Entries = List (ℕ × List Message)
@@ -77,12 +78,7 @@ joined_put m (e ∷ es) sorted each = by (nat_cmp m.priority e.0) refl (joined_p
 -- what is put into a bucket is of its priority
 bucket_is : (p : ℕ) (es : Entries) → All IsBucket es → All (λ m. m.priority ≡ p) (bucket_at es p)
 bucket_is p [] each = All-nil (λ m. m.priority ≡ p)
-bucket_is p (e ∷ es) each = by (nat_cmp p e.0) refl (bucket_is p es (All-tail IsBucket e es each))
-  where
-    by : (r : Ordering) → nat_cmp p e.0 ≡ r → All (λ m. m.priority ≡ p) (bucket_at es p) → All (λ m. m.priority ≡ p) (unwrap_or (cond (is_eq r) (Some e.1) (lookup (is_at (nat_cmp p)) es)) [])
-    by Less is later = later
-    by Equal is later = let same = equal_is p e.0 is in All-weaker (λ m. m.priority ≡ e.0) (λ m. m.priority ≡ p) (λ m e. omega arith) e.1 (All-head IsBucket e es each).1
-    by Greater is later = later
+bucket_is p (e ∷ es) each = search (rules, All-weaker, All-head, (bucket_is p es (All-tail IsBucket e es each)))
 
 each_put : (p : ℕ) (b : List Message) (es : Entries) → All IsBucket es → IsBucket (p, b) → All IsBucket (insert_entry nat_cmp es p b)
 each_put p b [] each new = All-cons IsBucket (p, b) [] new (All-nil IsBucket)
@@ -111,15 +107,7 @@ joined_last (f ∷ es) e = ap (λ ms. ms ++ f.1) (joined_last es e) ∙ append_a
 -- a key above those of all entries goes to the end
 put_behind : (p : ℕ) (b : List Message) (es : Entries) → All (λ e. e.0 < p) es → insert_entry nat_cmp es p b ≡ es ++ (p, b) ∷ []
 put_behind p b [] below = refl
-put_behind p b (e ∷ es) below = by (nat_cmp p e.0) refl (put_behind p b es (All-tail (λ f. f.0 < p) e es below))
-  where
-    here : e.0 < p
-    here = All-head (λ f. f.0 < p) e es below
-
-    by : (r : Ordering) → nat_cmp p e.0 ≡ r → insert_entry nat_cmp es p b ≡ es ++ (p, b) ∷ [] → match_ordering r ((p, b) ∷ e ∷ es) ((e.0, b) ∷ es) (e ∷ insert_entry nat_cmp es p b) ≡ e ∷ es ++ (p, b) ∷ []
-    by Less is later = let lt = less_is p e.0 is in absurd (omega (arith, here))
-    by Equal is later = let same = equal_is p e.0 is in absurd (omega (arith, here))
-    by Greater is later = ap (λ zs. e ∷ zs) later
+put_behind p b (e ∷ es) below = search (rules, below, All-tail, All-head, less_is, equal_is, (put_behind p b es (All-tail (λ f. f.0 < p) e es below)))
 
 -- the keys before another one are below it
 keys_before : (xs ys : Entries) (e : ℕ × List Message) → IsStrictlySortedBy nat_cmp (keys_of (xs ++ e ∷ ys)) → All (λ f. f.0 < e.0) xs
@@ -148,8 +136,7 @@ set_is_put p b w (e ∷ es) sorted here = by (nat_cmp p e.0) refl here (set_is_p
 
 pub put_in : (m : Message) (b w : List Message) (es new : Entries) → IsStrictlySortedBy nat_cmp (keys_of es) → Some b ≡ lookup (is_at (nat_cmp m.priority)) es → new ≡ set_value (is_at (nat_cmp m.priority)) es w → w ≡ b ++ m ∷ []
     → new ≡ buckets_with_message es m
-put_in m b w es new sorted here is w_is =
-    is ∙ set_is_put m.priority b w es sorted (sym here) ∙ ap (insert_entry nat_cmp es m.priority) (w_is ∙ ap (λ o. unwrap_or o [] ++ m ∷ []) here)
+put_in m b w es new sorted here is w_is = search (rules, set_is_put)
 
 pub put_back : (p : ℕ) (b w : List Message) (es new : Entries) → Some b ≡ lookup (is_at (nat_cmp p)) es → new ≡ set_value (is_at (nat_cmp p)) es w → w ≡ b → new ≡ es
 put_back p b w es new here is w_is = is ∙ set_value_same (is_at (nat_cmp p)) es w (sym here ∙ ap (λ ms. Some ms) (sym w_is))
@@ -157,24 +144,18 @@ put_back p b w es new here is w_is = is ∙ set_value_same (is_at (nat_cmp p)) e
 -- buckets stay buckets whether a message is put in or not
 pub buckets_pushed : {T E : Type 0} (r : Result T E) (m : Message) (es new : Entries) → AreBuckets es
     → OnOk r (new ≡ buckets_with_message es m) → OnErr r (new ≡ es) → OnOk r (IsStrictlySortedBy nat_cmp (keys_of new)) → AreBuckets new
-buckets_pushed (Ok x) m es new inv is same sorted = buckets_put m es new inv is sorted
-buckets_pushed (Err x) m es new inv is same sorted = rw same inv
+buckets_pushed x m es new inv is same sorted = search (rules, buckets_put)
 
 -- the message after `left` others of the buckets s is in the last of them, e, or among the others, t
 pub entry_here : (s t : Entries) (e : ℕ × List Message) (left : ℕ) → s ≡ t ++ e ∷ [] → left < length e.1 → slice_get (messages_of_buckets s) left ≡ slice_get e.1 left
 entry_here s t e left is h = ap (λ ms. slice_get ms left) (ap messages_of_buckets is ∙ joined_last t e) ∙ slice_get-append_here e.1 (messages_of_buckets t) left h
 
 pub entry_past : (s t : Entries) (e : ℕ × List Message) (left n : ℕ) → s ≡ t ++ e ∷ [] → n ≡ length e.1 → n ≤ left → slice_get (messages_of_buckets s) left ≡ slice_get (messages_of_buckets t) (left - n)
-entry_past s t e left n is counted h =
-    let parts : left ≡ length e.1 + (left - n) = omega (arith, counted) in
-    ap (λ ms. slice_get ms left) (ap messages_of_buckets is ∙ joined_last t e) ∙ ap (slice_get (e.1 ++ messages_of_buckets t)) parts ∙ slice_get-append_later e.1 (messages_of_buckets t) (left - n)
+entry_past s t e left n is counted h = search (rules, joined_last, slice_get-append_later)
 
 -- one more entry is copied
 pub copied_more : (es xs s t new : Entries) (e : ℕ × List Message) (b : List Message) → IsStrictlySortedBy nat_cmp (keys_of es) → xs ++ s ≡ es → s ≡ e ∷ t → b ≡ e.1 → new ≡ insert_entry nat_cmp xs e.0 b → new ++ t ≡ es
-copied_more es xs s t new e b sorted so_far s_is b_is is =
-    let whole : xs ++ e ∷ t ≡ es = ap (λ zs. xs ++ zs) (sym s_is) ∙ so_far in
-    let last = put_behind e.0 e.1 xs (keys_before xs t e (subst (λ zs. IsStrictlySortedBy nat_cmp (keys_of zs)) (sym whole) sorted)) in
-    ap (λ zs. zs ++ t) (is ∙ ap (insert_entry nat_cmp xs e.0) b_is ∙ last) ∙ append_assoc xs (e ∷ []) t ∙ whole
+copied_more es xs s t new e b sorted so_far s_is b_is is = grind (arith, common_steps, put_behind, keys_before)
 
 -- where all messages are of lesser priorities, a message is the first
 sent_first : (m : Message) (ms : List Message) → All (λ x. x.priority < m.priority) ms → after_send m ms ≡ m ∷ ms
@@ -184,22 +165,16 @@ sent_first m ms less = sent-append-less m [] ms less
 pub sent_above : (m : Message) (o : Option (ℕ × List Message)) (ms : List Message) → AreBelow o ms → IfSome o (λ e. e.0 < m.priority)
     → m ∷ after_greatest o ms ≡ after_send m (after_greatest o ms)
 sent_above m None ms below less = rw below refl
-sent_above m (Some e) ms below less =
-    sym (sent_first m (e.1 ++ ms) (All-append (λ x. x.priority < m.priority) e.1 ms
-    (All-weaker (λ x. x.priority ≡ e.0) (λ x. x.priority < m.priority) (λ x is. omega (arith, less)) e.1 below.0.1)
-    (All-weaker (λ x. x.priority < e.0) (λ x. x.priority < m.priority) (λ x lt. omega (arith, less)) ms below.1)))
+sent_above m (Some e) ms below less = grind (arith, common_steps, below, sent_first)
 
 -- so it does where it is put there
 pub sent_put : {T E : Type 0} (r : Result T E) (m : Message) (o new : Option (ℕ × List Message)) (ms others whole : List Message) → AreBelow o ms → IfSome o (λ e. e.0 < m.priority)
     → OnOk r (new ≡ Some (m.priority, m ∷ [])) → OnOk r (others ≡ after_greatest o ms) → after_greatest o ms ≡ whole → OnOk r (after_greatest new others ≡ after_send m whole)
-sent_put (Ok x) m o new ms others whole below less is others_is whole_is = rw (is, others_is, ← whole_is) (sent_above m o ms below less)
-sent_put (Err x) m o new ms others whole below less is others_is whole_is = tt
+sent_put x m o new ms others whole below less is others_is whole_is = search (rules, below, sent_above)
 
 -- a message of the greatest priority goes to the end of its bucket
 pub sent_beside : (m : Message) (p : ℕ) (b ms : List Message) → AreBelow (Some (p, b)) ms → m.priority ≡ p → (b ++ m ∷ []) ++ ms ≡ after_send m (b ++ ms)
-sent_beside m p b ms below same =
-    ap (λ xs. xs ++ ms) (sym (sent-all m b (All-weaker (λ x. x.priority ≡ p) (λ x. m.priority ≤ x.priority) (λ x is. omega (arith, same)) b below.0.1)))
-    ∙ sym (sent-append-less m b ms (All-weaker (λ x. x.priority < p) (λ x. x.priority < m.priority) (λ x lt. omega (arith, same)) ms below.1))
+sent_beside m p b ms below same = search (rules, below, sent-all, All-weaker, sent-append-less)
 
 -- a message of a lesser priority goes among those after the bucket
 pub sent_below : (m : Message) (p : ℕ) (b ms : List Message) → AreBelow (Some (p, b)) ms → m.priority < p → b ++ after_send m ms ≡ after_send m (b ++ ms)
@@ -224,15 +199,12 @@ key_below p e is less = of e.1 is.0 is.1 less
 -- and so is the priority of each bucket
 keys_below : (p : ℕ) (es : Entries) → All IsBucket es → All (λ m. m.priority < p) (messages_of_buckets es) → All (λ e. e.0 < p) es
 keys_below p [] each less = All-nil (λ e. e.0 < p)
-keys_below p (e ∷ es) each less =
-    All-cons (λ f. f.0 < p) e es (key_below p e (All-head IsBucket e es each) (all_right (λ m. m.priority < p) (messages_of_buckets es) e.1 less))
-    (keys_below p es (All-tail IsBucket e es each) (all_left (λ m. m.priority < p) (messages_of_buckets es) e.1 less))
+keys_below p (e ∷ es) each less = search (rules, All-cons, key_below, All-head, all_right, All-tail, all_left, (keys_below p es (All-tail IsBucket e es each) (all_left (λ m. m.priority < p) (messages_of_buckets es) e.1 less)))
 
 -- buckets stay buckets whether one of another priority is put in or not
 pub buckets_with : {T E : Type 0} (r : Result T E) (p : ℕ) (b : List Message) (es new : Entries) → AreBuckets es → IsBucket (p, b)
     → OnOk r (new ≡ insert_entry nat_cmp es p b) → OnErr r (new ≡ es) → IsStrictlySortedBy nat_cmp (keys_of new) → AreBuckets new
-buckets_with (Ok x) p b es new inv bucket is same sorted = record { ordered = sorted; each = rw is (each_put p b es inv.each bucket) }
-buckets_with (Err x) p b es new inv bucket is same sorted = rw same inv
+buckets_with x p b es new inv bucket is same sorted = search (rules, each_put)
 
 -- a bucket of a priority above all others has the first messages
 pub joined_with : (p : ℕ) (b : List Message) (es new : Entries) → AreBuckets es → All (λ m. m.priority < p) (messages_of_buckets es) → new ≡ insert_entry nat_cmp es p b → messages_of_buckets new ≡ b ++ messages_of_buckets es

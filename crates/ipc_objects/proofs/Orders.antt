@@ -1,5 +1,5 @@
 -- The messages of a queue stay in the order of their priorities.
-use Rattle.std.proofs.Common.{◌≡◌, ◌≤◌, ◌<◌, Bool, true, false, nat_le, nat_lt, List, [], ◌∷◌, ◌++◌, filter, arith, All, cond}
+use Rattle.std.proofs.Common.{◌≤◌, Bool, true, false, List, [], ◌∷◌, ◌++◌, filter, All, cond, rules}
 use Rattle.std.proofs.lemmas.List.Elements.{All-head, All-tail, All-cons, All-append, All-filter, All-weaker, filter_passes}
 use Rattle.std.proofs.lemmas.Bool.{leb-true, ltb-true}
 use Rattle.ipc_objects.specs.declared.queue.Message.{Message}
@@ -24,14 +24,4 @@ rises-filter p (m ∷ ms) h = kept-rises (p m) p m ms h (rises-filter p ms h.1)
 
 -- the order still holds after a send
 pub rises-sent : (m : Message) (ms : List Message) → NeverRises ms → NeverRises (after_send m ms)
-rises-sent m ms h =
-    let above : All (λ x. m.priority ≤ x.priority) (filter (λ x. nat_le m.priority x.priority) ms) =
-    All-weaker (λ x. nat_le m.priority x.priority ≡ true) (λ x. m.priority ≤ x.priority) (λ x t. leb-true m.priority x.priority t) _ (filter_passes (λ x. nat_le m.priority x.priority) ms) in
-    let below : All (λ x. x.priority < m.priority) (filter (λ x. nat_lt x.priority m.priority) ms) =
-    All-weaker (λ x. nat_lt x.priority m.priority ≡ true) (λ x. x.priority < m.priority) (λ x t. ltb-true x.priority m.priority t) _ (filter_passes (λ x. nat_lt x.priority m.priority) ms) in
-    rises-append (filter (λ x. nat_le m.priority x.priority) ms) (m ∷ filter (λ x. nat_lt x.priority m.priority) ms)
-    (rises-filter (λ x. nat_le m.priority x.priority) ms h)
-    (All-weaker (λ x. x.priority < m.priority) (λ x. x.priority ≤ m.priority) (λ x t. omega arith) _ below, rises-filter (λ x. nat_lt x.priority m.priority) ms h)
-    (All-weaker (λ x. m.priority ≤ x.priority) (λ x. All (λ y. y.priority ≤ x.priority) (m ∷ filter (λ y. nat_lt y.priority m.priority) ms))
-    (λ x t. All-cons (λ y. y.priority ≤ x.priority) m (filter (λ y. nat_lt y.priority m.priority) ms) t
-    (All-weaker (λ y. y.priority < m.priority) (λ y. y.priority ≤ x.priority) (λ y u. omega arith) _ below)) _ above)
+rises-sent m ms h = search (rules, All-weaker, leb-true, filter_passes, ltb-true, rises-append, rises-filter, All-cons)

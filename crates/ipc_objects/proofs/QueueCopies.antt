@@ -1,8 +1,8 @@
 -- Queues with the same messages.
-use Rattle.std.proofs.Common.{◌≡◌, ℕ, ◌+◌, ◌<◌, ◌≤◌, ◌==◌, true, false, Decides, List, [], length, take, unwrap_or, inl, inr, ap, refl, sym, ◌∙◌}
+use Rattle.std.proofs.Common.{◌≡◌, ℕ, ◌+◌, ◌<◌, ◌≤◌, true, false, Decides, List, [], length, take, unwrap_or, inl, inr, ap, sym, ◌∙◌, rules}
 use Rattle.std.specs.List.{slice_get}
 use Rattle.std.proofs.lemmas.Bool.{cases_lt}
-use Rattle.std.proofs.lemmas.Bool.Decides.{Decides-eqb, Decides-and, Decides-like, same_from_decides}
+use Rattle.std.proofs.lemmas.Bool.Decides.{Decides-eqb, same_from_decides}
 use Rattle.std.proofs.lemmas.List.{take_all, take_more_same}
 use Rattle.std.proofs.lemmas.Slice.Eq.{slice_eq-Decides}
 use Rattle.std.proofs.lemmas.Option.{unwrap_or-slice_get, slice_get-get_or, slice_get_past}
@@ -31,28 +31,18 @@ abbrev message : ℕ → List ℕ → Message
 message priority words = record { priority = priority; words = words }
 
 message_decides : (m n : Message) → Decides (message_eq m n) (m ≡ n)
-message_decides m n =
-    Decides-like (message_eq m n)
-    (λ h. ap (λ x. message x m.words) h.0 ∙ ap (message n.priority) h.1)
-    (λ e. (ap (λ x. x.priority) e, ap (λ x. x.words) e))
-    (Decides-and (m.priority == n.priority) _ (Decides-eqb m.priority n.priority) (slice_eq-Decides Decides-eqb m.words n.words _ refl))
+message_decides m n = search rules
 
 abbrev state : ℕ → ℕ → List Message → QueueState
 state max size messages = record { max_messages = max; message_size = size; messages = messages }
 
 -- `==` decides whether queues are the same
 pub queue_decides : (a b : QueueState) → Decides (queue_eq a b) (a ≡ b)
-queue_decides a b =
-    Decides-like (queue_eq a b)
-    (λ h. ap (λ x. state x a.message_size a.messages) h.0 ∙ ap (λ x. state b.max_messages x a.messages) h.1.0 ∙ ap (state b.max_messages b.message_size) h.1.1)
-    (λ e. (ap (λ q. q.max_messages) e, (ap (λ q. q.message_size) e, ap (λ q. q.messages) e)))
-    (Decides-and (a.max_messages == b.max_messages) _ (Decides-eqb a.max_messages b.max_messages) (Decides-and (a.message_size == b.message_size) _ (Decides-eqb a.message_size b.message_size) (slice_eq-Decides message_decides a.messages b.messages _ refl)))
+queue_decides a b = search (rules, Decides-eqb, slice_eq-Decides, message_decides)
 
 -- queues of the same attributes, and of the same messages as far as any reaches, are told to be equal
 pub told_equal : (a b : QueueState) (i : ℕ) → a.max_messages ≡ b.max_messages → a.message_size ≡ b.message_size → length a.messages ≤ i → length b.messages ≤ i → take i a.messages ≡ take i b.messages → true ≡ queue_eq a b
-told_equal a b i max size mine theirs same =
-    let messages = sym (take_all i a.messages mine) ∙ same ∙ take_all i b.messages theirs in
-    sym ((queue_decides a b).1 (ap (λ x. state x a.message_size a.messages) max ∙ ap (λ x. state b.max_messages x a.messages) size ∙ ap (state b.max_messages b.message_size) messages))
+told_equal a b i max size mine theirs same = search (rules, take_all, queue_decides)
 
 -- other queues are told to differ
 pub told_apart : (a b : QueueState) → (a ≡ b → ⊥) → false ≡ queue_eq a b

@@ -1,5 +1,5 @@
 -- Queues after a send and after a receive.
-use Rattle.std.proofs.Common.{◌≡◌, ℕ, ◌+◌, ◌-◌, ◌≤◌, ◌<◌, List, ◌∷◌, length, ap, arith}
+use Rattle.std.proofs.Common.{◌≡◌, ℕ, ◌+◌, ◌-◌, ◌≤◌, ◌<◌, List, ◌∷◌, length, ap, arith, rules}
 use Rattle.std.proofs.lemmas.List.Elements.{All-tail}
 use Rattle.ipc_objects.specs.Limits.{mq_prio_max}
 use Rattle.ipc_objects.specs.declared.queue.Message.{Message}
@@ -8,16 +8,7 @@ use Rattle.ipc_objects.specs.Private.Counted.{IsCounted}
 use Rattle.ipc_objects.proofs.SentLemmas.{length-sent, shape-sent}
 
 shape-tail : (max size : ℕ) (x : Message) (ms : List Message) → IsShape max size (x ∷ ms) → IsShape max size ms
-shape-tail max size x ms h = record {
-  max_at_least = h.max_at_least;
-  max_at_most = h.max_at_most;
-  size_at_least = h.size_at_least;
-  size_at_most = h.size_at_most;
-  within = omega (arith, h.within);
-  priorities = All-tail (λ x. x.priority < mq_prio_max) x ms h.priorities;
-  sizes = All-tail (λ x. length x.words ≤ size) x ms h.sizes;
-  ordered = h.ordered.1;
-}
+shape-tail max size x ms h = search (rules, All-tail)
 
 -- one message more
 pub counted_sent : (max size count : ℕ) (m : Message) (ms new : List Message) → IsCounted max size count ms → length ms < max → m.priority < mq_prio_max → length m.words ≤ size → new ≡ after_send m ms → IsCounted max size (count + 1) new

@@ -1,5 +1,5 @@
 -- Where a message goes in the order of receive.
-use Rattle.std.proofs.Common.{◌≡◌, ℕ, zero, suc, ◌+◌, ◌≤◌, ◌<◌, Bool, true, false, not, nat_le, nat_lt, List, [], ◌∷◌, ◌++◌, length, filter, refl, ap, arith, All, append_assoc, append-nil, sym, zero-add, length-append}
+use Rattle.std.proofs.Common.{◌≡◌, ℕ, zero, suc, ◌+◌, ◌≤◌, ◌<◌, Bool, true, false, not, nat_le, nat_lt, List, [], ◌∷◌, ◌++◌, length, filter, refl, ap, arith, All, append_assoc, append-nil, sym, zero-add, rules}
 use Rattle.std.proofs.lemmas.List.Filters.{length-filter_both}
 use Rattle.std.proofs.lemmas.List.Elements.{All-head, All-tail, All-cons, All-append, All-filter, All-weaker, filter-append}
 use Rattle.std.proofs.lemmas.Bool.{le-leb, le-ltb, lt-leb, lt-ltb}
@@ -9,14 +9,13 @@ use Rattle.ipc_objects.specs.declared.queue.Message.{Message}
 use Rattle.ipc_objects.specs.Limits.{mq_prio_max}
 use Rattle.ipc_objects.specs.Queue.{after_send, IsShape}
 use Rattle.ipc_objects.proofs.Orders.{rises-sent}
+use Rattle.std.proofs.lemmas.Grind.{common_steps}
 
 nat_lt_not : (a b : ℕ) → nat_lt b a ≡ not (nat_le a b)
 nat_lt_not a b = grind (arith, nat_tests)
 
 pub length-sent : (m : Message) (ms : List Message) → length (after_send m ms) ≡ length ms + 1
-length-sent m ms =
-    let both = length-filter_both (λ (x : Message). nat_le m.priority x.priority) (λ x. nat_lt x.priority m.priority) (λ x. nat_lt_not m.priority x.priority) ms in
-    rw length-append (omega arith)
+length-sent m ms = grind (arith, common_steps, length-filter_both, nat_lt_not)
 
 pub filter-none : {X : Type 0} (p : X → Bool) (xs : List X) → All (λ x. p x ≡ false) xs → filter p xs ≡ []
 filter-none p [] none = refl
@@ -27,22 +26,11 @@ filter-all p [] all = refl
 filter-all p (x ∷ xs) all = rw (All-head (λ x. p x ≡ true) x xs all) (ap (λ ys. x ∷ ys) (filter-all p xs (All-tail (λ x. p x ≡ true) x xs all)))
 
 pub All-sent : (P : Message → Type 0) (m : Message) (ms : List Message) → P m → All P ms → All P (after_send m ms)
-All-sent P m ms p all =
-    All-append P (filter (λ x. nat_le m.priority x.priority) ms) _ (All-filter (λ x. nat_le m.priority x.priority) P ms all)
-    (All-cons P m (filter (λ x. nat_lt x.priority m.priority) ms) p (All-filter (λ x. nat_lt x.priority m.priority) P ms all))
+All-sent P m ms p all = search (rules, All-append, All-filter, All-cons)
 
 -- the ranges still hold after a send that has room
 pub shape-sent : (max size : ℕ) (ms : List Message) (m : Message) → IsShape max size ms → length ms < max → m.priority < mq_prio_max → length m.words ≤ size → IsShape max size (after_send m ms)
-shape-sent max size ms m h room priority small = record {
-  max_at_least = h.max_at_least;
-  max_at_most = h.max_at_most;
-  size_at_least = h.size_at_least;
-  size_at_most = h.size_at_most;
-  within = omega (arith, length-sent m ms);
-  priorities = All-sent (λ x. x.priority < mq_prio_max) m ms priority h.priorities;
-  sizes = All-sent (λ x. length x.words ≤ size) m ms small h.sizes;
-  ordered = rises-sent m ms h.ordered;
-}
+shape-sent max size ms m h room priority small = search (rules, length-sent, All-sent, rises-sent)
 
 pub slice_get-append_here : {X : Type 0} (xs ys : List X) (i : ℕ) → i < length xs → slice_get (xs ++ ys) i ≡ slice_get xs i
 slice_get-append_here [] ys i h = absurd (omega arith)
@@ -55,11 +43,7 @@ slice_get-append_later (x ∷ xs) ys i = let e : suc (length xs) + i ≡ suc (le
 
 -- a message goes behind all where each has its priority or a greater one
 pub sent-all : (m : Message) (xs : List Message) → All (λ x. m.priority ≤ x.priority) xs → after_send m xs ≡ xs ++ m ∷ []
-sent-all m xs most =
-    rw (
-      filter-all (λ x. nat_le m.priority x.priority) xs (All-weaker (λ x. m.priority ≤ x.priority) (λ x. nat_le m.priority x.priority ≡ true) (λ x h. le-leb m.priority x.priority h) xs most),
-      filter-none (λ x. nat_lt x.priority m.priority) xs (All-weaker (λ x. m.priority ≤ x.priority) (λ x. nat_lt x.priority m.priority ≡ false) (λ x h. le-ltb x.priority m.priority h) xs most),
-    ) refl
+sent-all m xs most = search (rules, filter-all, All-weaker, le-leb, filter-none, le-ltb)
 
 -- a message goes before all of lesser priorities at the end
 pub sent-append-less : (m : Message) (xs ys : List Message) → All (λ x. x.priority < m.priority) ys → after_send m (xs ++ ys) ≡ after_send m xs ++ ys

@@ -1,10 +1,9 @@
-use Rattle.std.proofs.Common.{sym, ◌∙◌}
+use Rattle.std.proofs.Common.{sym, ◌∙◌, rules}
 use Rattle.ipc_objects.proofs.BucketLemmas.{IsWithoutLast, without_last}
 use Rattle.ipc_objects.proofs.buckets.Buckets.pop_greatest.Goals as goal
 
 without : (c : goal.After-pop_last) → IsWithoutLast c.pop_last.result c.self.inside.by_priority.entries c.pop_last.new.self.entries
-without c =
-    without_last c.pop_last.result c.self.inside.by_priority.entries c.pop_last.new.self.entries c.self.invariant c.pop_last.ensures.variant.1 c.pop_last.ensures.removal c.pop_last.ensures.all_below c.pop_last.ensures.unchanged c.pop_last.ensures.ordered
+without c = search (rules, without_last)
 
 pub invariant_of-self : goal.invariant_of-self
 invariant_of-self c = (without c).buckets
