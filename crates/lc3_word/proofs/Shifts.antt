@@ -1,13 +1,14 @@
 -- Sign extension by a shift to the top of thirty-two bits and back.
-use Rattle.std.proofs.Common.{◌≡◌, ℕ, suc, ◌+◌, ◌-◌, ◌*◌, ◌/◌, ◌%◌, ◌^◌, ◌<◌, ◌≤◌, ℤ, pos, negsuc, arith, sym, ap, ◌∙◌, nat_lt, true, false, inl, inr, lit<, refl, w16, w32, FitsSigned, to_z, of_z, bit_and}
+use Rattle.std.proofs.Common.{◌≡◌, ℕ, suc, ◌+◌, ◌-◌, ◌*◌, ◌/◌, ◌%◌, ◌^◌, ◌<◌, ◌≤◌, ℤ, pos, negsuc, arith, sym, ap, ◌∙◌, nat_lt, true, false, inl, inr, w16, w32, FitsSigned, to_z, of_z, bit_and, rules}
 use Rattle.std.proofs.lemmas.Nat.{and_mask, mod_below, pow_pos, pow-add, div-add-mod', mul-add-lt, mod-mul-add, div-mul-add}
 use Rattle.std.proofs.lemmas.Int.{ints, of_z-to_z, to_z-of_z}
 use Rattle.std.proofs.lemmas.Bool.Decides.{nat_tests}
-use Rattle.std.proofs.Math.Nat.{mod-eq_of_lt, mul_assoc, mul_comm, add-mul, suc-mul, mul-le-mul_right}
+use Rattle.std.proofs.Math.Nat.{mul_assoc, mul_comm, add-mul, suc-mul, mul-le-mul_right}
 use lib.Signed.{shr_z}
 use Rattle.lc3_word.specs.Words.{low_bits, signed_value}
 use Rattle.lc3_word.proofs.Fields.{half}
 use Rattle.lc3_word.proofs.Signed.{signed_value-cases, signed_value-IsSigned, IsSigned-fits}
+use Rattle.std.proofs.lemmas.Grind.{common_steps}
 
 -- thirty-two bits are those above b and those below
 whole_32 : (b : ℕ) → b ≤ 16 → 4294967296 ≡ 2 ^ (32 - b) * 2 ^ b
@@ -18,18 +19,7 @@ whole_32 b h =
 
 -- the low b bits of a word at the top of thirty-two
 moved_up : (b w : ℕ) → b ≤ 16 → w * 2 ^ (32 - b) % 4294967296 ≡ w % 2 ^ b * 2 ^ (32 - b)
-moved_up b w word =
-    let size : ℕ = 2 ^ (32 - b) in
-    let low : ℕ = w % 2 ^ b in
-    let all : 4294967296 ≡ 2 ^ (32 - b) * 2 ^ b = whole_32 b word in
-    let split : w / 2 ^ b * 2 ^ b + w % 2 ^ b ≡ w = div-add-mod' w (2 ^ b) in
-    let high : w / 2 ^ b * 2 ^ b * 2 ^ (32 - b) ≡ w / 2 ^ b * 4294967296 =
-    mul_assoc (w / 2 ^ b) (2 ^ b) (2 ^ (32 - b)) ∙ ap (λ n. w / 2 ^ b * n) (mul_comm (2 ^ b) (2 ^ (32 - b)) ∙ sym all) in
-    let parts : w * 2 ^ (32 - b) ≡ w / 2 ^ b * 4294967296 + w % 2 ^ b * 2 ^ (32 - b) =
-    ap (λ n. n * 2 ^ (32 - b)) (sym split) ∙ add-mul (w / 2 ^ b * 2 ^ b) (w % 2 ^ b) (2 ^ (32 - b)) ∙ ap (λ n. n + w % 2 ^ b * 2 ^ (32 - b)) high in
-    let small : w % 2 ^ b * 2 ^ (32 - b) < 4294967296 =
-    (let s = mul-add-lt (w % 2 ^ b) (2 ^ (32 - b)) 0 (2 ^ b) (mod_below w (2 ^ b) (pow_pos b)) (pow_pos (32 - b)) in omega (arith, s, all)) in
-    ap (λ n. n % 4294967296) parts ∙ mod-mul-add (w / 2 ^ b) 4294967296 (w % 2 ^ b * 2 ^ (32 - b)) small
+moved_up b w word = grind (arith, common_steps, whole_32, div-add-mod', mul_assoc, mul_comm, add-mul, mul-add-lt, mod_below, pow_pos, mod-mul-add)
 
 -- and back, where the top bit is copied
 moved_back : (b w : ℕ) → 1 ≤ b → b ≤ 16 → shr_z (to_z w32 (w % 2 ^ b * 2 ^ (32 - b))) (2 ^ (32 - b)) ≡ signed_value b w
@@ -62,12 +52,7 @@ moved_back b w one word =
 
 -- the low sixteen bits of a word's signed value
 low_of_z : (z : ℤ) → FitsSigned w16 z → of_z w32 z % 65536 ≡ low_bits 16 z
-low_of_z (pos n) f = refl
-low_of_z (negsuc n) f =
-    let small : n < 32768 = omega (arith, ints) in
-    let same : n % 65536 ≡ n = mod-eq_of_lt (omega arith) in
-    let parts : 4294967296 - suc n ≡ 65535 * 65536 + (65535 - n) = omega arith in
-    rw same (ap (λ m. m % 65536) parts ∙ mod-mul-add 65535 65536 (65535 - n) (omega arith))
+low_of_z x f = search rules
 
 -- a number that sixteen bits hold is held by thirty-two
 wider : (z : ℤ) → FitsSigned w16 z → FitsSigned w32 z
@@ -76,14 +61,4 @@ wider z f = omega (arith, ints)
 -- the low b bits of a word, shifted up and back, of which the low sixteen are kept
 pub sext_shift : (b w : ℕ) (raised : ℤ) (r : ℕ) → 1 ≤ b → b ≤ 16 → raised ≡ to_z w32 (w * 2 ^ (32 - b) % 4294967296)
     → r ≡ of_z w32 (to_z w32 (of_z w32 (shr_z (to_z w32 (of_z w32 raised)) (2 ^ (32 - b))))) → bit_and r 65535 ≡ low_bits 16 (signed_value b w)
-sext_shift b w raised r one word raised-is r-is =
-    let fits = IsSigned-fits b (signed_value b w) word (signed_value-IsSigned b w one) in
-    let wide = wider (signed_value b w) fits in
-    let below : w * 2 ^ (32 - b) % 4294967296 < 4294967296 = mod_below (w * 2 ^ (32 - b)) 4294967296 (lit< tt) in
-    let value : r ≡ of_z w32 (signed_value b w) =
-    r-is ∙ ap (λ z. of_z w32 (to_z w32 (of_z w32 (shr_z (to_z w32 (of_z w32 z)) (2 ^ (32 - b)))))) raised-is
-    ∙ ap (λ n. of_z w32 (to_z w32 (of_z w32 (shr_z (to_z w32 n) (2 ^ (32 - b)))))) (of_z-to_z w32 (w * 2 ^ (32 - b) % 4294967296) below)
-    ∙ ap (λ n. of_z w32 (to_z w32 (of_z w32 (shr_z (to_z w32 n) (2 ^ (32 - b)))))) (moved_up b w word)
-    ∙ ap (λ z. of_z w32 (to_z w32 (of_z w32 z))) (moved_back b w one word)
-    ∙ ap (of_z w32) (to_z-of_z w32 (signed_value b w) wide) in
-    ap (λ n. bit_and n 65535) value ∙ and_mask (of_z w32 (signed_value b w)) 16 ∙ low_of_z (signed_value b w) fits
+sext_shift b w raised r one word raised-is r-is = grind (arith, common_steps, IsSigned-fits, signed_value-IsSigned, wider, mod_below, of_z-to_z, moved_up, moved_back, to_z-of_z, and_mask, low_of_z)
