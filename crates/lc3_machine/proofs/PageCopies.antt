@@ -1,8 +1,9 @@
 -- Pages that read the same, and memory that is made up of them.
-use Rattle.std.proofs.Common.{◌≡◌, ℕ, ◌+◌, ◌*◌, ◌<◌, List, [], ◌++◌, length, get_or, take, flat_map, ap, sym, ◌∙◌, arith}
+use Rattle.std.proofs.Common.{◌≡◌, ℕ, ◌+◌, ◌*◌, ◌<◌, List, ◌++◌, length, get_or, take, flat_map, ap, sym, ◌∙◌, arith, rules}
 use Rattle.std.proofs.lemmas.List.{ext_get_or, take_more, flat_map_more}
 use Rattle.lc3_machine.specs.Private.Pages.{PageWords, AreWhole, absent_page, memory_of_pages}
 use Rattle.lc3_machine.proofs.PageLemmas.{AreOf, get_or-parts}
+use Rattle.std.proofs.lemmas.Grind.{common_steps}
 
 -- where the wholes are equal, so is each part
 same-part : {X : Type 0} (f : X → List ℕ) (n : ℕ) (e : X) (xs ys : List X) (i : ℕ) → AreOf f n e xs → AreOf f n e ys → i < length xs → i < length ys → flat_map f xs ≡ flat_map f ys → f (get_or xs i e) ≡ f (get_or ys i e)
@@ -21,11 +22,9 @@ same-page = same-part (λ p. p.words) 256 absent_page
 
 -- the words of one page more
 words-more : (ps : List PageWords) (i : ℕ) → i < length ps → (memory_of_pages (take (i + 1) ps)).words ≡ (memory_of_pages (take i ps)).words ++ (get_or ps i absent_page).words
-words-more ps i h =
-    ap (λ qs. (memory_of_pages qs).words) (take_more ps i absent_page h) ∙ sym (flat_map_more (λ p. p.words) [] (take i ps) (get_or ps i absent_page))
+words-more ps i h = grind (arith, common_steps, take_more, flat_map_more)
 
 -- the same words in one page more
 pub same-more : (ps qs : List PageWords) (i : ℕ) → i < length ps → i < length qs → (get_or ps i absent_page).words ≡ (get_or qs i absent_page).words
     → (memory_of_pages (take i ps)).words ≡ (memory_of_pages (take i qs)).words → (memory_of_pages (take (i + 1) ps)).words ≡ (memory_of_pages (take (i + 1) qs)).words
-same-more ps qs i h h' same so_far =
-    words-more ps i h ∙ ap (λ ws. ws ++ (get_or ps i absent_page).words) so_far ∙ ap (λ ws. (memory_of_pages (take i qs)).words ++ ws) same ∙ sym (words-more qs i h')
+same-more ps qs i h h' same so_far = search (rules, words-more)

@@ -1,5 +1,5 @@
 -- Pages that stand among words: one that is read, written, or made.
-use Rattle.std.proofs.Common.{◌≡◌, ◌≢◌, ◌⊎◌, ℕ, zero, suc, [], ◌∷◌, ◌+◌, ◌-◌, ◌<◌, ◌≤◌, Bool, true, false, List, ◌++◌, length, take, drop, get_or, set, map, replicate, nat_lt, inl, inr, refl, sym, ap, ◌∙◌, arith, length-append, length-take-le, get_or-take}
+use Rattle.std.proofs.Common.{◌≡◌, ◌≢◌, ◌⊎◌, ℕ, zero, suc, [], ◌∷◌, ◌+◌, ◌-◌, ◌<◌, ◌≤◌, Bool, true, false, List, ◌++◌, length, take, drop, get_or, set, map, replicate, nat_lt, inl, inr, refl, sym, ap, ◌∙◌, arith, length-append, length-take-le, get_or-take, rules}
 use Rattle.std.proofs.lemmas.Bool.{cases_eq}
 use Rattle.std.proofs.lemmas.Bool.Decides.{nat_tests}
 use Rattle.std.proofs.lemmas.List.{ext_get_or, get_or-drop, get_or-set_same, get_or-set_other, get_or-map, get_or-replicate, get_or_append_left, get_or-append-add, take_all, length-drop, length-map, length-replicate, length-set, map-set}
@@ -7,6 +7,7 @@ use Rattle.std.proofs.lemmas.List.Elements.{All-replicate, All-same, All-set}
 use Rattle.lc3_machine.specs.Process.{zeros}
 use Rattle.lc3_machine.specs.Private.Pages.{PageWords, AreWhole, ArePages, IsStart, absent_page, page_at, pages_at, page_made, page_written}
 use Rattle.lc3_machine.proofs.MemoryLemmas.{length-zeros}
+use Rattle.std.proofs.lemmas.Grind.{common_steps}
 
 -- a word of a page
 window-get : (ws : List ℕ) (s k : ℕ) → k < 256 → get_or (take 256 (drop s ws)) k 0 ≡ get_or ws (s + k) 0
@@ -26,8 +27,7 @@ same-window ws vs s t h h' same =
 
 -- a page stays where a word outside it is written
 window-other : (ws : List ℕ) (t p w : ℕ) → t + 256 ≤ length ws → ((k : ℕ) → k < 256 → (t + k) ≢ p) → take 256 (drop t (set ws p w)) ≡ take 256 (drop t ws)
-window-other ws t p w h apart =
-    same-window (set ws p w) ws t t (omega (arith, length-set ws p w)) h (λ k below. get_or-set_other ws p (t + k) w 0 (apart k below))
+window-other ws t p w h apart = search (rules, same-window, length-set, get_or-set_other)
 
 -- a word of a page is written
 window-set : (ws : List ℕ) (s k w : ℕ) → s + 256 ≤ length ws → k < 256 → take 256 (drop s (set ws (s + k) w)) ≡ set (take 256 (drop s ws)) k w
@@ -55,8 +55,7 @@ window-set ws s k w h below =
 
 -- a page stays where words are added behind
 window-append : (ws vs : List ℕ) (t : ℕ) → t + 256 ≤ length ws → take 256 (drop t (ws ++ vs)) ≡ take 256 (drop t ws)
-window-append ws vs t h =
-    same-window (ws ++ vs) ws t t (omega (arith, length-append ws vs)) h (λ k below. get_or_append_left ws vs 0 (t + k) (omega (arith, h, below)))
+window-append ws vs t h = grind (arith, common_steps, same-window, get_or_append_left)
 
 -- a page is its words and whether it is made
 abbrev page : List ℕ → Bool → PageWords
@@ -79,9 +78,7 @@ page-is ws starts i inv h = get_or-map (page_at ws) starts i 0 absent_page (omeg
 
 -- each has 256 words
 pub pages-whole : (ws starts : List ℕ) → ArePages ws starts → AreWhole (pages_at ws starts)
-pages-whole ws starts inv = λ i h.
-    let below : i < 256 = omega (arith, pages-count ws starts inv) in
-    ap (λ p. length p.words) (page-is ws starts i inv below) ∙ window-length ws (get_or starts i 0) (start-of ws starts i inv below).inside
+pages-whole ws starts inv = search (rules, pages-count, page-is, window-length, start-of)
 
 -- a word that is read
 pub page-word : (ws starts : List ℕ) (i k : ℕ) → ArePages ws starts → i < 256 → k < 256 → get_or ws (get_or starts i 0 + k) 0 ≡ get_or ((get_or (pages_at ws starts) i absent_page).words) k 0
@@ -97,18 +94,11 @@ page-made ws starts i inv h = ap (λ p. p.made) (page-is ws starts i inv h)
 
 -- a page that isn't made has zeros
 pub page-blank : (ws starts : List ℕ) (i : ℕ) → ArePages ws starts → i < 256 → (get_or (pages_at ws starts) i absent_page).made ≡ false → (get_or (pages_at ws starts) i absent_page).words ≡ zeros 256
-page-blank ws starts i inv h none =
-    let unmade : nat_lt 0 (get_or starts i 0) ≡ false = sym (page-made ws starts i inv h) ∙ none in
-    let first : get_or starts i 0 ≡ 0 = grind (arith, nat_tests) in
-    ap (λ p. p.words) (page-is ws starts i inv h) ∙ ap (λ s. take 256 (drop s ws)) first ∙ inv.blank
+page-blank ws starts i inv h none = search (rules, page-made, nat_tests, page-is)
 
 -- a page that isn't the one that is written has none of its words
 apart-words : (ws starts : List ℕ) (i j k m : ℕ) → ArePages ws starts → i < 256 → j < 256 → k < 256 → m < 256 → 0 < get_or starts i 0 → (j ≡ i → ⊥) → (get_or starts j 0 + m) ≢ (get_or starts i 0 + k)
-apart-words ws starts i j k m inv hi hj hk hm some other e =
-    let a = start-of ws starts i inv hi in
-    let b = start-of ws starts j inv hj in
-    let same : get_or starts i 0 ≡ get_or starts j 0 = omega (arith, a.aligned, b.aligned, e, hk, hm) in
-    other (sym (inv.apart i j hi hj some same))
+apart-words ws starts i j k m inv hi hj hk hm some other e = search rules
 
 -- the pages after a word of one that is made is written
 pub pages-written : (ws starts : List ℕ) (i k w : ℕ) → ArePages ws starts → i < 256 → k < 256 → 0 < get_or starts i 0
@@ -265,10 +255,7 @@ set-twice (x ∷ xs) (suc i) a b = ap (λ ys. x ∷ ys) (set-twice xs i a b)
 -- a page that was made and then written is the page with that word
 pub made-then-written : (ps mid new : List PageWords) (i k w : ℕ) → i < length ps → mid ≡ set ps i (page_made (get_or ps i absent_page)) → new ≡ set mid i (page_written (get_or mid i absent_page) k w)
     → new ≡ set ps i (page_written (get_or ps i absent_page) k w)
-made-then-written ps mid new i k w h made written =
-    let page = get_or ps i absent_page in
-    let read : get_or mid i absent_page ≡ page_made page = ap (λ qs. get_or qs i absent_page) made ∙ get_or-set_same ps i (page_made page) absent_page h in
-    written ∙ ap (λ p. set mid i (page_written p k w)) read ∙ ap (λ qs. set qs i (page_written page k w)) made ∙ set-twice ps i (page_made page) (page_written page k w)
+made-then-written ps mid new i k w h made written = search (rules, get_or-set_same, set-twice)
 
 -- a page that was made is made
 pub made-is : (ps mid : List PageWords) (i : ℕ) → i < length ps → mid ≡ set ps i (page_made (get_or ps i absent_page)) → (get_or mid i absent_page).made ≡ true

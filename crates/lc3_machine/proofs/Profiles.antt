@@ -1,12 +1,11 @@
 -- A process keeps its profile.
-use Rattle.std.proofs.Common.{◌≡◌, ℕ, ◌==◌, nat_lt, Bool, true, false, List, [], ◌∷◌, Option, Some, None, if◌then◌else◌, refl, subst, slice_index, map, flat_map}
+use Rattle.std.proofs.Common.{◌≡◌, ℕ, ◌==◌, nat_lt, Bool, List, Option, if◌then◌else◌, refl, subst, slice_index, map, flat_map, rules}
 use Rattle.lc3_table.specs.declared.profile.Profile.{Profile}
 use Rattle.lc3_table.specs.declared.instr.Instr.{Instr}
 use Rattle.lc3_table.specs.declared.instr.Instr.TheVariants as instr
 use Rattle.lc3_table.specs.Decoding.{instruction_at}
 use Rattle.lc3_word.specs.Words.{word_sum}
 use Rattle.lc3_machine.specs.declared.want.How.{How}
-use Rattle.lc3_machine.specs.declared.want.How.TheVariants as how
 use Rattle.lc3_machine.specs.Process.{Process, Outcome, GoesOn, Stops, at_word, outcome_of_store, target, reg, signed_word, at_next_instruction, at_address, with_result}
 use Rattle.lc3_machine.specs.Console.{getc, outcome_of_in, outcome_of_string, low_byte, packed_bytes, string_at}
 use Rattle.lc3_machine.specs.Effects.{effect, effect_of_word, outcome_of_trap, next_step, is_among, is_kernel_trap}
@@ -19,8 +18,7 @@ Keeps profile (GoesOn q) = q.profile ≡ profile
 Keeps profile (Stops want) = Unit {0}
 
 keeps_if : (profile : Profile) (b : Bool) (o o' : Outcome) → Keeps profile o → Keeps profile o' → Keeps profile (if b then o else o')
-keeps_if profile true o o' h h' = h
-keeps_if profile false o o' h h' = h'
+keeps_if profile x o y h z = search rules
 
 keeps_at : (p : Process) (address : ℕ) (continued : ℕ → Outcome) → ((word : ℕ) → Keeps p.profile (continued word)) → Keeps p.profile (at_word p address continued)
 keeps_at p address continued h = keeps_if p.profile (nat_lt address first_device) _ _ (h (slice_index p.memory address)) tt
@@ -32,16 +30,13 @@ keeps_stored : (p : Process) (address word : ℕ) → Keeps p.profile (outcome_o
 keeps_stored p address word = keeps_if p.profile (nat_lt address first_device) _ _ refl tt
 
 keeps_getc : (p : Process) (input : List ℕ) → Keeps p.profile (getc p input)
-keeps_getc p [] = tt
-keeps_getc p (byte ∷ left) = refl
+keeps_getc p x = search rules
 
 keeps_prompted : (p : Process) (input : List ℕ) → Keeps p.profile (outcome_of_in p input)
-keeps_prompted p [] = tt
-keeps_prompted p (byte ∷ left) = refl
+keeps_prompted p x = search rules
 
 keeps_string : (p : Process) (bytes : List ℕ → List ℕ) (words : Option (List ℕ)) → Keeps p.profile (outcome_of_string p bytes words)
-keeps_string p bytes None = tt
-keeps_string p bytes (Some words) = refl
+keeps_string p bytes x = search rules
 
 keeps_trapped : (v : ℕ) (p : Process) → Keeps p.profile (outcome_of_trap v p)
 unfolding outcome_of_trap
@@ -55,8 +50,7 @@ keeps_trapped v p =
     (keeps_if p.profile (is_kernel_trap v) _ _ tt tt))))))
 
 profile_if : (b : Bool) (p q : Process) → q.profile ≡ p.profile → (if b then q else p).profile ≡ p.profile
-profile_if true p q h = h
-profile_if false p q h = refl
+profile_if x p q h = search rules
 
 keeps_effect : (i : Instr) (p : Process) → Keeps p.profile (effect i p)
 unfolding effect
@@ -78,8 +72,7 @@ keeps_effect instr.Rti p = tt
 keeps_effect (instr.Trap vector) p = keeps_trapped vector p
 
 keeps_word : (i : Option Instr) (p : Process) → Keeps p.profile (effect_of_word i p)
-keeps_word None p = tt
-keeps_word (Some i) p = keeps_effect i p
+keeps_word x p = search (rules, keeps_effect)
 
 keeps_step : (p : Process) → Keeps p.profile (next_step p)
 unfolding next_step
@@ -91,5 +84,4 @@ next_profile p q goes = subst (Keeps p.profile) goes (keeps_step p)
 
 -- so does an end
 pub ended_profile : (p : Process) (h : How) → (process_after_end p h).profile ≡ p.profile
-ended_profile p how.Halt = refl
-ended_profile p h = refl
+ended_profile p x = search rules

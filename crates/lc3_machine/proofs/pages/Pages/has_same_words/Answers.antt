@@ -1,8 +1,9 @@
-use Rattle.std.proofs.Common.{◌≡◌, ◌<◌, ℕ, List, length, refl, ap, subst, arith, rules}
+use Rattle.std.proofs.Common.{◌≡◌, ◌<◌, ℕ, List, length, ap, subst, arith, rules}
 use Rattle.lc3_machine.specs.Private.Pages.{PageWords, AreWhole, ArePages, pages_at}
 use Rattle.lc3_machine.proofs.PlacedPages.{pages-count, pages-whole}
 use Rattle.lc3_machine.proofs.PageCopies.{same-page, same-more}
 use Rattle.lc3_machine.proofs.pages.Pages.has_same_words.Goals as goal
+use Rattle.std.proofs.lemmas.Grind.{common_steps}
 
 -- an index of a page
 index : (ps : List PageWords) (ws starts : List ℕ) (i : ℕ) → ArePages ws starts → pages_at ws starts ≡ ps → i < 256 → i < length ps
@@ -23,7 +24,4 @@ returns-then-not-has_same_page c =
     }
 
 pub loop-page-preserved : goal.loop-page-preserved
-loop-page-preserved c =
-    let h = index c.args.self.now c.self.inside.words.items c.self.inside.starts c.loop-page.page c.self.invariant c.self.view_is c.loop-page-test.true in
-    let k = index c.args.other.now c.other.inside.words.items c.other.inside.starts c.loop-page.page c.other.invariant c.other.view_is c.loop-page-test.true in
-    same-more c.args.self.now c.args.other.now c.loop-page.page h k (c.if-not-has_same_page.ensures.same.0 refl) c.loop-page.invariant
+loop-page-preserved c = grind (arith, common_steps, index, same-more)

@@ -1,24 +1,15 @@
-use Rattle.std.proofs.Common.{◌≡◌, ◌+◌, ◌-◌, ◌++◌, List, true, replicate, get_or, set, length, vec_len, arith, sym, ap, subst, ◌∙◌}
+use Rattle.std.proofs.Common.{◌≡◌, ◌++◌, List, true, get_or, set, length, arith, sym, ap, ◌∙◌, rules}
 use Rattle.std.proofs.lemmas.List.{take_all}
 use Rattle.lc3_machine.specs.Process.{zeros}
-use Rattle.lc3_machine.specs.Private.Pages.{PageWords, ArePages, absent_page, pages_at, page_made}
+use Rattle.lc3_machine.specs.Private.Pages.{PageWords, absent_page, pages_at, page_made}
 use Rattle.lc3_machine.proofs.PlacedPages.{page-blank, pages-made, more-pages, zeros-is}
 use Rattle.lc3_machine.proofs.pages.Pages.make.Goals as goal
 
 grown : (c : goal.After-way_told-1) → c.resize.new.self.items ≡ c.self.inside.words.items ++ zeros 256
-grown c =
-    let old = c.self.inside.words.items in
-    let size : c.len-start.result ≡ length old = omega (arith, c.len-start.ensures, c.self.inside.words.ok.0) in
-    let count : c.len-start.result + 256 - vec_len c.self.inside.words ≡ 256 = omega (arith, c.len-start.ensures) in
-    c.in_ok-resize.ensures.items
-    ∙ ap (λ ws. ws ++ replicate (c.len-start.result + 256 - vec_len c.self.inside.words) 0) (take_all (c.len-start.result + 256) old (omega (arith, size)))
-    ∙ ap (λ n. old ++ replicate n 0) count ∙ ap (λ zs. old ++ zs) (sym (zeros-is 256))
+grown c = search (rules, take_all, zeros-is)
 
 pub invariant_of-self-2 : goal.invariant_of-self-2
-invariant_of-self-2 c =
-    let size : length c.self.inside.words.items ≡ c.len-start.result = omega (arith, c.len-start.ensures, c.self.inside.words.ok.0) in
-    subst (λ ws. ArePages ws (set c.self.inside.starts c.args.page c.len-start.result)) (sym (grown c))
-    (subst (λ n. ArePages (c.self.inside.words.items ++ zeros 256) (set c.self.inside.starts c.args.page n)) size (more-pages c.self.inside.words.items c.self.inside.starts c.args.page c.self.invariant c.requires.page))
+invariant_of-self-2 c = search (rules, grown, more-pages, c.self.inside.words.items, c.len-start.ensures, c.self.inside.words.ok.0, c.self.inside.starts, c.self.invariant, c.requires.page)
 
 pub returns-clause-ok : goal.returns-clause-ok
 returns-clause-ok c =

@@ -1,4 +1,4 @@
-use Rattle.std.proofs.Common.{arith}
+use Rattle.std.proofs.Common.{arith, rules}
 use Rattle.lc3_machine.proofs.PlacedPages.{made-then-written, made-is}
 use Rattle.lc3_machine.proofs.pages.Pages.write_first.Goals as goal
 
@@ -6,5 +6,4 @@ pub write-requires-clause-made : goal.write-requires-clause-made
 write-requires-clause-made c = made-is c.args.self.now c.make.new.self c.args.page (omega (arith, c.requires.page, c.make.ensures.count)) c.in_ok-make.ensures.ok
 
 pub returns-clause-ok : goal.returns-clause-ok
-returns-clause-ok c =
-    made-then-written c.args.self.now c.make.new.self c.write.new.self c.args.page c.args.place c.args.word (omega (arith, c.requires.page, c.make.ensures.count)) c.in_ok-make.ensures.ok c.write.ensures.written
+returns-clause-ok c = search (rules, made-then-written)
