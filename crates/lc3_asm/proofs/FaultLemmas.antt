@@ -1,21 +1,19 @@
 -- All the faults of a text, and the one for which it is refused.
-use Rattle.std.proofs.Common.{◌≡◌, ℕ, ◌+◌, ◌<◌, get_or, Bool, true, false, List, [], ◌∷◌, ◌++◌, length, take, map, refl, ap, sym, ◌∙◌, arith, Option, Some, None}
-use Rattle.std.specs.Prelude.{Result, Ok, Err, MatchOption, slice_get, ◌||◌, nat_le, if◌then◌else◌}
-use Rattle.std.specs.List.{flat_map, list_any}
+use Rattle.std.proofs.Common.{◌≡◌, ℕ, ◌+◌, ◌<◌, get_or, Bool, true, false, List, [], ◌∷◌, ◌++◌, length, take, map, refl, ap, sym, ◌∙◌, arith, Option, Some, None, rules}
+use Rattle.std.specs.Prelude.{Result, Ok, Err, MatchOption, slice_get, if◌then◌else◌}
+use Rattle.std.specs.List.{flat_map}
 use Rattle.std.proofs.lemmas.Bool.{cond_both, le-leb}
-use Rattle.std.proofs.lemmas.List.{flat_map_more}
-use Rattle.lc3_table.specs.Statements.{Line, Operand, ◌>>=◌, unless, line}
+use Rattle.lc3_table.specs.Statements.{Line, Operand, ◌>>=◌}
 use Rattle.lc3_table.specs.Meaning.{words}
 use Rattle.lc3_table.specs.declared.operation.Fault.{Fault}
-use Rattle.lc3_table.specs.declared.operation.Fault.TheVariants as fault
-use Rattle.lc3_word.specs.Segment.{first_device}
-use Rattle.lc3_asm.specs.Texts.{At, LineWords, at_line, lines, lines_after, line_after, lines_read, is_end, is_origin, labels, value, address_after, place_fault, with_earlier, words_at, all_ok, words_of_lines, program_with_words, program_of, program_of_lines, program}
-use Rattle.lc3_asm.specs.Faults.{Reading, outcome, told_once, kept, fault_of, numbered, reading_with, reading_after, reading, unless_unknown, label_fault, label_faults, faults_of, faults, refused_for, has_faults}
+use Rattle.lc3_asm.specs.Texts.{At, LineWords, at_line, lines, lines_after, line_after, lines_read, is_end, labels, value, address_after, with_earlier, words_at, all_ok, program_of_lines, program}
+use Rattle.lc3_asm.specs.Faults.{Reading, outcome, told_once, kept, fault_of, numbered, reading_with, reading_after, reading, unless_unknown, label_fault, faults_of, faults, refused_for}
 use Rattle.lc3_asm.specs.Views.{seen_line}
 use Rattle.lc3_asm.specs.declared.line.Line.{Line as Read}
 use Rattle.lc3_asm.specs.declared.fault.LineFault.{LineFault}
-use Rattle.lc3_asm.proofs.EarlierLemmas.{behind-append, seen-more, length-seen}
+use Rattle.lc3_asm.proofs.EarlierLemmas.{behind-append, seen-more}
 use Rattle.lc3_asm.proofs.ReadLemmas.{line-read, read-below}
+use Rattle.std.proofs.lemmas.Grind.{common_steps}
 
 -- these lines without a fault
 abbrev pub sound : List (Line Operand) → Reading
@@ -23,23 +21,13 @@ sound ls = record { read = ls; found = [] }
 
 -- a line without a fault is kept as it is
 told-none : (o : Option Fault) → told_once [] o ≡ o
-told-none None = refl
-told-none (Some fault.TooLong) = refl
-told-none (Some k) = refl
+told-none x = search rules
 
 outcome-sound : (before : List (Line Operand)) (bytes : List ℕ) → outcome (sound before) bytes ≡ line_after before bytes
-outcome-sound before bytes = by (line (list_any is_origin before) bytes)
-  where
-    by : (r : Result (Line Operand) Fault)
-        → (r >>= λ l. unless (told_once [] (place_fault before l)) (Ok l)) ≡ (r >>= λ l. unless (place_fault before l) (Ok l))
-    by (Ok l) = ap (λ o. unless o (Ok l)) (told-none (place_fault before l))
-    by (Err k) = refl
+outcome-sound before bytes = search (rules, told-none)
 
 kept-sound : (before : List (Line Operand)) (bytes : List ℕ) (l : Line Operand) → line_after before bytes ≡ Ok l → kept (sound before) bytes ≡ l
-kept-sound before bytes l e =
-    let small = read-below before l (line-read before bytes l e) in
-    let test : nat_le (address_after (before ++ l ∷ [])) first_device ≡ true = le-leb (address_after (before ++ l ∷ [])) first_device small in
-    rw (outcome-sound before bytes, e, test) refl
+kept-sound before bytes l e = search (rules, read-below, line-read, le-leb, outcome-sound)
 
 with-sound : (before : List (Line Operand)) (bytes : List ℕ) (l : Line Operand) → line_after before bytes ≡ Ok l → reading_with (sound before) bytes ≡ sound (before ++ l ∷ [])
 with-sound before bytes l e = rw (kept-sound before bytes l e, outcome-sound before bytes, e) refl
@@ -50,11 +38,7 @@ first_found r = slice_get r.found 0
 
 -- the first fault stays the first
 first-with : (r : Reading) (bytes : List ℕ) (f : LineFault) → first_found r ≡ Some f → first_found (reading_with r bytes) ≡ Some f
-first-with r bytes f e = by r.found (numbered (length r.read + 1) (fault_of (outcome r bytes))) e
-  where
-    by : (fs gs : List LineFault) → slice_get fs 0 ≡ Some f → slice_get (fs ++ gs) 0 ≡ Some f
-    by [] gs h = cc
-    by (g ∷ fs) gs h = h
+first-with r bytes f e = search rules
 
 first-after : (r : Reading) (rest : List (List ℕ)) (f : LineFault) → first_found r ≡ Some f → first_found (reading_after r rest) ≡ Some f
 first-after r [] f e = e
@@ -125,23 +109,10 @@ labels-first ls (e ∷ es) = by (words (value (labels ls)) (address_after e.0) e
     by (Err k) h = refl
 
 sound-first : (count : ℕ) (ls : List (Line Operand)) → slice_get (faults_of count (sound ls)) 0 ≡ refused_for (program_of_lines count ls)
-sound-first count ls = by (list_any is_origin ls)
-  where
-    made : (r : Result (List LineWords) At) → first_error r ≡ refused_for (r >>= λ ws. Ok (program_with_words ls ws))
-    made (Ok ws) = refl
-    made (Err k) = refl
-
-    by : (b : Bool) → slice_get (if b then label_faults (sound ls) else record { line = count; kind = fault.NoOrig } ∷ []) 0 ≡ refused_for (if b then program_of ls else Err (record { line = count; kind = fault.NoOrig }))
-    by true = labels-first ls (with_earlier ls) ∙ made (words_of_lines (labels ls) ls)
-    by false = refl
+sound-first count ls = search (rules, labels-first)
 
 found-first : (count : ℕ) (r : Reading) (f : LineFault) → first_found r ≡ Some f → slice_get (faults_of count r) 0 ≡ Some f
-found-first count r f e = by r.found e
-  where
-    by : (fs : List LineFault) → slice_get fs 0 ≡ Some f
-        → slice_get (if has_faults fs || list_any is_origin r.read then fs ++ label_faults r else record { line = count; kind = fault.NoOrig } ∷ []) 0 ≡ Some f
-    by [] h = cc
-    by (g ∷ fs) h = h
+found-first count r f e = search rules
 
 -- the first fault of a text is the one for which it is refused
 pub first_fault : (text : List ℕ) → slice_get (faults text) 0 ≡ refused_for (program text)
@@ -161,12 +132,4 @@ pub labels-more : (r : Reading) (lines : List Read) (i : ℕ) (d x : Read) (addr
     → gs ≡ fs ++ numbered (i + 1) (unless_unknown r.found (fault_of (words (value (labels r.read)) address (seen_line x))))
     → fs ≡ start ++ flat_map (label_fault r) (with_earlier (map seen_line (take i lines)))
     → gs ≡ start ++ flat_map (label_fault r) (with_earlier (map seen_line (take (i + 1) lines)))
-labels-more r lines i d x address start fs gs h is at g f =
-    let ls = map seen_line (take i lines) in
-    let one : numbered (i + 1) (unless_unknown r.found (fault_of (words (value (labels r.read)) address (seen_line x)))) ≡ label_fault r (ls, seen_line x) =
-    ap (λ n. numbered (n + 1) (unless_unknown r.found (fault_of (words (value (labels r.read)) address (seen_line x))))) (sym (length-seen lines i (omega (arith, h))))
-    ∙ ap (λ a. numbered (length ls + 1) (unless_unknown r.found (fault_of (words (value (labels r.read)) a (seen_line x))))) at in
-    g ∙ ap (λ u. u ++ numbered (i + 1) (unless_unknown r.found (fault_of (words (value (labels r.read)) address (seen_line x))))) f
-    ∙ ap (λ u. (start ++ flat_map (label_fault r) (with_earlier ls)) ++ u) one
-    ∙ flat_map_more (label_fault r) start (with_earlier ls) (ls, seen_line x)
-    ∙ ap (λ es. start ++ flat_map (label_fault r) es) (sym (ap with_earlier (seen-more lines i d x h is) ∙ behind-append [] ls (seen_line x ∷ [])))
+labels-more r lines i d x address start fs gs h is at g f = grind (arith, common_steps, seen-more, behind-append)

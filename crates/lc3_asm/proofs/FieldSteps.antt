@@ -1,5 +1,5 @@
 -- One more operand without its label.
-use Rattle.std.proofs.Common.{◌≡◌, ℕ, ◌+◌, ◌<◌, ◌≤◌, min, List, [], ◌∷◌, ◌++◌, length, drop, map, get_or, refl, ap, append_assoc, arith, Option, Result, Ok, Err, inl, inr}
+use Rattle.std.proofs.Common.{◌≡◌, ℕ, ◌+◌, ◌<◌, ◌≤◌, min, List, [], ◌∷◌, ◌++◌, length, drop, map, get_or, refl, arith, Option, Result, Ok, inl, inr}
 use Rattle.std.proofs.lemmas.List.{drop_more, drop_all}
 use Rattle.std.proofs.lemmas.Bool.{cases_lt}
 use Rattle.lc3_table.specs.Statements.{◌>>=◌}
@@ -11,10 +11,10 @@ use Rattle.lc3_table.specs.declared.operation.Form.TheVariants as form
 use Rattle.lc3_asm.specs.Views.{seen_operand}
 use Rattle.lc3_asm.specs.declared.statement.Operand.{Operand as Read}
 use Rattle.lc3_asm.proofs.OperandSteps.{with_front}
+use Rattle.std.proofs.lemmas.Grind.{common_steps}
 
 front-append : {A : Type 0} (front new : List A) (y : A) (r : Result (List A) Fault) → new ≡ front ++ y ∷ [] → with_front new r ≡ with_front front (r >>= λ ys. Ok (y ∷ ys))
-front-append front new y (Ok ys) e = rw e (ap Ok (append_assoc front (y ∷ []) ys))
-front-append front new y (Err k) e = refl
+front-append front new y x e = grind (arith, common_steps)
 
 module _ (values : List ℕ → Option ℕ) (address : ℕ) (fs : List Form) (xs : List Read) (i : ℕ) where
   pub resolved-more : (x d : Read) (y : Field) (found new : List Field) → i < length fs → i < length xs → x ≡ get_or xs i d

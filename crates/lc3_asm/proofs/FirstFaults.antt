@@ -1,5 +1,5 @@
 -- The fault of a text is the first of the first line that has one.
-use Rattle.std.proofs.Common.{◌≡◌, ℕ, ◌+◌, Bool, true, false, List, [], ◌∷◌, ◌++◌, length, map, refl, ap, sym, ◌∙◌, subst, append_assoc, append-nil, arith, length-append}
+use Rattle.std.proofs.Common.{◌≡◌, ℕ, ◌+◌, Bool, true, false, List, [], ◌∷◌, ◌++◌, length, map, refl, ap, sym, ◌∙◌, subst, append_assoc, append-nil, arith, length-append, rules}
 use Rattle.std.specs.Prelude.{Result, Ok, Err, IsOk, All, if◌then◌else◌}
 use Rattle.std.specs.List.{list_any, AllZip}
 use Rattle.std.proofs.lemmas.List.Elements.{All-nil, All-cons, All-head, All-tail}
@@ -97,8 +97,7 @@ record Wordless (known : List (List ℕ × ℕ)) (before ls : List (Line Operand
   here : words (value known) (address_after (before ++ made)) line ≡ Err k
 
 rest-err : {A B : Type 0} (r : Result A At) (f : A → B) (x : At) → (r >>= λ a. Ok (f a)) ≡ Err x → r ≡ Err x
-rest-err (Ok a) f x e = cc
-rest-err (Err y) f x e = cc
+rest-err y f x e = search rules
 
 wordless : (known : List (List ℕ × ℕ)) (before ls : List (Line Operand)) (n : ℕ) (k : Fault) → words_behind known before ls ≡ Err (at n k) → Wordless known before ls n k
 wordless known before [] n k e = cc
@@ -133,8 +132,7 @@ wordless known before (l ∷ ls) n k e = by (words (value known) (address_after 
         }
 
 ok-value : {A E : Type 0} (r : Result A E) → IsOk r → (x : A) × (r ≡ Ok x)
-ok-value (Ok x) h = (x, refl)
-ok-value (Err e) h = cc
+ok-value x h = search rules
 
 -- the lines that have words are passed over
 words-over : (known : List (List ℕ × ℕ)) (es : List (List (Line Operand) × Line Operand)) (e : List (Line Operand) × Line Operand) (rest : List (List (Line Operand) × Line Operand)) (k : Fault)
@@ -155,9 +153,7 @@ without_words text n k h =
 -- the fault of lines that were all read
 found-started : (text : List ℕ) (ls : List (Line Operand)) (n : ℕ) (k : Fault) (started : Bool) → lines_read text ≡ Ok ls → list_any is_origin ls ≡ started
     → (if started then program_of ls else Err (at (length (lines text)) fault.NoOrig)) ≡ Err (at n k) → HasFirstFault text n k
-found-started text ls n k false read e h =
-    let same = err-same (at (length (lines text)) fault.NoOrig) (at n k) h in
-    Unstarted (record { read = ls; lines_are = read; unstarted = e; number = sym (ap (λ (a : At). a.line) same); here = sym (ap (λ (a : At). a.kind) same) })
+found-started text ls n k false read e h = search rules
 found-started text ls n k true read e h =
     let w = wordless (labels ls) [] ls n k (rest-err (words_of_lines (labels ls) ls) (program_with_words ls) (at n k) h) in
     WithoutWords (record {

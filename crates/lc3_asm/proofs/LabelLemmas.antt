@@ -1,38 +1,27 @@
 -- The values of labels.
-use Rattle.std.proofs.Common.{◌≡◌, ℕ, ◌≤◌, Bool, true, false, cond, List, [], ◌∷◌, ◌++◌, refl, ap, sym, subst, ◌∙◌, Some, None, Option}
+use Rattle.std.proofs.Common.{◌≡◌, ℕ, ◌≤◌, false, List, [], ◌∷◌, ◌++◌, refl, ap, sym, subst, ◌∙◌, Some, None, rules}
 use Rattle.std.specs.Prelude.{bytes_eq, All, IfSome}
 use Rattle.std.specs.List.{flat_map}
-use Rattle.std.proofs.lemmas.List.Elements.{All-nil, All-cons, All-append}
-use Rattle.std.proofs.lemmas.Map.Entries.{All-lookup, lookup_head}
-use Rattle.std.proofs.lemmas.Slice.Eq.{bytes_eq-Decides}
+use Rattle.std.proofs.lemmas.List.Elements.{All-nil, All-cons}
+use Rattle.std.proofs.lemmas.Map.Entries.{All-lookup}
 use Rattle.lc3_table.specs.Statements.{Line, Operand}
 use Rattle.lc3_table.specs.declared.operation.Fault.TheVariants as fault
-use Rattle.lc3_asm.specs.Texts.{value, entry, lines_behind, label_at, labels, label_of, address_after, is_duplicate}
+use Rattle.lc3_asm.specs.Texts.{value, lines_behind, label_at, labels, label_of, address_after, is_duplicate}
 use Rattle.lc3_asm.specs.Laws.{LabelsAreLineAddresses}
 use Rattle.lc3_asm.proofs.Outcomes.{first_false}
 use Rattle.lc3_asm.proofs.EarlierLemmas.{labels-split}
-use Rattle.lc3_asm.proofs.SymbolsLemmas.{absent}
 use Rattle.lc3_asm.proofs.ReadLemmas.{AreRead, meant, lines-read, read-at, read-below}
 use Rattle.lc3_word.specs.Segment.{first_device}
 
 -- a label that the first of two lists lacks
 value-skip : (xs ys : List (List ℕ × ℕ)) (name : List ℕ) → value xs name ≡ None → value (xs ++ ys) name ≡ value ys name
 value-skip [] ys name e = refl
-value-skip (x ∷ xs) ys name e = by (bytes_eq name x.0) (value-skip xs ys name) e
-  where
-    by : (b : Bool) → (value xs name ≡ None → value (xs ++ ys) name ≡ value ys name) → cond b (Some x.1) (value xs name) ≡ None → cond b (Some x.1) (value (xs ++ ys) name) ≡ value ys name
-    by true rest h = cc
-    by false rest h = rest h
+value-skip (x ∷ xs) ys name e = search (rules, (value-skip xs ys name))
 
 -- the value of a label that no line before its own defines
 label-value : (before after : List (Line Operand)) (l : Line Operand) (name : List ℕ) → is_duplicate before (label_of l) ≡ false → label_of l ≡ Some name
     → value (labels (before ++ l ∷ after)) name ≡ Some (address_after before)
-label-value before after l name new has =
-    let rest = flat_map label_at (lines_behind (before ++ l ∷ []) after) in
-    ap (λ u. value u name) (labels-split before after l)
-    ∙ value-skip (labels before) (label_at (before, l) ++ rest) name (absent (value (labels before) name) (ap (is_duplicate before) (sym has) ∙ new))
-    ∙ ap (λ o. value (entry o (address_after before) ++ rest) name) has
-    ∙ lookup_head (bytes_eq name) (name, address_after before) rest ((bytes_eq-Decides name name).1 refl)
+label-value before after l name new has = search (rules, labels-split, value-skip)
 
 pub label_is_line_address : LabelsAreLineAddresses
 label_is_line_address text p before l name accepted has named =
@@ -47,11 +36,7 @@ IsSmall e = e.1 ≤ first_device
 
 labels-small : (front ls : List (Line Operand)) → AreRead front ls → address_after front ≤ first_device → All IsSmall (flat_map label_at (lines_behind front ls))
 labels-small front [] r small = All-nil IsSmall
-labels-small front (l ∷ ls) r small = All-append IsSmall (label_at (front, l)) _ (by (label_of l)) (labels-small (front ++ l ∷ []) ls r.1 (read-below front l r.0))
-  where
-    by : (o : Option (List ℕ)) → All IsSmall (entry o (address_after front))
-    by None = All-nil IsSmall
-    by (Some name) = All-cons IsSmall (name, address_after front) [] small (All-nil IsSmall)
+labels-small front (l ∷ ls) r small = search (rules, All-nil, All-cons, (labels-small (front ++ l ∷ []) ls r.1 (read-below front l r.0)))
 
 pub labels-below : (ls : List (Line Operand)) (name : List ℕ) (target : ℕ) → AreRead [] ls → address_after [] ≤ first_device → value (labels ls) name ≡ Some target → target ≤ first_device
 labels-below ls name target r small e = subst (λ o. IfSome o (λ a. a ≤ first_device)) e (All-lookup (λ a. a ≤ first_device) (bytes_eq name) (labels ls) (labels-small [] ls r small))

@@ -1,17 +1,18 @@
 -- The words of one more line.
-use Rattle.std.proofs.Common.{◌≡◌, ℕ, zero, suc, ◌+◌, ◌<◌, List, [], ◌∷◌, ◌++◌, length, take, drop, map, get_or, refl, ap, sym, ◌∙◌, append_assoc, append-nil, arith}
-use Rattle.std.specs.Prelude.{Result, Ok, Err}
+use Rattle.std.proofs.Common.{◌≡◌, ℕ, zero, suc, ◌+◌, ◌<◌, List, [], ◌∷◌, ◌++◌, length, take, drop, map, get_or, ap, sym, ◌∙◌, append_assoc, append-nil, arith, rules}
+use Rattle.std.specs.Prelude.{Ok, Err}
 use Rattle.std.proofs.lemmas.List.{drop_more, map-append, take-append-drop, flat_map_more}
 use Rattle.lc3_table.specs.Statements.{Line, Operand, ◌>>=◌}
 use Rattle.lc3_table.specs.Meaning.{words}
 use Rattle.lc3_table.specs.declared.operation.Fault.{Fault}
-use Rattle.lc3_asm.specs.Texts.{LineWords, At, row, value, address_after, lines_behind, with_earlier, words_at, all_ok, words_of_lines}
+use Rattle.lc3_asm.specs.Texts.{row, value, address_after, lines_behind, words_of_lines}
 use Rattle.lc3_asm.specs.Addresses.{addresses}
 use Rattle.lc3_asm.specs.Views.{seen_line}
 use Rattle.lc3_asm.specs.Private.Layouts.{AreLaid}
 use Rattle.lc3_asm.specs.declared.assembled.Row.{Row}
 use Rattle.lc3_asm.specs.declared.line.Line.{Line as Read}
 use Rattle.lc3_asm.proofs.EarlierLemmas.{behind-append, words_behind, all_ok-append, seen-more, length-seen}
+use Rattle.std.proofs.lemmas.Grind.{common_steps}
 
 -- the address of a line
 address-at : (before : List (Line Operand)) (xs : List Read) (i : ℕ) → i < length xs
@@ -26,33 +27,16 @@ address_at places xs i e h = ap (λ ps. get_or ps i 0) e ∙ address-at [] xs i 
 
 words-split : (known : List (List ℕ × ℕ)) (ls : List (Line Operand)) (l : Line Operand) (after : List (Line Operand))
     → words_of_lines known (ls ++ l ∷ after) ≡ (words_of_lines known ls >>= λ xs. (words_behind known ls (l ∷ after) >>= λ ys. Ok (xs ++ ys)))
-words-split known ls l after =
-    ap (λ es. all_ok (map (words_at known) es)) (behind-append [] ls (l ∷ after))
-    ∙ ap all_ok (map-append (words_at known) (with_earlier ls) (lines_behind ls (l ∷ after)))
-    ∙ all_ok-append (map (words_at known) (with_earlier ls)) (map (words_at known) (lines_behind ls (l ∷ after)))
+words-split known ls l after = search (rules, behind-append, map-append, all_ok-append)
 
 -- one line more with its words, and the lines after it
 laid-line : (known : List (List ℕ × ℕ)) (ls : List (Line Operand)) (l : Line Operand) (made ws : List ℕ) (rs : List Row) → Ok made ≡ words (value known) (address_after ls) l
     → AreLaid ws rs (words_of_lines known ls) → AreLaid (ws ++ made) (rs ++ row (length ls + 1) (address_after ls) (length made)) (words_of_lines known (ls ++ l ∷ []))
-laid-line known ls l made ws rs e laid = rw (words-split known ls l [], ← e) (by (words_of_lines known ls) laid)
-  where
-    by : (r : Result (List LineWords) At) → AreLaid ws rs r
-        → AreLaid (ws ++ made) (rs ++ row (length ls + 1) (address_after ls) (length made)) (r >>= λ ms. Ok (ms ++ record { line = length ls + 1; address = address_after ls; words = made } ∷ []))
-    by (Ok ms) h = (
-      ap (λ u. u ++ made) h.0 ∙ flat_map_more (λ (m : LineWords). m.words) [] ms (record { line = length ls + 1; address = address_after ls; words = made }),
-      ap (λ u. u ++ row (length ls + 1) (address_after ls) (length made)) h.1
-          ∙ flat_map_more (λ (m : LineWords). row m.line m.address (length m.words)) [] ms (record { line = length ls + 1; address = address_after ls; words = made }),
-    )
-    by (Err k) h = absurd h
+laid-line known ls l made ws rs e laid = grind (arith, common_steps, words-split, flat_map_more)
 
 laid-no_line : (known : List (List ℕ × ℕ)) (ls : List (Line Operand)) (l : Line Operand) (after : List (Line Operand)) (k : Fault) (ws : List ℕ) (rs : List Row)
     → words (value known) (address_after ls) l ≡ Err k → AreLaid ws rs (words_of_lines known ls) → words_of_lines known (ls ++ l ∷ after) ≡ Err (record { line = length ls + 1; kind = k })
-laid-no_line known ls l after k ws rs e laid = rw (words-split known ls l after, e) (by (words_of_lines known ls) laid)
-  where
-    by : (r : Result (List LineWords) At) → AreLaid ws rs r
-        → ◌≡◌ {A = Result (List LineWords) At} (r >>= λ ms. Err (record { line = length ls + 1; kind = k })) (Err (record { line = length ls + 1; kind = k }))
-    by (Ok ms) h = refl
-    by (Err f) h = absurd h
+laid-no_line known ls l after k ws rs e laid = search (rules, words-split)
 
 module _ (known : List (List ℕ × ℕ)) (lines : List Read) (i : ℕ) (d x : Read) (address : ℕ) (h : i < length lines) (is : x ≡ get_or lines i d) (at : address ≡ address_after (map seen_line (take i lines))) where
   number : length (map seen_line (take i lines)) + 1 ≡ i + 1

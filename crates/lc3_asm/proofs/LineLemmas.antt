@@ -1,15 +1,14 @@
 -- What is known of a line that was read: it stands where it may, and its operands fit their forms.
-use Rattle.std.proofs.Common.{◌≡◌, ℕ, ◌-◌, Bool, true, false, List, [], ◌∷◌, length, refl, Some, None, Option, arith}
+use Rattle.std.proofs.Common.{◌≡◌, ℕ, ◌-◌, Bool, true, false, List, [], ◌∷◌, length, refl, Some, None, Option, arith, rules}
 use Rattle.std.specs.Prelude.{Ok, ◌&&◌, ◌==◌, nat_lt, nat_le}
 use Rattle.std.specs.Char.{to_ascii_uppercase}
 use Rattle.std.proofs.lemmas.Bool.{and_parts, leb-true, lt-ltb}
 use Rattle.std.proofs.lemmas.Bool.Decides.{nat_tests}
 use Rattle.std.proofs.lemmas.Option.{cond_some}
 use lib.IntN.{ℤ}
-use Rattle.lc3_word.specs.Numbers.{number}
 use Rattle.lc3_table.specs.Tokens.{Token, Word, Quoted, Unclosed, tokens}
-use Rattle.lc3_table.specs.Words.{register, upper, is_label}
-use Rattle.lc3_table.specs.Statements.{Line, Blank, LabelAlone, Operates, Operand, Register, Number, Label, Characters, unless, or_fault, token_fault, parts, order_fault, with_operands, all_operands, operands, operand, operand_by_register, operand_by_number, characters, accepts, takes_register, takes_label, forms, line, ◌>>=◌}
+use Rattle.lc3_table.specs.Words.{register}
+use Rattle.lc3_table.specs.Statements.{Line, Blank, LabelAlone, Operates, Operand, Register, Label, Characters, unless, or_fault, token_fault, parts, order_fault, with_operands, all_operands, operands, operand, operand_by_register, operand_by_number, characters, takes_register, takes_label, forms, line, ◌>>=◌}
 use Rattle.lc3_table.specs.Meaning.{field_of}
 use Rattle.lc3_table.specs.declared.fields.Field.{Field}
 use Rattle.lc3_table.specs.declared.fields.Field.TheVariants as field
@@ -17,6 +16,7 @@ use Rattle.lc3_table.specs.declared.operation.Form.{Form}
 use Rattle.lc3_table.specs.declared.operation.Form.TheVariants as form
 use Rattle.lc3_table.specs.declared.operation.Fault.TheVariants as fault
 use Rattle.lc3_asm.proofs.Outcomes.{then-ok, unless-ok, if-ok, ok-same}
+use Rattle.std.proofs.lemmas.Grind.{common_steps}
 
 -- the statement that a line was read from
 record Came (started : Bool) (l : Line Operand) : Type 0 where
@@ -32,12 +32,7 @@ line_came started bytes l e =
     record { statement = b.0; ordered = c.0; operands_are = c.1 }
 
 same_order : (started : Bool) (p : Line Token) (l : Line Operand) → order_fault started p ≡ None → with_operands p ≡ Ok l → order_fault started l ≡ None
-same_order started Blank l h e = let same : Blank ≡ l = ok-same Blank l e in rw (← same) refl
-same_order started (LabelAlone n) l h e = let same : LabelAlone n ≡ l = ok-same (LabelAlone n) l e in rw (← same) h
-same_order started (Operates a o ts) l h e =
-    let read = then-ok (all_operands (forms o) ts) (λ xs. Ok (Operates a o xs)) l e in
-    let same : Operates a o read.0 ≡ l = ok-same (Operates a o read.0) l read.2 in
-    rw (← same) h
+same_order started x l h e = grind (arith, common_steps, ok-same, then-ok)
 
 -- a line without fault stands where it may
 pub line_ordered : (started : Bool) (bytes : List ℕ) (l : Line Operand) → line started bytes ≡ Ok l → order_fault started l ≡ None
@@ -80,32 +75,14 @@ register-below (a ∷ d ∷ []) r e =
     lt-ltb r 8 (omega (arith, leb-true d 55 last, taken.1))
 register-below (a ∷ d ∷ c ∷ cs) r e = cc
 
-number-taken : (f : Form) (z : ℤ) → accepts f z ≡ true → field_fits f (field.Number z) ≡ true
-number-taken form.Register z h = cc
-number-taken form.Characters z h = cc
-number-taken f z h = refl
-
 number-fits : (f : Form) (w : List ℕ) (o : Option ℤ) (x : Operand) → operand_by_number f w o ≡ Ok x → fits f x ≡ true
-number-fits f w (Some z) x e =
-    let taken = if-ok (accepts f z) (Ok (Number z)) x fault.Range e in
-    let same : Number z ≡ x = ok-same (Number z) x taken.1 in
-    rw (← same) (number-taken f z taken.0)
-number-fits f w None x e =
-    let taken = if-ok (takes_label f && is_label w) (Ok (Label (upper w))) x fault.BadNumber e in
-    let same : Label (upper w) ≡ x = ok-same (Label (upper w)) x taken.1 in
-    rw (← same) (and_parts (takes_label f) (is_label w) taken.0).0
+number-fits f w y x e = search rules
 
 word-fits : (f : Form) (w : List ℕ) (o : Option ℕ) (x : Operand) → register w ≡ o → operand_by_register f w o ≡ Ok x → fits f x ≡ true
-word-fits f w (Some r) x is e =
-    let taken = if-ok (takes_register f) (Ok (Register r)) x fault.BadOperands e in
-    let same : Register r ≡ x = ok-same (Register r) x taken.1 in
-    rw (← same, taken.0, register-below w r is) refl
-word-fits form.Register w None x is e = cc
-word-fits f w None x is e = number-fits f w (number w) x e
+word-fits f w y x is e = search (rules, register-below, number-fits)
 
 string-fits : (o : Option (List ℕ)) (x : Operand) → (or_fault o fault.BadString >>= λ cs. Ok (Characters cs)) ≡ Ok x → fits form.Characters x ≡ true
-string-fits (Some cs) x h = let same : Characters cs ≡ x = ok-same (Characters cs) x h in rw (← same) refl
-string-fits None x h = cc
+string-fits y x h = search rules
 
 operand-fits : (f : Form) (t : Token) (x : Operand) → operand f t ≡ Ok x → fits f x ≡ true
 operand-fits form.Characters (Quoted s) x h = string-fits (characters s) x h
@@ -127,10 +104,7 @@ operands-fit (f ∷ fs) (t ∷ ts) xs n h =
     rw (← same, operand-fits f t first.0 first.1, all) refl
 
 all_operands-fit : (fs : List Form) (ts : List Token) (xs : List Operand) → all_operands fs ts ≡ Ok xs → all_fit fs xs ≡ true
-all_operands-fit fs ts xs e =
-    let taken = if-ok (length fs == length ts) (operands fs ts) xs fault.BadOperands e in
-    let test : (length fs == length ts) ≡ true = taken.0 in
-    operands-fit fs ts xs (grind (arith, nat_tests)) taken.1
+all_operands-fit fs ts xs e = search (rules, if-ok, operands-fit, nat_tests)
 
 statement-fits : (p : Line Token) (l : Line Operand) → with_operands p ≡ Ok l → line_fits l ≡ true
 statement-fits Blank l e = let same : Blank ≡ l = ok-same Blank l e in rw (← same) refl

@@ -1,10 +1,9 @@
 -- One more line.
-use Rattle.std.proofs.Common.{◌≡◌, ℕ, ◌+◌, ◌≤◌, Bool, true, false, List, [], ◌∷◌, ◌++◌, map, refl, Some, None, Option, ◌∙◌, ap, arith, append-nil}
-use Rattle.std.specs.Prelude.{sum_by, unwrap_or, is_some, ◌||◌, nat_le, if◌then◌else◌}
+use Rattle.std.proofs.Common.{◌≡◌, ℕ, ◌+◌, ◌≤◌, Bool, true, List, [], ◌∷◌, ◌++◌, map, refl, Some, None, ◌∙◌, ap, arith, append-nil, rules}
+use Rattle.std.specs.Prelude.{sum_by, unwrap_or, nat_le, if◌then◌else◌}
 use Rattle.std.specs.List.{list_any}
 use Rattle.std.proofs.lemmas.List.{map-append}
 use Rattle.std.proofs.lemmas.List.Sums.{sum_by-append}
-use Rattle.std.proofs.lemmas.Bool.Decides.{nat_tests}
 use Rattle.lc3_table.specs.Statements.{Line, Operand, option_or}
 use Rattle.lc3_table.specs.declared.operation.Fault.TheVariants as fault
 use Rattle.lc3_table.specs.Meaning.{size}
@@ -20,12 +19,7 @@ sizes-append ls l = sum_by-append size ls (l ∷ []) ∙ omega arith
 -- the first `.ORIG` names the origin, whether it stands among the first lines or the others
 pub origin-append : (ls ms : List (Line Operand)) → origin (ls ++ ms) ≡ (if list_any is_origin ls then origin ls else origin ms)
 origin-append [] ms = refl
-origin-append (l ∷ ls) ms = by (origin_named l) (origin-append ls ms)
-  where
-    by : (o : Option ℕ) → origin (ls ++ ms) ≡ (if list_any is_origin ls then origin ls else origin ms)
-        → unwrap_or o (origin (ls ++ ms)) ≡ (if is_some o || list_any is_origin ls then unwrap_or o (origin ls) else origin ms)
-    by None more = more
-    by (Some n) more = refl
+origin-append (l ∷ ls) ms = search (rules, (origin-append ls ms))
 
 pub origin-front : (ls ms : List (Line Operand)) → list_any is_origin ls ≡ true → origin (ls ++ ms) ≡ origin ls
 origin-front ls ms h = rw h at (origin-append ls ms)
@@ -40,12 +34,7 @@ pub labels-append : (ls : List (Line Operand)) (l : Line Operand) → labels (ls
 labels-append ls l = labels-split ls [] l ∙ ap (λ u. labels ls ++ u) (append-nil (entry (label_of l) (address_after ls)))
 
 pub fits_from_test : (d : Bool) (n : ℕ) → option_or (if d then Some fault.DuplicateLabel else None) (if nat_le n first_device then None else Some fault.TooLong) ≡ None → n ≤ first_device
-fits_from_test true n h = cc
-fits_from_test false n h = by (nat_le n first_device) refl h
-  where
-    by : (b : Bool) → nat_le n first_device ≡ b → option_or None (if b then None else Some fault.TooLong) ≡ None → n ≤ first_device
-    by true e k = grind (arith, nat_tests)
-    by false e k = cc
+fits_from_test x n h = search rules
 
 -- the addresses, with one more line
 pub addresses-append : (ls : List (Line Operand)) (l : Line Operand) → addresses (ls ++ l ∷ []) ≡ addresses ls ++ address_after ls ∷ []

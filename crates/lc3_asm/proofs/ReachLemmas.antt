@@ -1,10 +1,9 @@
 -- An instruction reaches the place of the label that it names.
-use Rattle.std.proofs.Common.{◌≡◌, ℕ, ◌+◌, ◌-◌, ◌^◌, ◌<◌, ◌≤◌, Bool, true, false, List, [], ◌∷◌, ◌++◌, map, refl, ap, sym, ◌∙◌, arith, Some, None, Option}
-use Rattle.std.specs.Prelude.{Ok, pos, neg_ℤ, ◌+ℤ◌, ◌-ℤ◌, ◌≤ℤ◌, int_le, ◌&&◌, nat_lt, option_and_then}
+use Rattle.std.proofs.Common.{◌≡◌, ℕ, ◌+◌, ◌-◌, ◌^◌, ◌<◌, ◌≤◌, Bool, true, List, [], ◌∷◌, ◌++◌, map, refl, ap, ◌∙◌, arith, Some, None, Option, rules}
+use Rattle.std.specs.Prelude.{Ok, pos, neg_ℤ, ◌+ℤ◌, ◌&&◌, nat_lt, option_and_then}
 use lib.IntN.{ℤ}
 use Rattle.std.specs.List.{list_any}
 use Rattle.std.proofs.lemmas.Int.{ints}
-use Rattle.std.proofs.lemmas.Nat.{pow_pos}
 use Rattle.std.proofs.lemmas.Bool.{and_parts, ltb-true}
 use Rattle.lc3_word.specs.Words.{IsSigned, low_bits}
 use Rattle.lc3_word.specs.Segment.{first_device}
@@ -16,15 +15,14 @@ use Rattle.lc3_table.specs.declared.operation.Form.{Form}
 use Rattle.lc3_table.specs.declared.operation.Form.TheVariants as form
 use Rattle.lc3_table.specs.declared.fields.Field.{Field}
 use Rattle.lc3_table.specs.declared.fields.Field.TheVariants as field
-use Rattle.lc3_table.specs.declared.operation.Fault.TheVariants as fault
 use Rattle.lc3_table.specs.Instructions.{word_of, IsInstruction}
 use Rattle.lc3_table.specs.Decoding.{instruction_at}
-use Rattle.lc3_table.specs.Statements.{Operates, Operand, Register, Label, forms, operation_order, is_between, or_fault, ◌>>=◌}
+use Rattle.lc3_table.specs.Statements.{Operates, Operand, Register, Label, forms, operation_order, is_between, ◌>>=◌}
 use Rattle.lc3_table.specs.Meaning.{offset, label_number, resolved_field, resolved_fields, words_of_fields, instruction}
 use Rattle.lc3_table.proofs.Reading.{instruction_at-word_of}
 use Rattle.lc3_asm.specs.Texts.{value, labels, origin, words_of, address_after, is_origin}
 use Rattle.lc3_asm.specs.Laws.{InstructionsReachLabels, FillsHoldAddresses, word_at, pc_offset, target_named, field_with_offset}
-use Rattle.lc3_asm.proofs.Outcomes.{then-ok, or_fault-ok, if-ok, ok-same}
+use Rattle.lc3_asm.proofs.Outcomes.{then-ok, or_fault-ok, ok-same}
 use Rattle.lc3_asm.proofs.LineLemmas.{all_fit, line_fitting, line_ordered}
 use Rattle.lc3_asm.proofs.ReadLemmas.{meant, lines-read, read-at}
 use Rattle.lc3_asm.proofs.LabelLemmas.{labels-below}
@@ -41,42 +39,20 @@ record Near (values : List ℕ → Option ℕ) (address bits : ℕ) (name : List
   reaches : pos (address + 1) +ℤ offset ≡ pos target
 
 signed : (bits : ℕ) (z : ℤ) → is_between (neg_ℤ (pos (2 ^ (bits - 1)))) (pos (2 ^ (bits - 1) - 1)) z ≡ true → IsSigned bits z
-signed bits z h =
-    let both = and_parts (int_le (neg_ℤ (pos (2 ^ (bits - 1)))) z) (int_le z (pos (2 ^ (bits - 1) - 1))) h in
-    let low : neg_ℤ (pos (2 ^ (bits - 1))) ≤ℤ z = grind (arith, ints, both.0) in
-    let high : z ≤ℤ pos (2 ^ (bits - 1) - 1) = grind (arith, ints, both.1) in
-    record { low = omega (arith, ints, low); high = omega (arith, ints, high, pow_pos (bits - 1)) }
+signed bits z h = search rules
 
 near : (values : List ℕ → Option ℕ) (address bits : ℕ) (f : Form) (name : List ℕ) (y : Field)
     → ((t : ℕ) → label_number f address t ≡ offset bits address t) → resolved_field values address f (Label name) ≡ Ok y → Near values address bits name y
-near values address bits f name y is e =
-    let target = then-ok (or_fault (values name) fault.Undefined) (λ t. label_number f address t >>= λ z. Ok (field.Number z)) y e in
-    let number = then-ok (label_number f address target.0) (λ z. Ok (field.Number z)) y target.2 in
-    let there = pos target.0 -ℤ pos (address + 1) in
-    let inside = if-ok (is_between (neg_ℤ (pos (2 ^ (bits - 1)))) (pos (2 ^ (bits - 1) - 1)) there) (Ok there) number.0 fault.OffsetRange (sym (is target.0) ∙ number.1) in
-    let same : pos target.0 -ℤ pos (address + 1) ≡ number.0 = ok-same there number.0 inside.1 in
-    record {
-      offset = number.0;
-      target = target.0;
-      target_is = or_fault-ok (values name) fault.Undefined target.0 target.1;
-      field_is = sym (ok-same (field.Number number.0) y number.2);
-      signed = rw (← same) (signed bits there inside.0);
-      reaches = omega (arith, ints, same);
-    }
+near values address bits f name y is e = search (rules, or_fault-ok, signed, ints)
 
 -- the fields of a label alone, and of a register and a label
 one-field : (values : List ℕ → Option ℕ) (address : ℕ) (f : Form) (name : List ℕ) (ys : List Field) → resolved_fields values address (f ∷ []) (Label name ∷ []) ≡ Ok ys
     → (y : Field) × (resolved_field values address f (Label name) ≡ Ok y) × (ys ≡ y ∷ [])
-one-field values address f name ys e =
-    let first = then-ok (resolved_field values address f (Label name)) (λ y. resolved_fields values address [] [] >>= λ zs. Ok (y ∷ zs)) ys e in
-    (first.0, first.1, sym (ok-same (first.0 ∷ []) ys first.2))
+one-field values address f name ys e = search rules
 
 two-fields : (values : List ℕ → Option ℕ) (address r : ℕ) (f : Form) (name : List ℕ) (ys : List Field) → resolved_fields values address (form.Register ∷ f ∷ []) (Register r ∷ Label name ∷ []) ≡ Ok ys
     → (y : Field) × (resolved_field values address f (Label name) ≡ Ok y) × (ys ≡ field.Register r ∷ y ∷ [])
-two-fields values address r f name ys e =
-    let rest = then-ok (resolved_fields values address (f ∷ []) (Label name ∷ [])) (λ zs. Ok (field.Register r ∷ zs)) ys e in
-    let last = one-field values address f name rest.0 rest.1 in
-    (last.0, last.1, sym (ok-same (field.Register r ∷ rest.0) ys rest.2) ∙ ap (λ zs. field.Register r ∷ zs) last.2)
+two-fields values address r f name ys e = search rules
 
 -- the instruction that a line with a label is
 record Written (values : List ℕ → Option ℕ) (address : ℕ) (o : Operation) (xs : List Operand) (ws : List ℕ) : Type 0 where
@@ -96,17 +72,7 @@ with_offset : (values : List ℕ → Option ℕ) (address bits : ℕ) (o : Opera
     → ((z : ℤ) → instruction o (map (field_with_offset z) xs) ≡ Some (make z)) → ((z : ℤ) → pc_offset (make z) ≡ Some z)
     → ((z : ℤ) → words_of_fields o xs (map (field_with_offset z) xs) ≡ word_of (make z) ∷ []) → ((z : ℤ) → IsSigned bits z → IsInstruction (make z))
     → words_of_fields o xs ys ≡ ws → Written values address o xs ws
-with_offset values address bits o xs make m y ys ws near named fields written offset word fits e = record {
-  written = make near.offset;
-  offset = near.offset;
-  target = near.target;
-  written_is = written near.offset;
-  offset_is = offset near.offset;
-  target_is = ap (option_and_then values) named ∙ near.target_is;
-  is_instruction = fits near.offset near.signed;
-  word_is = sym e ∙ ap (words_of_fields o xs) (fields near.offset near.field_is) ∙ word near.offset;
-  reaches = near.reaches;
-}
+with_offset values address bits o xs make m y ys ws near named fields written offset word fits e = search rules
 
 -- the instruction of a label alone
 alone : (values : List ℕ → Option ℕ) (address bits : ℕ) (f : Form) (o : Operation) (make : ℤ → Instr) (m ws : List ℕ) → ((t : ℕ) → label_number f address t ≡ offset bits address t)
@@ -151,9 +117,7 @@ written values address o xs name ws h t e = cc
 
 -- such a line stands behind the `.ORIG`
 started-before : (s : Bool) (o : Operation) (xs : List Operand) (name : List ℕ) → target_named o xs ≡ Some name → operation_order s o ≡ None → s ≡ true
-started-before true o xs name t e = refl
-started-before false op.Origin xs name t e = cc
-started-before false o xs name t e = cc
+started-before x o xs name t e = search rules
 
 pub reaches_label : InstructionsReachLabels
 reaches_label text p before label o xs name accepted has named =
@@ -182,17 +146,10 @@ reaches_label text p before label o xs name accepted has named =
 -- the word of a `.FILL` of a label
 filled : (values : List ℕ → Option ℕ) (address : ℕ) (name ws : List ℕ) → (resolved_fields values address (form.Value ∷ []) (Label name ∷ []) >>= λ ys. Ok (words_of_fields op.Fill (Label name ∷ []) ys)) ≡ Ok ws
     → (target : ℕ) × (values name ≡ Some target) × (ws ≡ low_bits 16 (pos target) ∷ [])
-filled values address name ws e =
-    let ys = then-ok (resolved_fields values address (form.Value ∷ []) (Label name ∷ [])) (λ ys. Ok (words_of_fields op.Fill (Label name ∷ []) ys)) ws e in
-    let y = one-field values address form.Value name ys.0 ys.1 in
-    let target = then-ok (or_fault (values name) fault.Undefined) (λ t. label_number form.Value address t >>= λ z. Ok (field.Number z)) y.0 y.1 in
-    let field_is : field.Number (pos target.0) ≡ y.0 = ok-same (field.Number (pos target.0)) y.0 target.2 in
-    let word : words_of_fields op.Fill (Label name ∷ []) ys.0 ≡ ws = ok-same _ ws ys.2 in
-    (target.0, or_fault-ok (values name) fault.Undefined target.0 target.1, sym word ∙ ap (words_of_fields op.Fill (Label name ∷ [])) (y.2 ∙ ap (λ x. x ∷ []) (sym field_is)))
+filled values address name ws e = search rules
 
 fill-started : (s : Bool) → operation_order s op.Fill ≡ None → s ≡ true
-fill-started true e = refl
-fill-started false e = cc
+fill-started x e = search rules
 
 pub fill_holds_address : FillsHoldAddresses
 fill_holds_address text p before label name accepted has =

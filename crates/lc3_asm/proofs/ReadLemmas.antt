@@ -1,14 +1,14 @@
 -- The lines of an accepted text, each with what its reading tells.
-use Rattle.std.proofs.Common.{◌≡◌, ℕ, ◌+◌, ◌≤◌, Bool, true, false, List, [], ◌∷◌, ◌++◌, length, refl, ap, sym, ◌∙◌, subst, append_assoc, append-nil, None}
+use Rattle.std.proofs.Common.{◌≡◌, ℕ, ◌+◌, ◌≤◌, Bool, List, [], ◌∷◌, ◌++◌, length, refl, ap, sym, ◌∙◌, subst, append_assoc, append-nil, None, rules, arith}
 use Rattle.std.specs.Prelude.{Result, Ok, Err, if◌then◌else◌}
 use Rattle.std.specs.List.{list_any}
 use Rattle.lc3_table.specs.Statements.{Line, Operand, line, unless, ◌>>=◌}
 use Rattle.lc3_table.specs.declared.operation.Fault.{Fault}
-use Rattle.lc3_table.specs.declared.operation.Fault.TheVariants as fault
-use Rattle.lc3_asm.specs.Texts.{LineWords, Program, at_line, lines, is_origin, is_end, label_of, labels, line_after, lines_after, lines_read, words_of_lines, place_fault, is_duplicate, address_after, program_with_words, program_of, program_of_lines, program}
+use Rattle.lc3_asm.specs.Texts.{LineWords, Program, at_line, lines, is_origin, is_end, label_of, labels, line_after, lines_after, lines_read, words_of_lines, place_fault, is_duplicate, address_after, program_with_words, program_of_lines, program}
 use Rattle.lc3_asm.proofs.Outcomes.{then-ok, unless-ok, ok-same}
 use Rattle.lc3_asm.proofs.MoreLines.{fits_from_test}
 use Rattle.lc3_word.specs.Segment.{first_device}
+use Rattle.std.proofs.lemmas.Grind.{common_steps}
 
 -- a line that was read after these
 pub record IsRead (before : List (Line Operand)) (l : Line Operand) : Type 0 where
@@ -35,8 +35,7 @@ Goes before ls = (ms : List (Line Operand)) × (ls ≡ before ++ ms) × AreRead 
 goes-end : (before : List (Line Operand)) (bs : List (List ℕ)) (ls : List (Line Operand)) (l : Line Operand) (b : Bool) → IsRead before l
     → (lines_after (before ++ l ∷ []) bs ≡ Ok ls → Goes (before ++ l ∷ []) ls)
     → (if b then Ok (before ++ l ∷ []) else lines_after (before ++ l ∷ []) bs) ≡ Ok ls → Goes before ls
-goes-end before bs ls l true read rest h = let same : before ++ l ∷ [] ≡ ls = ok-same (before ++ l ∷ []) ls h in (l ∷ [], sym same, (read, tt))
-goes-end before bs ls l false read rest h = let more = rest h in (l ∷ more.0, more.1 ∙ append_assoc before (l ∷ []) more.0, (read, more.2))
+goes-end before bs ls l x read rest h = grind (arith, common_steps, ok-same)
 
 goes-line : (before : List (Line Operand)) (bs : List (List ℕ)) (ls : List (Line Operand)) (b : List ℕ) (r : Result (Line Operand) Fault) → line_after before b ≡ r
     → ((l : Line Operand) → lines_after (before ++ l ∷ []) bs ≡ Ok ls → Goes (before ++ l ∷ []) ls)
@@ -70,17 +69,8 @@ pub record Meant (p : Program) (ls : List (Line Operand)) : Type 0 where
   pub words_are : words_of_lines (labels ls) ls ≡ Ok made
   pub laid : program_with_words ls made ≡ p
 
-meant-started : (p : Program) (ls : List (Line Operand)) (n : ℕ) (b : Bool) → (if b then program_of ls else Err (record { line = n; kind = fault.NoOrig })) ≡ Ok p → Meant p ls
-meant-started p ls n true e =
-    let made = then-ok (words_of_lines (labels ls) ls) (λ ws. Ok (program_with_words ls ws)) p e in
-    record { made = made.0; words_are = made.1; laid = ok-same (program_with_words ls made.0) p made.2 }
-meant-started p ls n false e = cc
-
 pub meant : (text : List ℕ) (p : Program) (ls : List (Line Operand)) → program text ≡ Ok p → lines_read text ≡ Ok ls → Meant p ls
-meant text p ls e r =
-    let read = then-ok (lines_read text) (λ ks. program_of_lines (length (lines text)) ks) p e in
-    let same : read.0 ≡ ls = ok-same read.0 ls (sym read.1 ∙ r) in
-    meant-started p ls (length (lines text)) (list_any is_origin ls) (ap (program_of_lines (length (lines text))) (sym same) ∙ read.2)
+meant text p ls e r = search rules
 
 -- the lines of any accepted text
 pub record HasLines (text : List ℕ) (p : Program) : Type 0 where

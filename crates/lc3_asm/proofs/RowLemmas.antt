@@ -1,16 +1,14 @@
 -- The rows cover the image, and the listing shows it.
-use Rattle.std.proofs.Common.{◌≡◌, ℕ, zero, suc, ◌+◌, ◌%◌, ◌<◌, ◌≤◌, Bool, true, false, List, [], ◌∷◌, ◌++◌, length, take, drop, replicate, refl, ap, ◌∙◌, subst, arith, append_assoc, None, length-drop}
-use Rattle.std.specs.Prelude.{Ok, sum_by, ◌==◌}
-use Rattle.std.proofs.lemmas.Bool.Decides.{nat_tests}
+use Rattle.std.proofs.Common.{◌≡◌, ℕ, zero, suc, ◌+◌, ◌<◌, ◌≤◌, Bool, true, List, [], ◌∷◌, ◌++◌, length, take, drop, replicate, refl, ap, ◌∙◌, subst, arith, append_assoc, None, length-drop, rules}
+use Rattle.std.specs.Prelude.{Ok, sum_by}
 use Rattle.std.specs.List.{list_any}
 use Rattle.std.proofs.lemmas.List.{length-append}
 use Rattle.std.proofs.lemmas.List.Sums.{sum_by-append}
-use Rattle.lc3_table.specs.Statements.{Line, Blank, LabelAlone, Operates, Operand, order_fault}
+use Rattle.lc3_table.specs.Statements.{Line, Operand, order_fault}
 use Rattle.lc3_table.specs.Meaning.{size}
-use Rattle.lc3_table.specs.declared.operation.Operation.TheVariants as op
 use Rattle.lc3_asm.specs.declared.assembled.Row.{Row}
 use Rattle.lc3_asm.specs.Texts.{LineWords, Program, program, labels, words_of, rows_of, row, address_after, origin, is_origin}
-use Rattle.lc3_asm.specs.Listings.{word_line, words_text, rows_text}
+use Rattle.lc3_asm.specs.Listings.{words_text, rows_text}
 use Rattle.lc3_asm.specs.Laws.{Follow, line_numbers, words_listed}
 use Rattle.lc3_asm.proofs.Outcomes.{ok-same}
 use Rattle.lc3_asm.proofs.LineLemmas.{line_ordered}
@@ -19,21 +17,14 @@ use Rattle.lc3_asm.proofs.MoreLines.{origin-front}
 use Rattle.lc3_asm.proofs.ReadLemmas.{AreRead, meant, has-lines, lines-read, all-below}
 use Rattle.lc3_asm.proofs.PlaceLemmas.{first-words, words-count}
 use Rattle.lc3_word.specs.Segment.{first_device}
+use Rattle.std.proofs.lemmas.Grind.{common_steps}
 
 follow-row : (address place count line : ℕ) (rest : List Row) (end : ℕ) → (0 < count → place ≡ address) → Follow (address + count) rest end → Follow address (row line place count ++ rest) end
-follow-row address place count line rest end at f = by (count == 0) refl
-  where
-    by : (b : Bool) → (count == 0) ≡ b → Follow address (row line place count ++ rest) end
-    by true e = let none : count ≡ 0 = grind (arith, nat_tests) in rw e (subst (λ a. Follow a rest end) (omega (arith, none)) f)
-    by false e = let some : 0 < count = grind (arith, nat_tests) in rw e (at some, some, f)
+follow-row address place count line rest end at f = search rules
 
 -- a line with words stands behind a `.ORIG`
 sized-started : (s : Bool) (l : Line Operand) → order_fault s l ≡ None → 0 < size l → s ≡ true
-sized-started true l e h = refl
-sized-started false Blank e h = absurd (omega (arith, h))
-sized-started false (LabelAlone n) e h = absurd (omega (arith, h))
-sized-started false (Operates a op.Origin xs) e h = absurd (omega (arith, h))
-sized-started false (Operates a o xs) e h = cc
+sized-started x l e h = search rules
 
 follow : (known : List (List ℕ × ℕ)) (front ls : List (Line Operand)) (made : List LineWords) (address : ℕ) → AreRead front ls → words_behind known front ls ≡ Ok made
     → address ≡ origin (front ++ ls) + sum_by size front → Follow address (rows_of made) (address + length (words_of made))
@@ -67,12 +58,7 @@ row-listed : (count address line : ℕ) (ws ns : List ℕ) → count ≤ length 
     → words_text address line (take count ws) ++ words_listed (address + count) (drop count ws) ns ≡ words_listed address ws (replicate count line ++ ns)
 row-listed zero address line ws ns h k = ap (λ a. words_listed a ws ns) (omega arith)
 row-listed (suc n) address line [] ns h k = absurd (omega (arith, h))
-row-listed (suc n) address line (w ∷ ws) ns h k =
-    let next : (address + 1) % 65536 ≡ address + 1 = omega (arith, k) in
-    let place : address + suc n ≡ (address + 1) + n = omega arith in
-    rw (next, place)
-    (append_assoc (word_line address w line) (words_text (address + 1) line (take n ws)) (words_listed ((address + 1) + n) (drop n ws) ns)
-    ∙ ap (λ u. word_line address w line ++ u) (row-listed n (address + 1) line ws ns (omega (arith, h)) (omega (arith, k))))
+row-listed (suc n) address line (w ∷ ws) ns h k = grind (arith, common_steps, (row-listed n (address + 1) line ws ns (omega (arith, h)) (omega (arith, k))))
 
 no_more : (address : ℕ) (ws : List ℕ) → [] ≡ words_listed address ws []
 no_more address [] = refl

@@ -1,18 +1,15 @@
 -- A line that was read has as many words as its size says.
-use Rattle.std.proofs.Common.{◌≡◌, ℕ, Bool, true, false, List, [], ◌∷◌, length, refl, arith, Some, None, Option}
-use Rattle.std.specs.Prelude.{Ok, is_some, ◌&&◌, nat_abs, nat_lt}
+use Rattle.std.proofs.Common.{◌≡◌, ℕ, Bool, true, false, List, [], ◌∷◌, length, refl, arith, Option, rules}
+use Rattle.std.specs.Prelude.{Ok, is_some, ◌&&◌, nat_abs}
 use Rattle.std.proofs.lemmas.List.{length-append, length-replicate}
-use lib.IntN.{ℤ}
-use Rattle.lc3_table.specs.Statements.{Line, Blank, LabelAlone, Operates, Operand, Register, Number, Label, Characters, or_fault, takes_register, takes_label, forms, ◌>>=◌}
-use Rattle.lc3_table.specs.Meaning.{words, size, operation_size, words_of_fields, instruction, instruction_words, resolved_field, label_number, resolved_fields}
+use Rattle.lc3_table.specs.Statements.{Line, Operand, Number, Characters, forms, ◌>>=◌}
+use Rattle.lc3_table.specs.Meaning.{words, size, operation_size, words_of_fields, instruction, instruction_words, resolved_field, resolved_fields}
 use Rattle.lc3_table.specs.declared.fields.Field.{Field}
 use Rattle.lc3_table.specs.declared.fields.Field.TheVariants as field
 use Rattle.lc3_table.specs.declared.instr.Instr.{Instr}
 use Rattle.lc3_table.specs.declared.operation.Operation.{Operation}
 use Rattle.lc3_table.specs.declared.operation.Operation.TheVariants as op
 use Rattle.lc3_table.specs.declared.operation.Form.{Form}
-use Rattle.lc3_table.specs.declared.operation.Form.TheVariants as form
-use Rattle.lc3_table.specs.declared.operation.Fault.TheVariants as fault
 use Rattle.lc3_asm.proofs.Outcomes.{then-ok, ok-same}
 use Rattle.lc3_asm.proofs.LineLemmas.{field_fits, fits, all_fit, line_fits}
 use Rattle.std.proofs.lemmas.Bool.{and_parts}
@@ -22,24 +19,8 @@ fields_fit [] [] = true
 fields_fit (f ∷ fs) (y ∷ ys) = field_fits f y && fields_fit fs ys
 fields_fit _ _ = false
 
-register-field : (f : Form) (r : ℕ) → takes_register f ≡ true → field_fits f (field.Register r) ≡ true
-register-field form.Register r h = refl
-register-field form.RegisterOrImmediate r h = refl
-register-field f r h = cc
-
-label-field : (f : Form) (z : ℤ) → takes_label f ≡ true → field_fits f (field.Number z) ≡ true
-label-field form.Register z h = cc
-label-field form.Characters z h = cc
-label-field f z h = refl
-
 resolved_field-fits : (values : List ℕ → Option ℕ) (address : ℕ) (f : Form) (x : Operand) (y : Field) → fits f x ≡ true → resolved_field values address f x ≡ Ok y → field_fits f y ≡ true
-resolved_field-fits values address f (Register r) y h e = rw (← ok-same (field.Register r) y e) (register-field f r (and_parts (takes_register f) (nat_lt r 8) h).0)
-resolved_field-fits values address f (Number z) y h e = rw (← ok-same (field.Number z) y e) h
-resolved_field-fits values address f (Characters cs) y h e = rw (← ok-same field.Nothing y e) h
-resolved_field-fits values address f (Label n) y h e =
-    let target = then-ok (or_fault (values n) fault.Undefined) (λ t. label_number f address t >>= λ z. Ok (field.Number z)) y e in
-    let number = then-ok (label_number f address target.0) (λ z. Ok (field.Number z)) y target.2 in
-    rw (← ok-same (field.Number number.0) y number.2) (label-field f number.0 h)
+resolved_field-fits values address f x y h e = search rules
 
 resolved_fields-fit : (values : List ℕ → Option ℕ) (address : ℕ) (fs : List Form) (xs : List Operand) (ys : List Field) → all_fit fs xs ≡ true → resolved_fields values address fs xs ≡ Ok ys → fields_fit fs ys ≡ true
 resolved_fields-fit values address [] [] ys h e = let same : [] ≡ ys = ok-same [] ys e in rw (← same) refl
@@ -94,8 +75,7 @@ instruction-found op.NoOperation [] i h = refl
 instruction-found o ys i h = cc
 
 one_word : (i : Option Instr) → is_some i ≡ true → length (instruction_words i) ≡ 1
-one_word (Some i) h = refl
-one_word None h = cc
+one_word x h = search rules
 
 encoded-exact : (o : Operation) (xs : List Operand) (ys : List Field) → all_fit (forms o) xs ≡ true → fields_fit (forms o) ys ≡ true → length (words_of_fields o xs ys) ≡ operation_size o xs
 unfolding instruction
@@ -110,9 +90,4 @@ encoded-exact op.Fill xs ys h k = cc
 encoded-exact o xs ys h k = one_word (instruction o ys) (instruction-found o ys refl k)
 
 pub words-exact : (values : List ℕ → Option ℕ) (address : ℕ) (l : Line Operand) (ws : List ℕ) → line_fits l ≡ true → words values address l ≡ Ok ws → length ws ≡ size l
-words-exact values address Blank ws h e = let same : [] ≡ ws = ok-same [] ws e in rw (← same) refl
-words-exact values address (LabelAlone n) ws h e = let same : [] ≡ ws = ok-same [] ws e in rw (← same) refl
-words-exact values address (Operates n o xs) ws h e =
-    let fields = then-ok (resolved_fields values address (forms o) xs) (λ ys. Ok (words_of_fields o xs ys)) ws e in
-    let same : words_of_fields o xs fields.0 ≡ ws = ok-same (words_of_fields o xs fields.0) ws fields.2 in
-    rw (← same) (encoded-exact o xs fields.0 h (resolved_fields-fit values address (forms o) xs fields.0 h fields.1))
+words-exact values address x ws h e = search (rules, encoded-exact, resolved_fields-fit)
