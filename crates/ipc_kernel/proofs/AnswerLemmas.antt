@@ -1,5 +1,5 @@
 -- The message that mq_receive takes.
-use Rattle.std.proofs.Common.{◌≡◌, ℕ, ◌≤◌, List, [], ◌∷◌, length, Some, sym, arith, slice_set, drop, All, IsSomeAnd}
+use Rattle.std.proofs.Common.{◌≡◌, ℕ, ◌≤◌, List, ◌∷◌, length, Some, slice_set, drop, All, IsSomeAnd, rules}
 use Rattle.ipc_objects.specs.declared.queue.Message.{Message}
 use Rattle.ipc_objects.specs.Queue.{QueueState, IsQueue, without_first}
 use Rattle.std.proofs.lemmas.List.Elements.{All-head}
@@ -19,11 +19,7 @@ use Rattle.ipc_kernel.specs.Kernel.{KernelState, IsSettled}
 pub received_first : (k : KernelState) (place : ℕ) (first : Message) (new : List Place) → IsSettled k → IsSomeAnd (queue_in (place_at k.places place)) HasMessage → ((q : QueueState) → queue_in (place_at k.places place) ≡ Some q → q.messages ≡ first ∷ drop 1 q.messages)
     → ((q : QueueState) → queue_in (place_at k.places place) ≡ Some q → new ≡ slice_set k.places place (with_queue (without_first q) (place_at k.places place)))
     → (Done (received first.words first.priority), record k { places = new }) ≡ completion (with_queue_at k place (without_first (queue_at k place))) (reply_with_first (queue_at k place).messages)
-received_first k place first new s some head rest = let found = some_of (queue_in (place_at k.places place)) HasMessage some in known found.0 found.1 (head found.0 found.1) (rest found.0 found.1)
-  where
-    known : (q : QueueState) → queue_in (place_at k.places place) ≡ Some q → q.messages ≡ first ∷ drop 1 q.messages → new ≡ slice_set k.places place (with_queue (without_first q) (place_at k.places place))
-        → (Done (received first.words first.priority), record k { places = new }) ≡ completion (with_queue_at k place (without_first (queue_at k place))) (reply_with_first (queue_at k place).messages)
-    known q e h r = rw (r, e, h) (sym (done_settled (with_queue_at k place (without_first q)) (received first.words first.priority) (settled_with_queue k place (without_first q) HasMessage some s)))
+received_first k place first new s some head rest = search (rules, some_of, done_settled, settled_with_queue)
 
 -- no place is to be emptied then
 pub settled_received : (k : KernelState) (place : ℕ) (new : List Place) → IsSettled k → IsSomeAnd (queue_in (place_at k.places place)) HasMessage
@@ -33,8 +29,7 @@ settled_received k place new s some rest =
     rw (rest found.0 found.1) (settled_with_queue k place (without_first found.0) HasMessage some s)
 
 shorter : (q : QueueState) (ms : List Message) (len : ℕ) → All (λ m. length m.words ≤ q.message_size) ms → q.message_size ≤ len → message_length (Done (reply_with_first ms)) ≤ len
-shorter q [] len all fits = omega arith
-shorter q (m ∷ rest) len all fits = omega (arith, All-head (λ x. length x.words ≤ q.message_size) m rest all)
+shorter q x len all fits = search (rules, All-head)
 
 -- the first message of a queue is no longer than the queue allows
 pub first_short : (k : KernelState) (p place len : ℕ) (q : QueueState) → queue_in (place_at k.places place) ≡ Some q → IsQueue q → q.message_size ≤ len → message_length (outcome_of k p (Receives place)).0 ≤ len

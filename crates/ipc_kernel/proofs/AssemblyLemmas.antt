@@ -1,5 +1,5 @@
 -- Kernels that are assembled from their parts.
-use Rattle.std.proofs.Common.{◌≡◌, ◌≢◌, ℕ, ◌+◌, ◌-◌, ◌<◌, ◌≤◌, inl, inr, List, [], ◌∷◌, ◌++◌, length, get_or, take, Option, Some, None, refl, sym, ap, ◌∙◌, arith, suc, replicate, Bool, false, is_some}
+use Rattle.std.proofs.Common.{◌≡◌, ◌≢◌, ℕ, ◌+◌, ◌-◌, ◌<◌, ◌≤◌, List, [], ◌∷◌, ◌++◌, length, get_or, take, Option, Some, None, sym, ap, ◌∙◌, arith, suc, replicate, Bool, false, is_some, rules}
 use Rattle.std.specs.FinMap as fin
 use Rattle.std.specs.Ordering.{nat_cmp}
 use Rattle.std.specs.Cmp.Lexicographic.{slice_cmp}
@@ -8,13 +8,13 @@ use Rattle.std.proofs.lemmas.List.{ext_get_or, get_or_default, get_or-take, leng
 use Rattle.ipc_names.specs.Table.{NameMap}
 use Rattle.ipc_kernel.specs.declared.place.Place.{Place}
 use Rattle.ipc_kernel.specs.declared.place.Kind.{Kind}
-use Rattle.ipc_kernel.specs.declared.place.Kind.TheVariants.{Queue, Semaphore}
 use Rattle.ipc_kernel.specs.declared.place.Place.TheVariants.{Empty}
 use Rattle.ipc_kernel.specs.declared.process.OpenTables.{OpenTables}
 use Rattle.ipc_kernel.specs.Places.{place_at, place_or_empty, places_or_empty, padded}
 use Rattle.ipc_kernel.specs.Private.Index.{IsIndexOf, name_at, name_by}
 use Rattle.ipc_kernel.proofs.PlaceLemmas.{get_or-emptied, length-emptied}
-use Rattle.ipc_kernel.proofs.IndexLemmas.{index_put, index_same, place_at-get_or, place_at-past}
+use Rattle.ipc_kernel.proofs.IndexLemmas.{index_put, place_at-get_or, place_at-past}
+use Rattle.std.proofs.lemmas.Grind.{common_steps}
 
 -- the places below i are as the rule leaves them
 pub record SettledBelow (processes : List OpenTables) (ps : List Place) (i : ℕ) : Type 0 where
@@ -22,12 +22,7 @@ pub record SettledBelow (processes : List OpenTables) (ps : List Place) (i : ℕ
 
 pub settled_more : (processes : List OpenTables) (ps : List Place) (i : ℕ) (x : Place) → SettledBelow processes ps i → i < length ps
     → place_or_empty processes i (get_or ps i x) ≡ get_or ps i x → SettledBelow processes ps (i + 1)
-settled_more processes ps i x inv h is = record {
-  below = λ k d lt in_range. elim (cases_eq k i) [
-    | inl same ↦ rw (same, get_or_default ps i d x h) is
-    | inr apart ↦ inv.below k d (omega arith) in_range
-  ];
-}
+settled_more processes ps i x inv h is = search (rules, cases_eq, get_or_default)
 
 pub settled_all : (processes : List OpenTables) (ps : List Place) (i : ℕ) → length ps ≤ i → SettledBelow processes ps i → places_or_empty processes ps ≡ ps
 settled_all processes ps i h inv = ext_get_or Empty _ _ (length-emptied processes ps) (λ k lt.
@@ -50,18 +45,10 @@ padded_more n ps h =
 
 -- the place before the end is empty, and is left out
 pub padded_less : (n i : ℕ) (ps : List Place) (d : Place) → 0 < i → i ≤ length ps → length ps ≡ n → get_or ps (i - 1) d ≡ Empty → padded n (take i ps) ≡ ps → padded n (take (i - 1) ps) ≡ ps
-padded_less n i ps d positive h all e is =
-    let more : i ≡ (i - 1) + 1 = omega arith in
-    let less : i - 1 < length ps = omega arith in
-    let cut : take i ps ≡ take (i - 1) ps ++ Empty ∷ [] = ap (λ m. take m ps) more ∙ take_more ps (i - 1) d less ∙ ap (λ x. take (i - 1) ps ++ x ∷ []) e in
-    let short : length (take (i - 1) ps) < n = omega (arith, length-take-le (i - 1) ps (omega arith)) in
-    sym (padded_more n (take (i - 1) ps) short) ∙ ap (padded n) (sym cut) ∙ is
+padded_less n i ps d positive h all e is = grind (arith, common_steps, take_more, length-take-le, padded_more)
 
 place_of_rest : (ps : List Place) (i k : ℕ) → i < length ps → k ≢ i → place_at (take (i + 1) ps) k ≡ place_at (take i ps) k
-place_of_rest ps i k h apart = elim (cases_lt k i) [
-  | inl less ↦ place_at-get_or (take (i + 1) ps) k ∙ get_or-take (i + 1) ps k Empty (omega arith) ∙ sym (get_or-take i ps k Empty less) ∙ sym (place_at-get_or (take i ps) k)
-  | inr past ↦ place_at-past (take (i + 1) ps) k (omega (arith, length-take-le (i + 1) ps (omega arith))) ∙ sym (place_at-past (take i ps) k (omega (arith, length-take-le i ps (omega arith))))
-]
+place_of_rest ps i k h apart = search (rules, cases_lt, place_at-get_or, get_or-take, place_at-past, length-take-le)
 
 place_here : (ps : List Place) (i : ℕ) (d : Place) → i < length ps → place_at (take (i + 1) ps) i ≡ get_or ps i d
 place_here ps i d h = place_at-get_or (take (i + 1) ps) i ∙ get_or-take (i + 1) ps i Empty (omega arith) ∙ get_or_default ps i Empty d h
@@ -71,24 +58,17 @@ nothing_here ps i h = place_at-past (take i ps) i (omega (arith, length-take-le 
 
 -- an empty place has no name
 pub nameless : (kind : Kind) → name_by kind Empty ≡ None
-nameless Queue = refl
-nameless Semaphore = refl
+nameless x = search rules
 
 -- a place with a name more
 pub named_more : (name_of : Place → Option (List ℕ)) (ps : List Place) (i : ℕ) (n : List ℕ) (t : NameMap) (d : Place) → name_of Empty ≡ None → i < length ps
     → IsIndexOf (name_at name_of (take i ps)) t → name_of (get_or ps i d) ≡ Some n → fin.get t n ≡ None → IsIndexOf (name_at name_of (take (i + 1) ps)) (fin.insert t n i)
-named_more name_of ps i n t d nameless h index named absent =
-    index_put (name_at name_of (take i ps)) (name_at name_of (take (i + 1) ps)) t n i index absent (ap name_of (nothing_here ps i h) ∙ nameless)
-    (ap name_of (place_here ps i d h) ∙ named) (λ k apart. ap name_of (place_of_rest ps i k h apart))
+named_more name_of ps i n t d nameless h index named absent = search (rules, nameless, index_put, nothing_here, place_here, place_of_rest)
 
 -- a place without a name more
 pub nameless_more : (name_of : Place → Option (List ℕ)) (ps : List Place) (i : ℕ) (t : NameMap) (d : Place) → name_of Empty ≡ None → i < length ps
     → IsIndexOf (name_at name_of (take i ps)) t → name_of (get_or ps i d) ≡ None → IsIndexOf (name_at name_of (take (i + 1) ps)) t
-nameless_more name_of ps i t d nameless h index unnamed =
-    index_same (name_at name_of (take i ps)) (name_at name_of (take (i + 1) ps)) t index (λ k. elim (cases_eq k i) [
-      | inl same ↦ rw same (ap name_of (place_here ps i d h) ∙ unnamed ∙ sym (ap name_of (nothing_here ps i h) ∙ nameless))
-      | inr apart ↦ ap name_of (place_of_rest ps i k h apart)
-    ])
+nameless_more name_of ps i t d nameless h index unnamed = search (rules, place_here, nothing_here, place_of_rest)
 
 -- no place
 pub named_none : (name_of : Place → Option (List ℕ)) (t : NameMap) → name_of Empty ≡ None → t ≡ fin.empty → IsIndexOf (name_at name_of []) t
@@ -99,5 +79,4 @@ named_none name_of t nameless e = record {
 
 -- nothing was found
 pub not_found : (o p : Option ℕ) (b : Bool) → o ≡ p → b ≡ is_some o → b ≡ false → p ≡ None
-not_found None p b e f g = sym e
-not_found (Some i) p b e f g = cc
+not_found x p b e f g = search rules

@@ -1,28 +1,25 @@
 -- What holds of every answer, whatever the kernel and the call.
-use Rattle.std.proofs.Common.{◌≡◌, ℕ, ◌&&◌, ◌||◌, Bool, true, false, cond, not, nat_lt, nat_le, ◌==◌, List, [], ◌∷◌, length, Option, Some, None, Result, Ok, Err, IfOk, IsTrue, ◌<◌, refl, sym, subst, arith, IsSomeAnd, unwrap_or, length-set, position}
-use Rattle.std.proofs.lemmas.Bool.{false≢true, or_left, or_right}
+use Rattle.std.proofs.Common.{◌≡◌, ℕ, ◌&&◌, ◌||◌, Bool, cond, not, nat_lt, nat_le, ◌==◌, List, [], ◌∷◌, length, Option, Some, None, Result, Ok, Err, IfOk, IsTrue, refl, sym, subst, length-set, position, rules}
 use Rattle.ipc_names.specs.declared.errno.Errno.{Errno}
 use Rattle.ipc_names.specs.declared.flags.Flags.{Flags}
 use Rattle.ipc_names.specs.Flags.{flags_read, has_flag, o_creat, o_excl}
 use Rattle.ipc_objects.specs.Limits.{mq_prio_max, sem_value_max}
 use Rattle.ipc_objects.specs.declared.queue.Message.{Message}
-use Rattle.ipc_objects.specs.Queue.{QueueState, empty_queue}
+use Rattle.ipc_objects.specs.Queue.{QueueState}
 use Rattle.ipc_kernel.specs.declared.place.Place.{Place}
 use Rattle.ipc_kernel.specs.declared.process.OpenTables.{OpenTables}
 use Rattle.ipc_kernel.specs.declared.process.Descriptor.{Descriptor}
 use Rattle.ipc_kernel.specs.declared.call.Call.{Call}
 use Rattle.ipc_kernel.specs.declared.call.Call.TheVariants.{MqOpen, MqClose, MqUnlink, MqSend, MqReceive, MqGetattr, MqSetattr, SemOpen, SemClose, SemUnlink, SemWait, SemTrywait, SemPost, SemGetvalue, Exit}
 use Rattle.ipc_kernel.specs.declared.call.Reply.{Reply}
-use Rattle.ipc_kernel.specs.declared.call.Reply.TheVariants.{Plain, Message as received}
+use Rattle.ipc_kernel.specs.declared.call.Reply.TheVariants.{Plain}
 use Rattle.ipc_kernel.specs.declared.call.Answer.{Answer}
 use Rattle.ipc_kernel.specs.declared.call.Answer.TheVariants.{Done, Wait}
 use Rattle.ipc_kernel.specs.Kernel.{KernelState, IsSettled}
 use Rattle.ipc_kernel.specs.Processes.{descriptor_of, slot_of, slot_for, free_descriptor_of, free_slot_of}
-use Rattle.ipc_kernel.specs.Places.{places_or_empty, is_empty, are_sizes, queue_named, semaphore_named, queue_in, place_at}
-use Rattle.ipc_kernel.specs.Private.Messages.{HasMessage}
-use Rattle.ipc_kernel.specs.Private.Decisions.{outcome_of, reply_with_first, decision_receives, decision_may_grow, decision_may_share, IsPossible, FitsBuffer, FitsLimit}
+use Rattle.ipc_kernel.specs.Places.{places_or_empty, is_empty, are_sizes, queue_named, semaphore_named}
+use Rattle.ipc_kernel.specs.Private.Decisions.{outcome_of, decision_receives, decision_may_grow, decision_may_share, IsPossible, FitsBuffer, FitsLimit}
 use Rattle.ipc_kernel.specs.declared.kernel.decision.Decision.{Decision}
-use Rattle.ipc_kernel.specs.declared.kernel.decision.Decision.TheVariants.{Refused, Waits, Receives, Answered}
 use Rattle.ipc_kernel.specs.Outcomes.{Outcome, waiting, wait_or_again, open_queue, open_semaphore, unlink}
 use Rattle.ipc_kernel.specs.Queues.{mq_send, take_first, mq_receive, mq_getattr, mq_setattr, mq_close, sizes_asked, new_descriptor, mq_create_at, mq_create, mq_look_up, mq_open}
 use Rattle.ipc_kernel.specs.Semaphores.{sem_getvalue, sem_post, sem_wait, sem_trywait, sem_close, new_slot, one_more_open, sem_open_place, sem_create_at, sem_create, sem_look_up, sem_open}
@@ -55,22 +52,14 @@ lawful_waits c k can = record { form = λ s. tt; waits = λ e. can; unchanged = 
 
 lawful_done : (c : Call) (k : KernelState) (r : Reply) (places : List Place) (processes : List OpenTables) → (IsShort c (Done r) → IsReplyTo c r) → length processes ≡ length k.processes
     → IsLawful c k (Done r, record { places = places_or_empty processes places; processes = processes })
-lawful_done c k r places processes form count = record {
-  form = form;
-  waits = λ e. absurd (reply_is_no_wait r e);
-  unchanged = λ e. absurd (reply_is_no_wait r e);
-  count = count;
-  settled = λ s. emptied-emptied processes places;
-}
+lawful_done c k r places processes form count = search (rules, reply_is_no_wait, emptied-emptied)
 
 lawful_if : (c : Call) (k : KernelState) (b : Bool) (x y : Outcome) → IsLawful c k x → IsLawful c k y → IsLawful c k (cond b x y)
-lawful_if c k true x y h i = h
-lawful_if c k false x y h i = i
+lawful_if c k z x y h i = search rules
 
 -- a call on what is found, or isn't
 lawful_found : {A : Type 0} (c : Call) (k : KernelState) (call : Option A → Outcome) → IsLawful c k (call None) → ((x : A) → IsLawful c k (call (Some x))) → (o : Option A) → IsLawful c k (call o)
-lawful_found c k call none some None = none
-lawful_found c k call none some (Some x) = some x
+lawful_found c k call none some x = search rules
 
 lawful_blocked : (c : Call) (k : KernelState) (d : Descriptor) → IsTrue (may_wait c) → IsLawful c k (wait_or_again k d)
 lawful_blocked c k d can = lawful_if c k d.nonblock _ _ (lawful_refused c k _) (lawful_waits c k can)
@@ -89,9 +78,7 @@ lawful_first m len k d q (x ∷ rest) = lawful_done (MqReceive m len) k _ _ _ (�
 
 lawful_received : (m len : ℕ) (k : KernelState) (o : Option (Descriptor × QueueState)) → IsLawful (MqReceive m len) k (mq_receive k len o)
 lawful_received m len k None = lawful_refused (MqReceive m len) k _
-lawful_received m len k (Some held) =
-    lawful_if (MqReceive m len) k (held.0.access == 1) _ _ (lawful_refused (MqReceive m len) k _)
-    (lawful_if (MqReceive m len) k (nat_lt len held.1.message_size) _ _ (lawful_refused (MqReceive m len) k _) (lawful_first m len k held.0 held.1 held.1.messages))
+lawful_received m len k (Some held) = search (rules, lawful_if, lawful_refused, lawful_first)
 
 lawful_queue_opened : (c : Call) (k : KernelState) (p : ℕ) (name : List ℕ) (sizes : ℕ × ℕ) (r : Result Flags Errno) → IsLawful c k (mq_open k p name sizes r)
 lawful_queue_opened c k p name sizes (Err e) = lawful_refused c k _
@@ -184,33 +171,13 @@ decided_form k p c d same size limit = subst (λ (o : Outcome). IsAnswerTo c o.0
 -- the same of what a function gives with an answer in it, if it gives something
 pub given_form : {X E : Type 0} (r : Result X E) (Q : X → Type 0) (in_it : X → Answer) (k : KernelState) (p : ℕ) (c : Call) (d : Decision) → outcome_of k p d ≡ answer k p c
     → FitsBuffer c (answer k p c).0 → FitsLimit c (answer k p c).0 → ((x : X) → Q x → in_it x ≡ (outcome_of k p d).0) → IfOk r Q → IfOk r (λ x. IsAnswerTo c (in_it x))
-given_form (Err e) Q in_it k p c d same size limit is given = tt
-given_form (Ok x) Q in_it k p c d same size limit is given = subst (λ a. IsAnswerTo c a) (sym (is x given)) (decided_form k p c d same size limit)
-
--- a message answers mq_receive alone
-message_received : (c : Call) (words : List ℕ) (priority : ℕ) → IsReplyTo c (received words priority) → IsTrue (is_receive c)
-message_received (MqReceive d len) words priority h = refl
-message_received other words priority h = absurd h
-
-first_received : (c : Call) (ms : List Message) → 0 < length ms → IsReplyTo c (reply_with_first ms) → IsTrue (is_receive c)
-first_received c [] some h = absurd (omega (arith, some))
-first_received c (m ∷ rest) some h = message_received c m.words m.priority h
+given_form x y in_it k p c d same size limit is given = search (rules, decided_form)
 
 -- a decision to take a message is one of mq_receive alone
 pub received_alone : (k : KernelState) (p : ℕ) (c : Call) (d : Decision) → IsPossible k d → IsAnswerTo c (outcome_of k p d).0 → IsTrue (decision_receives d) → IsTrue (is_receive c)
-received_alone k p c (Refused e) possible form is = absurd (false≢true is)
-received_alone k p c Waits possible form is = absurd (false≢true is)
-received_alone k p c (Answered reply change) possible form is = absurd (false≢true is)
-received_alone k p c (Receives place) possible form is = known (queue_in (place_at k.places place)) possible form
-  where
-    known : (o : Option QueueState) → IsSomeAnd o HasMessage → IsReplyTo c (reply_with_first (unwrap_or o (empty_queue (0, 0))).messages) → IsTrue (is_receive c)
-    known None some h = absurd some
-    known (Some q) some h = first_received c q.messages some h
+received_alone k p c x possible form is = search rules
 
 -- beside what takes memory, words are shared for mq_receive alone
 pub grown_or_received : (k : KernelState) (p : ℕ) (c : Call) (d : Decision) → IsPossible k d → IsAnswerTo c (outcome_of k p d).0
     → (IsTrue (decision_may_grow d) → IsTrue (may_grow c)) → IsTrue (decision_may_share d) → IsTrue (may_grow c || is_receive c)
-grown_or_received k p c (Refused e) possible form grows is = absurd (false≢true is)
-grown_or_received k p c Waits possible form grows is = absurd (false≢true is)
-grown_or_received k p c (Receives place) possible form grows is = or_right (may_grow c) (is_receive c) (received_alone k p c (Receives place) possible form refl)
-grown_or_received k p c (Answered reply change) possible form grows is = or_left (may_grow c) (is_receive c) (grows is)
+grown_or_received k p c x possible form grows is = search rules

@@ -1,4 +1,4 @@
-use Rattle.std.proofs.Common.{◌≡◌, ap}
+use Rattle.std.proofs.Common.{◌≡◌, ap, rules}
 use Rattle.ipc_kernel.specs.Outcomes.{Outcome}
 use Rattle.ipc_kernel.specs.Private.Decisions.{outcome_of}
 use Rattle.ipc_kernel.proofs.LawfulAnswers.{given_form, decided_form, grown_or_received}
@@ -11,7 +11,4 @@ returns-clause-form c =
     (λ r is. ap (λ (o : Outcome). o.0) is) c.carry_out_with_copy-answers.ensures.outcome
 
 pub returns-clause-memory : goal.returns-clause-memory
-returns-clause-memory c failed =
-    grown_or_received c.args.self.now c.args.pid c.args.call.now c.decide-decision.result c.decide-decision.ensures.possible
-    (decided_form c.args.self.now c.args.pid c.args.call.now c.decide-decision.result c.decide-decision.ensures.outcome c.decide-decision.ensures.size c.decide-decision.ensures.limit)
-    c.decide-decision.ensures.memory (c.carry_out_with_copy-answers.ensures.memory failed)
+returns-clause-memory c failed = search (rules, grown_or_received, decided_form)

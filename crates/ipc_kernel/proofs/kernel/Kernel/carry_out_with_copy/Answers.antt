@@ -1,6 +1,5 @@
-use Rattle.std.proofs.Common.{ap, sym, ◌∙◌}
+use Rattle.std.proofs.Common.{ap, sym, ◌∙◌, rules}
 use Rattle.ipc_kernel.specs.Outcomes.{Outcome}
-use Rattle.ipc_kernel.specs.Private.Decisions.{reply_of}
 use Rattle.ipc_kernel.specs.declared.call.Answer.TheVariants.{Done}
 use Rattle.ipc_kernel.proofs.kernel.Kernel.carry_out_with_copy.Goals as goal
 
@@ -12,5 +11,4 @@ returns-in_ok-copy-in-Receives-clause-copy c =
     ap (λ r. Done r) c.in_ok-copy-in-Receives.ensures.first ∙ sym (ap (λ (o : Outcome). o.0) (c.receive-reply.ensures.outcome c.args.pid))
 
 pub returns-in_ok-change-in-Answered-clause-outcome : goal.returns-in_ok-change-in-Answered-clause-outcome
-returns-in_ok-change-in-Answered-clause-outcome c =
-    rw (c.in-Answered.is, c.reply.ensures.value) (c.in_ok-change-in-Answered.ensures.ok (reply_of c.in-Answered.reply))
+returns-in_ok-change-in-Answered-clause-outcome c = search (rules, c.in-Answered.is, c.reply.ensures.value, c.in_ok-change-in-Answered.ensures.ok, c.in-Answered.reply)

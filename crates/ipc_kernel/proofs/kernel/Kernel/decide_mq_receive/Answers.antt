@@ -1,5 +1,4 @@
-use Rattle.std.proofs.Common.{arith}
-use Rattle.ipc_objects.specs.Limits.{mq_msgsize_max}
+use Rattle.std.proofs.Common.{arith, rules}
 use Rattle.ipc_kernel.proofs.AnswerLemmas.{first_short}
 use Rattle.ipc_kernel.proofs.kernel.Kernel.decide_mq_receive.Goals as goal
 
@@ -11,5 +10,4 @@ returns-clause-size c =
     first_short c.args.self.now c.args.pid c.in-Some.descriptor.place c.args.len c.in-Some.queue.now c.in-Some.ensures.there c.attr-size.ensures.ranges (omega (arith, c.attr-size.ensures.size))
 
 pub returns-clause-limit : goal.returns-clause-limit
-returns-clause-limit c =
-    first_short c.args.self.now c.args.pid c.in-Some.descriptor.place mq_msgsize_max c.in-Some.queue.now c.in-Some.ensures.there c.attr-size.ensures.ranges c.attr-size.ensures.ranges.size_at_most
+returns-clause-limit c = search (rules, first_short, c.in-Some.descriptor.place, c.in-Some.ensures.there, c.attr-size.ensures.ranges, c.attr-size.ensures.ranges.size_at_most)

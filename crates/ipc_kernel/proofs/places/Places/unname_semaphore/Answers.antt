@@ -1,7 +1,6 @@
 use Rattle.ipc_kernel.proofs.IndexLemmas.{indexed_without_semaphore}
 use Rattle.ipc_kernel.proofs.places.Places.unname_semaphore.Goals as goal
+use Rattle.std.proofs.Common.{rules}
 
 pub invariant_of-self : goal.invariant_of-self
-invariant_of-self c =
-    indexed_without_semaphore c.self.inside.places.items _ _ _ c.args.place c.args.name.now _ _ c.self.invariant (rw (← c.self.view_is) at c.requires.named)
-    c.take.ensures.removed c.index_mut.ensures.value c.unname.ensures.unnamed
+invariant_of-self c = search (rules, indexed_without_semaphore, c.self.inside.places.items, c.self.invariant, c.self.view_is)

@@ -1,4 +1,4 @@
-use Rattle.std.proofs.Common.{refl, ◌∙◌}
+use Rattle.std.proofs.Common.{refl, ◌∙◌, rules}
 use Rattle.ipc_kernel.proofs.CountLemmas.{held_queue_is_counted, room_for, counts_with_descriptor}
 use Rattle.ipc_kernel.specs.declared.process.Descriptor.{Descriptor}
 use Rattle.ipc_kernel.specs.Processes.{descriptor_of, descriptor_refers}
@@ -6,11 +6,7 @@ use Rattle.ipc_kernel.specs.Private.Counts.{indicator}
 use Rattle.ipc_kernel.proofs.processes.Processes.set_descriptor.Goals as goal
 
 pub forget_descriptor-requires : goal.forget_descriptor-requires
-forget_descriptor-requires c =
-    record {
-      noted = rw (c.descriptor-held.ensures.held, ← c.self.view_is)
-          (held_queue_is_counted c.self.inside.tables.items c.self.inside.counts c.args.pid c.args.mqd c.self.invariant (rw (← c.self.view_is) at c.requires.process) c.requires.mqd);
-    }
+forget_descriptor-requires c = search (rules, held_queue_is_counted)
 
 pub note_descriptor-requires-clause-room : goal.note_descriptor-requires-clause-room
 note_descriptor-requires-clause-room c =

@@ -1,4 +1,4 @@
-use Rattle.std.proofs.Common.{refl, ◌∙◌}
+use Rattle.std.proofs.Common.{refl, ◌∙◌, rules}
 use Rattle.ipc_kernel.proofs.CountLemmas.{held_is_counted, room_for, counts_with_slot}
 use Rattle.ipc_kernel.specs.declared.process.Slot.{Slot}
 use Rattle.ipc_kernel.specs.Processes.{slot_of, slot_refers}
@@ -6,11 +6,7 @@ use Rattle.ipc_kernel.specs.Private.Counts.{indicator}
 use Rattle.ipc_kernel.proofs.processes.Processes.set_slot.Goals as goal
 
 pub forget_slot-requires : goal.forget_slot-requires
-forget_slot-requires c =
-    record {
-      noted = rw (c.slot-held.ensures.held, ← c.self.view_is)
-          (held_is_counted c.self.inside.tables.items c.self.inside.counts c.args.pid c.args.slot c.self.invariant (rw (← c.self.view_is) at c.requires.process) c.requires.slot);
-    }
+forget_slot-requires c = search (rules, held_is_counted)
 
 pub note_slot-requires-clause-room : goal.note_slot-requires-clause-room
 note_slot-requires-clause-room c =
