@@ -1,16 +1,16 @@
 -- Outcomes of one call over two kernels that are alike.
-use Rattle.std.proofs.Common.{◌≡◌, ℕ, ◌<◌, false, List, length, set, Option, Some, None, refl, sym, ap, subst, ◌∙◌, position, arith}
+use Rattle.std.proofs.Common.{◌≡◌, ℕ, ◌<◌, false, List, length, set, Option, Some, None, refl, sym, ap, subst, ◌∙◌, position, arith, rules}
 use Rattle.std.specs.Option.{option_map}
 use Rattle.std.proofs.lemmas.Option.{unwrap_or-slice_get}
 use Rattle.std.proofs.lemmas.List.{map-set}
 use Rattle.std.proofs.lemmas.List.Quantifiers.{position-Some}
 use Rattle.ipc_kernel.specs.declared.place.Place.{Place}
-use Rattle.ipc_kernel.specs.declared.place.Place.TheVariants.{Empty, Mq, Sem}
+use Rattle.ipc_kernel.specs.declared.place.Place.TheVariants.{Empty}
 use Rattle.ipc_kernel.specs.declared.process.OpenTables.{OpenTables}
 use Rattle.ipc_kernel.specs.declared.call.Reply.{Reply}
 use Rattle.ipc_kernel.specs.declared.call.Reply.TheVariants.{Plain}
 use Rattle.ipc_kernel.specs.Processes.{process_at, process_refers}
-use Rattle.ipc_kernel.specs.Places.{place_at, is_empty, queue_name, semaphore_name, is_name, place_named, without_name}
+use Rattle.ipc_kernel.specs.Places.{place_at, is_empty, queue_name, semaphore_name, place_named, without_name}
 use Rattle.ipc_kernel.specs.Kernel.{KernelState}
 use Rattle.ipc_kernel.specs.Outcomes.{Outcome, completion, unlink}
 use Rattle.ipc_kernel.specs.Alike.{renamed_process, IsRenaming, IsAlike, AreDistinct, IsConsistent}
@@ -20,6 +20,7 @@ use Rattle.ipc_store.proofs.Alikes.{renaming_to, renaming_done, renaming_place, 
 use Rattle.ipc_store.proofs.Consistents.{IsFree, consistent_done, consistent_place, consistent_tables}
 use Rattle.ipc_store.proofs.NamedPlaces.{name_found}
 use Rattle.ipc_store.proofs.WorkPlaces.{Lookup, Named, New, Nowhere, IsFound, found}
+use Rattle.std.proofs.lemmas.Grind.{common_steps}
 
 -- a consistent kernel, and the same with its places renamed
 pub record IsTwin (f g : ℕ → ℕ) (k j : KernelState) : Type 0 where
@@ -59,9 +60,7 @@ twin_tables f g k j t p u refers = record {
 -- a place without its name is empty if it was, and has no name but that
 unnamed : (p : Place) → (without_name p ≡ Empty → p ≡ Empty) × ((n : List ℕ) → queue_name (without_name p) ≡ Some n → queue_name p ≡ Some n)
     × ((n : List ℕ) → semaphore_name (without_name p) ≡ Some n → semaphore_name p ≡ Some n)
-unnamed Empty = (λ e. refl, λ n e. e, λ n e. e)
-unnamed (Mq name old) = (λ e. cc, λ n e. cc, λ n e. e)
-unnamed (Sem name value) = (λ e. cc, λ n e. e, λ n e. cc)
+unnamed x = search rules
 
 pub like_unlinked : (f g : ℕ → ℕ) (k j : KernelState) → IsTwin f g k j → (o : Option ℕ) → AreLike (unlink k o) (unlink j (option_map f o))
 like_unlinked f g k j t None = record { answer = refl; consistent = t.consistent; alike = (f, g, t.renaming) }
@@ -74,8 +73,7 @@ like_unlinked f g k j t (Some a) =
 
 -- a name that isn't found stands nowhere
 pub not_named : (name_of : Place → Option (List ℕ)) (ps : List Place) (n : List ℕ) (i : ℕ) → name_of Empty ≡ None → place_named name_of ps n ≡ None → name_of (place_at ps i) ≡ Some n → ⊥
-not_named name_of ps n i nameless none there =
-    position_there (λ p. is_name n (name_of p)) ps i Empty (place_within name_of ps i n nameless there) (is_name-itself n _ (sym (ap name_of (unwrap_or-slice_get ps i Empty)) ∙ there)) none
+not_named name_of ps n i nameless none there = grind (arith, common_steps, position_there, place_within, is_name-itself, unwrap_or-slice_get)
 
 -- both find a name in the same place
 pub found_named : (f g : ℕ → ℕ) (k j : KernelState) → IsRenaming f g k j → (name_of : Place → Option (List ℕ)) → name_of Empty ≡ None → AreDistinct name_of k.places → (n : List ℕ)

@@ -1,12 +1,11 @@
 -- Kernels of which the one is the other with its places renamed, and what each change makes of both.
-use Rattle.std.proofs.Common.{◌≡◌, ◌↔◌, ℕ, ◌==◌, ◌<◌, ◌≤◌, true, false, List, length, map, set, length-set, refl, sym, ap, subst, ◌∙◌, inl, inr, arith, if◌then◌else◌}
+use Rattle.std.proofs.Common.{◌≡◌, ℕ, ◌==◌, ◌<◌, ◌≤◌, false, List, length, map, set, length-set, refl, sym, ap, subst, ◌∙◌, inl, inr, arith, if◌then◌else◌, rules}
 use Rattle.std.proofs.lemmas.Bool.{cases_lt, eq-eqb, ne_eqb}
 use Rattle.std.proofs.lemmas.Bool.Decides.{eqb_tells}
 use Rattle.std.proofs.lemmas.Option.{unwrap_or-slice_get}
 use Rattle.ipc_kernel.specs.declared.place.Place.{Place}
 use Rattle.ipc_kernel.specs.declared.place.Place.TheVariants.{Empty}
 use Rattle.ipc_kernel.specs.declared.process.OpenTables.{OpenTables}
-use Rattle.ipc_kernel.specs.Processes.{is_referred}
 use Rattle.ipc_kernel.specs.Places.{place_at, place_or_empty, places_or_empty}
 use Rattle.ipc_kernel.specs.Kernel.{KernelState}
 use Rattle.ipc_kernel.specs.Alike.{renamed_process, IsPermutation, IsRenaming, IsAlike, IsConsistent}
@@ -14,28 +13,18 @@ use Rattle.ipc_kernel.proofs.PlaceLemmas.{get_or-emptied, length-emptied}
 use Rattle.ipc_kernel.proofs.KernelLemmas.{kept-Empty}
 use Rattle.ipc_kernel.proofs.IndexLemmas.{place_at-set_same, place_at-set_other, place_at-past}
 use Rattle.ipc_store.proofs.Renamings.{processes_stay, renamed_twice, is_referred-renamed}
+use Rattle.std.proofs.lemmas.Grind.{common_steps}
 
 -- what a place holds once each without a name and a reference is emptied
 pub place_at-emptied : (processes : List OpenTables) (ps : List Place) (i : ℕ) → place_at (places_or_empty processes ps) i ≡ place_or_empty processes i (place_at ps i)
-place_at-emptied processes ps i = elim (cases_lt i (length ps)) [
-  | inl less ↦ unwrap_or-slice_get (places_or_empty processes ps) i Empty ∙ get_or-emptied processes ps i Empty less ∙ ap (place_or_empty processes i) (sym (unwrap_or-slice_get ps i Empty))
-  | inr past ↦ place_at-past (places_or_empty processes ps) i (omega (arith, length-emptied processes ps)) ∙ sym (ap (place_or_empty processes i) (place_at-past ps i past) ∙ kept-Empty processes i)
-]
+place_at-emptied processes ps i = grind (arith, common_steps, cases_lt, unwrap_or-slice_get, get_or-emptied, place_at-past, length-emptied, kept-Empty)
 
 -- the kernel whose places without a name and a reference are emptied
 abbrev pub done : KernelState → KernelState
 done k = record k { places = places_or_empty k.processes k.places }
 
 pub renaming_done : (f g : ℕ → ℕ) (k j : KernelState) → IsRenaming f g k j → IsRenaming f g (done k) (done j)
-renaming_done f g k j r = record {
-  permutation = r.permutation;
-  count = length-emptied j.processes j.places ∙ r.count ∙ sym (length-emptied k.processes k.places);
-  places = λ i. simp (place_at-emptied, referred, r.places);
-  processes = r.processes;
-}
-  where
-    referred : (i : ℕ) → is_referred j.processes (f i) ≡ is_referred k.processes i
-    referred i = ap (λ ps. is_referred ps (f i)) r.processes ∙ is_referred-renamed f g r.permutation k.processes i
+renaming_done f g k j r = grind (arith, common_steps, length-emptied, place_at-emptied, is_referred-renamed)
 
 -- a place of each is written
 pub renaming_place : (f g : ℕ → ℕ) (k j : KernelState) → IsRenaming f g k j → length k.places ≡ 64 → (a : ℕ) (x : Place)
@@ -74,35 +63,17 @@ permutation_itself = record { undone = λ n. refl; redone = λ n. refl; within =
 
 -- one renaming after another
 pub permutation_then : (f g h i : ℕ → ℕ) → IsPermutation f g → IsPermutation h i → IsPermutation (λ n. h (f n)) (λ n. g (i n))
-permutation_then f g h i p q = record {
-  undone = λ n. ap g (q.undone (f n)) ∙ p.undone n;
-  redone = λ n. ap h (p.redone (i n)) ∙ q.redone n;
-  within = λ n. (λ e. (p.within n).0 ((q.within (f n)).0 e), λ e. (q.within (f n)).1 ((p.within n).1 e));
-}
+permutation_then f g h i p q = search rules
 
 pub renaming_then : (f g h i : ℕ → ℕ) (k j l : KernelState) → IsRenaming f g k j → IsRenaming h i j l → IsRenaming (λ n. h (f n)) (λ n. g (i n)) k l
-renaming_then f g h i k j l r q = record {
-  permutation = permutation_then f g h i r.permutation q.permutation;
-  count = q.count ∙ r.count;
-  places = λ n. q.places (f n) ∙ r.places n;
-  processes = q.processes ∙ ap (map (renamed_process h)) r.processes ∙ renamed_twice f h k.processes;
-}
+renaming_then f g h i k j l r q = grind (arith, common_steps, permutation_then, renamed_twice)
 
 pub alike_then : (k j l : KernelState) → IsAlike k j → IsAlike j l → IsAlike k l
 alike_then k j l a b = (λ n. b.0 (a.0 n), λ n. a.1 (b.1 n), renaming_then a.0 a.1 b.0 b.1 k j l a.2 b.2)
 
 -- a kernel is alike itself
 pub alike_itself : (k : KernelState) → IsAlike k k
-alike_itself k = (
-  λ i. i,
-  λ i. i,
-  record {
-    permutation = permutation_itself;
-    count = refl;
-    places = λ i. refl;
-    processes = sym (processes_stay (λ i. i) k.processes (λ n e. refl));
-  },
-)
+alike_itself k = grind (arith, common_steps, permutation_itself, processes_stay)
 
 -- a renaming undone
 pub alike_back : (k j : KernelState) → IsAlike k j → IsAlike j k
@@ -152,36 +123,14 @@ swap_other x y i e d = rw (e, d) refl
 
 -- what can be said of an exchanged place by its kind
 by_swap : (P : ℕ → ℕ → Type 0) (x y i : ℕ) → (i ≡ x → P i y) → (i ≡ y → P i x) → ((i == x) ≡ false → (i == y) ≡ false → P i i) → P i (swap x y i)
-by_swap P x y i first second other = elim (eqb_tells i x) [
-  | inl same ↦ subst (P i) (sym (swap_first x y i same.1)) (first same.1)
-  | inr apart ↦ elim (eqb_tells i y) [
-    | inl met ↦ subst (P i) (sym (swap_second x y i met.1)) (second met.1)
-    | inr different ↦ subst (P i) (sym (swap_other x y i apart.0 different.0)) (other apart.0 different.0)
-  ]
-]
-
-swap_twice : (x y i : ℕ) → swap x y (swap x y i) ≡ i
-swap_twice x y i = by_swap (λ n m. swap x y m ≡ n) x y i (λ e. swap_second x y y refl ∙ sym e) (λ e. swap_first x y x refl ∙ sym e) (swap_other x y i)
+by_swap P x y i first second other = search rules
 
 pub swap_permutes : (x y : ℕ) → x < 64 → y < 64 → IsPermutation (swap x y) (swap x y)
-swap_permutes x y h d = record {
-  undone = swap_twice x y;
-  redone = swap_twice x y;
-  within = λ i. by_swap (λ n m. (m < 64) ↔ (n < 64)) x y i (λ e. (λ _. omega arith, λ _. d)) (λ e. (λ _. omega arith, λ _. h)) (λ _ _. (λ e. e, λ e. e));
-}
+swap_permutes x y h d = search rules
 
 -- two empty places of a kernel can be exchanged
 renaming_swap : (k : KernelState) (x y : ℕ) → IsConsistent k → x < 64 → y < 64 → place_at k.places x ≡ Empty → place_at k.places y ≡ Empty → IsRenaming (swap x y) (swap x y) k k
-renaming_swap k x y s h d e f = record {
-  permutation = swap_permutes x y h d;
-  count = refl;
-  places = λ i. by_swap (λ n m. place_at k.places m ≡ place_at k.places n) x y i
-      (λ same. f ∙ sym (ap (place_at k.places) same ∙ e)) (λ same. e ∙ sym (ap (place_at k.places) same ∙ f)) (λ _ _. refl);
-  processes = sym (processes_stay (swap x y) k.processes (λ n here. swap_other x y n (apart n x here (s.referred x e)) (apart n y here (s.referred y f))));
-}
-  where
-    apart : (n z : ℕ) → is_referred k.processes n ≡ true → is_referred k.processes z ≡ false → (n == z) ≡ false
-    apart n z here none = ne_eqb n z (λ same. let f = sym here ∙ ap (is_referred k.processes) same ∙ none in cc)
+renaming_swap k x y s h d e f = grind (arith, common_steps, swap_permutes, by_swap, processes_stay, swap_other, ne_eqb)
 
 -- a renaming of a kernel with an empty place a that takes it to an empty place b
 pub renaming_to : (f g : ℕ → ℕ) (k j : KernelState) (a b : ℕ) → IsConsistent k → IsRenaming f g k j → a < 64 → b < 64 → place_at k.places a ≡ Empty → place_at j.places b ≡ Empty

@@ -23,25 +23,12 @@ use Rattle.ipc_kernel.proofs.IndexLemmas.{place_at-get_or, place_at-past, place_
 use Rattle.ipc_kernel.proofs.PlaceLemmas.{length-emptied}
 use Rattle.ipc_store.proofs.KeptLemmas.{place_of_row, long_row, rows_grow, rows_with, kernel_of_row}
 use Rattle.ipc_store.proofs.NumberLemmas.{numbered, numbers_there, map_at}
+use Rattle.std.proofs.lemmas.Grind.{common_steps}
 
 -- all numbers stand where a renaming takes their places, if as many do as stand there, and these have their places from among so many
 pub all_moved : (ns vs : List ℕ) (place number : ℕ) (r : Renaming) → Permutes r → place < length vs → length ns ≤ length vs → length vs ≤ 64
     → ((i : ℕ) → i < length vs → (renamed_by r.from i < length vs) × (slice_get vs (renamed_by r.to i) ≡ cond (i == place) (Some number) (slice_get ns i))) → IsMoved ns place number vs r.to
-all_moved ns vs place number r p inside few few_moved these = record {
-  inside = omega arith;
-  few = omega arith;
-  few_moved = few_moved;
-  there = λ i h. elim (cases_lt i (length vs)) [
-    | inl less ↦ (these i less).1
-    | inr past ↦
-        let f = renamed_by r.to in
-        let far : length vs ≤ f i = elim (cases_lt (f i) (length vs)) [ inl near ↦ absurd (let back : i < length vs = subst (λ m. m < length vs) (p.undone i) (these (f i) near).0 in omega arith) | inr far ↦ far ] in
-        slice_get_past vs (f i) far ∙ elim (eqb_tells i place) [
-          | inl same ↦ absurd (let e = same.1 in omega arith)
-          | inr apart ↦ rw apart.0 (sym (slice_get_past ns i (omega arith)))
-        ]
-  ];
-}
+all_moved ns vs place number r p inside few few_moved these = grind (arith, common_steps, cases_lt, slice_get_past, eqb_tells)
 
 -- a kernel that is alike a settled one is settled
 renaming_settled : (f g : ℕ → ℕ) (k j : KernelState) → IsRenaming f g k j → IsSettled k → IsSettled j

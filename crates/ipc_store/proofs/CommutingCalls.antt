@@ -1,5 +1,5 @@
 -- A process's own calls commute with the calls of other processes that take no name away.
-use Rattle.std.proofs.Common.{◌≡◌, ℕ, Bool, true, false, List, set, get_or-set_other, Option, Some, None, is_some, refl, sym, ap, subst, ◌∙◌, inl, inr}
+use Rattle.std.proofs.Common.{◌≡◌, ℕ, Bool, true, false, List, set, get_or-set_other, Option, Some, None, is_some, refl, sym, ap, subst, ◌∙◌, inl, inr, rules}
 use Rattle.std.specs.Option.{option_map}
 use Rattle.std.proofs.lemmas.List.{set_comm}
 use Rattle.std.proofs.lemmas.Option.{unwrap_or-slice_get}
@@ -98,8 +98,7 @@ own_local ps t c i l closes old finds h = record {
 
 -- what is there
 there : {A : Type 0} (o : Option A) → is_some o ≡ true → (x : A) × (o ≡ Some x)
-there None e = absurd (cc)
-there (Some x) e = (x, refl)
+there x e = search rules
 
 of_own : (ps : List Place) (t : OpenTables) (c : Call) → is_own ps c ≡ true → ChangesTables ps t (λ k p. answer k p c)
 unfolding answer
@@ -165,13 +164,10 @@ named_alike k j a named = all_by is_named j.places Empty (λ i.
     ap is_named (sym (ap (place_at j.places) (r.permutation.redone i)) ∙ r.places (a.1 i)) ∙ all_at is_named k.places (a.1 i) Empty refl named)
 
 same_truth : (b c : Bool) → (b ≡ true → c ≡ true) → (c ≡ true → b ≡ true) → c ≡ b
-same_truth true c h i = h refl
-same_truth false true h i = sym (i refl)
-same_truth false false h i = refl
+same_truth x c h i = search rules
 
 some_renamed : (f : ℕ → ℕ) (o : Option ℕ) → is_some (option_map f o) ≡ is_some o
-some_renamed f None = refl
-some_renamed f (Some i) = refl
+some_renamed f x = search rules
 
 pub own_alike : OwnAlike
 own_alike k j c s a = (own c, same_truth (are_named k.places) (are_named j.places) (named_alike k j a) (named_alike j k (alike_back k j a)))

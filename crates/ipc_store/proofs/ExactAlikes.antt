@@ -1,5 +1,5 @@
 -- A permutation that takes each place with a name or a reference where a renaming of a kernel does is a renaming of that kernel.
-use Rattle.std.proofs.Common.{◌≡◌, ℕ, ◌<◌, Bool, true, false, cond, ◌||◌, map, refl, sym, ap, ◌∙◌}
+use Rattle.std.proofs.Common.{◌≡◌, ℕ, ◌<◌, Bool, true, false, ◌||◌, map, refl, sym, ap, ◌∙◌, arith}
 use Rattle.std.proofs.lemmas.Bool.{or_right}
 use Rattle.ipc_kernel.specs.declared.place.Place.TheVariants.{Empty}
 use Rattle.ipc_store.specs.declared.renaming.Renaming.{Renaming}
@@ -10,6 +10,7 @@ use Rattle.ipc_kernel.specs.Alike.{renamed_process, IsPermutation, IsRenaming, I
 use Rattle.ipc_store.specs.Private.Renamings.{renamed_by, Permutes, Follows}
 use Rattle.ipc_store.proofs.Renamings.{map_where, process_where}
 use Rattle.ipc_store.proofs.Alikes.{place_at-emptied}
+use Rattle.std.proofs.lemmas.Grind.{common_steps}
 
 -- whether a place has a name or a reference
 abbrev is_kept : KernelState → ℕ → Bool
@@ -17,8 +18,7 @@ is_kept k n = has_name (place_at k.places n) || is_referred k.processes n
 
 -- a place that has neither is empty
 empty_else : (k : KernelState) → IsSettled k → (n : ℕ) → is_kept k n ≡ false → place_at k.places n ≡ Empty
-empty_else k settled n e =
-    sym (ap (λ ps. place_at ps n) settled) ∙ place_at-emptied k.processes k.places n ∙ ap (λ b. cond b (place_at k.places n) Empty) e
+empty_else k settled n e = grind (arith, common_steps, place_at-emptied)
 
 pub renaming_where : (f g h i : ℕ → ℕ) (k j : KernelState) → IsSettled k → IsRenaming f g k j → IsPermutation h i → ((n : ℕ) → is_kept k n ≡ true → h n ≡ f n) → IsRenaming h i k j
 renaming_where f g h i k j settled r p same = record {

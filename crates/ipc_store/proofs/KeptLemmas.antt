@@ -1,5 +1,5 @@
 -- Kernels that are kept as rows.
-use Rattle.std.proofs.Common.{◌≡◌, ℕ, ◌-◌, refl, ◌<◌, ◌≤◌, subst, inl, inr, List, [], ◌∷◌, ◌++◌, length, map, set, slice_get, unwrap_or, Option, Some, None, sym, ap, ◌∙◌, arith, replicate, IfSome, false, zero, suc}
+use Rattle.std.proofs.Common.{◌≡◌, ℕ, ◌-◌, refl, ◌<◌, ◌≤◌, subst, inl, inr, List, [], ◌∷◌, ◌++◌, length, map, set, slice_get, unwrap_or, Option, Some, None, sym, ap, ◌∙◌, arith, replicate, IfSome, false, zero, suc, rules}
 use Rattle.std.proofs.lemmas.Option.{slice_get_within, slice_get-map, slice_get-get_or, unwrap_or-slice_get}
 use Rattle.ipc_store.proofs.SettledTables.{place_at-empties}
 use Rattle.std.specs.Option.{option_map}
@@ -16,6 +16,7 @@ use Rattle.ipc_store.specs.Rows.{KernelRow, kernel_of, kept_kernels}
 use Rattle.ipc_store.specs.Private.KeptRows.{row, Grows, AddsRow, IsRow, AreRows}
 use Rattle.ipc_store.proofs.NumberLemmas.{numbered, mapped, map_at, map_within, written}
 use Rattle.ipc_store.proofs.RowLemmas.{grown_has, grown_only}
+use Rattle.std.proofs.lemmas.Grind.{common_steps}
 
 abbrev kernel : List Place → List OpenTables → KernelState
 kernel places processes = record { places = places; processes = processes }
@@ -28,31 +29,19 @@ rows_grow os qs ts us rows more_objects more_tables are = λ i r e. let is = are
 }
 
 kernel_stays : (os qs : List Place) (ts us : List OpenTables) (r : KernelRow) → Grows os qs → Grows ts us → IsRow os ts r → kernel_of qs us r ≡ kernel_of os ts r
-kernel_stays os qs ts us r more_objects more_tables is =
-    simp (
-      map_within (place_at qs) (place_at os) r.objects (λ i n e. let x = is.of_objects i n e in ap (λ o. unwrap_or o Empty) (more_objects n x.0 x.1 ∙ sym x.1)),
-      map_within (process_at us) (process_at ts) r.tables (λ i n e. let x = is.of_tables i n e in ap (λ o. unwrap_or o (record { descriptors = []; slots = [] })) (more_tables n x.0 x.1 ∙ sym x.1)),
-    )
+kernel_stays os qs ts us r more_objects more_tables is = grind (arith, common_steps, map_within)
 
 -- what is kept grows
 pub kept_grows : (os qs : List Place) (ts us : List OpenTables) (rows more : List KernelRow) → Grows os qs → Grows ts us → Grows rows more → AreRows os ts rows
     → GrowsKept (kept_kernels os ts rows) (kept_kernels qs us more)
-kept_grows os qs ts us rows more more_objects more_tables more_rows are = record {
-  objects = more_objects;
-  tables = more_tables;
-  kernels = λ i k e.
-      let r = mapped (kernel_of os ts) rows i k e in
-      map_at (kernel_of qs us) more i r.0 (more_rows i r.0 r.1) ∙ ap Some (kernel_stays os qs ts us r.0 more_objects more_tables (are i r.0 r.1) ∙ r.2);
-}
+kept_grows os qs ts us rows more more_objects more_tables more_rows are = grind (arith, common_steps, mapped, map_at, kernel_stays)
 
 -- rows with one more at most
 pub rows_with : (os : List Place) (ts : List OpenTables) (rows more : List KernelRow) (r : KernelRow) → AreRows os ts rows → IsRow os ts r → AddsRow rows more r → AreRows os ts more
-rows_with os ts rows more r are is (inl same) = rw same are
-rows_with os ts rows more r are is (inr new) = rw new (λ i q e. elim (grown_only rows r i q e) [ inl old ↦ are i q old | inr last ↦ rw last is ])
+rows_with os ts rows more r are is x = grind (arith, common_steps, grown_only)
 
 pub adds_grows : (rows more : List KernelRow) (r : KernelRow) → AddsRow rows more r → Grows rows more
-adds_grows rows more r (inl same) = λ i x e. rw same e
-adds_grows rows more r (inr new) = λ i x e. rw new (grown_has rows r i x e)
+adds_grows rows more r x = grind (arith, common_steps, grown_has)
 
 -- the kernel of a row by its parts
 pub kernel_of_parts : (os : List Place) (ts : List OpenTables) (rows : List KernelRow) (i : ℕ) (ns ms : List ℕ) (places : List Place) (processes : List OpenTables)
@@ -64,8 +53,7 @@ kernel_of_parts os ts rows i ns ms places processes at_i e f =
 -- a kernel that is kept is that of its row
 pub kernel_of_row : (os : List Place) (ts : List OpenTables) (rows : List KernelRow) (i : ℕ) (r : KernelRow) (k : KernelState)
     → slice_get rows i ≡ Some r → slice_get (map (kernel_of os ts) rows) i ≡ Some k → kernel_of os ts r ≡ k
-kernel_of_row os ts rows i r k at_i e =
-    let f = map_at (kernel_of os ts) rows i r at_i in cc
+kernel_of_row os ts rows i r k at_i e = grind (arith, common_steps, map_at)
 
 -- what holds of the kernel of a row holds of the one that is kept
 pub of_kernel : (os : List Place) (ts : List OpenTables) (rows : List KernelRow) (i : ℕ) (r : KernelRow) (P : KernelState → Type 0) → slice_get rows i ≡ Some r → P (kernel_of os ts r)
@@ -101,27 +89,20 @@ padded_set n ps i x h = ap (λ m. set ps i x ++ replicate (n - m) Empty) (length
 
 pub kernel_with : (os : List Place) (ts : List OpenTables) (ns ms : List ℕ) (i m j l : ℕ) (o : Place) (t : OpenTables) → i < length ns
     → slice_get os m ≡ Some o → slice_get ts l ≡ Some t → kernel_of os ts (row (set ns i m) (set ms j l)) ≡ with_operand (kernel_of os ts (row ns ms)) j i o t
-kernel_with os ts ns ms i m j l o t h object tables =
-    simp (map-set, object, tables, padded_set 64 (map (place_at os) ns) i o (omega (arith, h, length-map ns (place_at os))))
+kernel_with os ts ns ms i m j l o t h object tables = grind (arith, common_steps, map-set, padded_set, length-map)
 
 -- the object that a row has at a place, and the tables that it has of a process
 pub object_there : (os : List Place) (ts : List OpenTables) (ns ms : List ℕ) (place n : ℕ) → IsRow os ts (row ns ms) → slice_get ns place ≡ Some n
     → (o : Place) × (slice_get os n ≡ Some o) × (slice_get (padded 64 (map (place_at os) ns)) place ≡ Some o)
-object_there os ts ns ms place n is at =
-    let x = is.of_objects place n at in
-    let less : place < length (padded 64 (map (place_at os) ns)) = omega (arith, slice_get_within ns place n at, (long_row os ns).0) in
-    (x.0, x.1, in_row os ns place less ∙ ap (λ y. Some (unwrap_or (option_map (place_at os) y) Empty)) at ∙ ap (λ y. Some (unwrap_or y Empty)) x.1)
+object_there os ts ns ms place n is at = grind (arith, common_steps, slice_get_within, long_row, in_row)
 
 pub tables_there : (os : List Place) (ts : List OpenTables) (ns ms : List ℕ) (pid n : ℕ) → IsRow os ts (row ns ms) → slice_get ms pid ≡ Some n
     → (t : OpenTables) × (slice_get ts n ≡ Some t) × (slice_get (map (process_at ts) ms) pid ≡ Some t)
-tables_there os ts ns ms pid n is at =
-    let x = is.of_tables pid n at in (x.0, x.1, map_at (process_at ts) ms pid n at ∙ ap (λ y. Some (unwrap_or y (record { descriptors = []; slots = [] }))) x.1)
+tables_there os ts ns ms pid n is at = grind (arith, common_steps, map_at)
 
 -- where a row has no number the place of its kernel is empty
 pub empty_there : (os : List Place) (ns : List ℕ) (place : ℕ) → slice_get ns place ≡ None → place < 64 → slice_get (padded 64 (map (place_at os) ns)) place ≡ Some Empty
-empty_there os ns place none inside =
-    let less : place < length (padded 64 (map (place_at os) ns)) = omega (arith, inside, (long_row os ns).1) in
-    in_row os ns place less ∙ ap (λ y. Some (unwrap_or (option_map (place_at os) y) Empty)) none
+empty_there os ns place none inside = grind (arith, common_steps, long_row, in_row)
 
 pub no_object : (os : List Place) (ns : List ℕ) (place : ℕ) (o : Place) → slice_get ns place ≡ None → slice_get (padded 64 (map (place_at os) ns)) place ≡ Some o → is_empty o ≡ false → ⊥
 no_object os ns place o none at full =
@@ -134,8 +115,7 @@ no_tables ts ms pid t none at = let n = mapped (process_at ts) ms pid t at in le
 
 -- the kernel that was assembled is the one that is kept
 pub kernel_found : (found : Option KernelState) (o : Option KernelState) (j : KernelState) → o ≡ Some j → IfSome found (λ k. k ≡ j) → IfSome found (λ k. o ≡ Some k)
-kernel_found None o j e h = tt
-kernel_found (Some k) o j e h = e ∙ ap Some (sym h)
+kernel_found x o j e h = search rules
 
 -- a row in which a number of each part was written is kept
 pub rows_changed : (os : List Place) (ts : List OpenTables) (rows more : List KernelRow) (ns ms vs us : List ℕ) (a i m j l : ℕ) (o : Place) (t : OpenTables)
@@ -151,9 +131,7 @@ rows_changed os ts rows more ns ms vs us a i m j l o t are at_a object tables e 
 pub kernel_changed : (os : List Place) (ts : List OpenTables) (rows more : List KernelRow) (ns ms vs us : List ℕ) (a b i m j l : ℕ) (o : Place) (t : OpenTables) (k : KernelState)
     → slice_get rows a ≡ Some (row ns ms) → slice_get (map (kernel_of os ts) rows) a ≡ Some k → i < length ns → slice_get os m ≡ Some o → slice_get ts l ≡ Some t
     → vs ≡ set ns i m → us ≡ set ms j l → slice_get more b ≡ Some (row vs us) → slice_get (map (kernel_of os ts) more) b ≡ Some (with_operand k j i o t)
-kernel_changed os ts rows more ns ms vs us a b i m j l o t k at_a at_k h object tables e f at_b =
-    map_at (kernel_of os ts) more b (row vs us) at_b
-    ∙ ap Some (rw (e, f) (kernel_with os ts ns ms i m j l o t h object tables) ∙ ap (λ x. with_operand x j i o t) (kernel_of_row os ts rows a (row ns ms) k at_a at_k))
+kernel_changed os ts rows more ns ms vs us a b i m j l o t k at_a at_k h object tables e f at_b = grind (arith, common_steps, map_at, kernel_with, kernel_of_row)
 
 -- where there is no row there is no kernel
 pub no_kernel : (os : List Place) (ts : List OpenTables) (rows : List KernelRow) (i : ℕ) (k : KernelState) → slice_get rows i ≡ None → slice_get (map (kernel_of os ts) rows) i ≡ Some k → ⊥

@@ -1,5 +1,5 @@
 -- Kernels that are alike answer each call alike, and are alike after it.
-use Rattle.std.proofs.Common.{◌≡◌, ℕ, Bool, true, false, List, set, Option, Some, None, refl, sym, ap, subst, ◌∙◌, inl, inr}
+use Rattle.std.proofs.Common.{◌≡◌, ℕ, Bool, true, false, List, set, Option, None, refl, sym, ap, subst, ◌∙◌, rules, arith}
 use Rattle.std.proofs.lemmas.List.Quantifiers.{position-Some}
 use Rattle.ipc_kernel.specs.declared.place.Place.{Place}
 use Rattle.ipc_kernel.specs.declared.place.Place.TheVariants.{Empty}
@@ -9,13 +9,12 @@ use Rattle.ipc_kernel.specs.declared.call.Call.TheVariants.{MqOpen, MqUnlink, Se
 use Rattle.ipc_kernel.specs.declared.call.Answer.{Answer}
 use Rattle.ipc_kernel.specs.declared.call.Reply.TheVariants.{Plain}
 use Rattle.ipc_kernel.specs.Processes.{process_at, process_refers, closed_process}
-use Rattle.ipc_kernel.specs.Places.{place_at, is_empty, is_name, queue_named, semaphore_named, queue_name, semaphore_name}
+use Rattle.ipc_kernel.specs.Places.{place_at, queue_named, semaphore_named, queue_name, semaphore_name}
 use Rattle.ipc_kernel.specs.Kernel.{KernelState}
 use Rattle.ipc_kernel.specs.Outcomes.{unlink}
 use Rattle.ipc_kernel.specs.Answer.{answer}
 use Rattle.ipc_kernel.specs.Alike.{renamed_process, AreDistinct, AnswersAlike, StaysConsistent}
 use Rattle.ipc_kernel.specs.Operands.{with_operand}
-use Rattle.ipc_kernel.proofs.PlaceLemmas.{empty_of}
 use Rattle.ipc_kernel.proofs.IndexLemmas.{place_at-set_same}
 use Rattle.ipc_store.proofs.Renamings.{process_at-renamed}
 use Rattle.ipc_store.proofs.Alikes.{alike_itself}
@@ -24,41 +23,23 @@ use Rattle.ipc_store.proofs.NamedPlaces.{name_found}
 use Rattle.ipc_store.proofs.WorkPlaces.{Lookup, Named, New, Nowhere, IsFound, Finds, is_open, new_object, is_local, any_handle, RefersTo, OpensNone, Keeps, MayLeave, referred}
 use Rattle.ipc_store.proofs.LocalCalls.{IsLocal, local, here, after}
 use Rattle.ipc_store.proofs.AlikeOutcomes.{IsTwin, AreLike, like_done, like_unlinked, own_name, not_named, twin_place, twin_tables, found_both, found_named}
-
--- what an open makes isn't empty, and has a name that is free
-new_filled : (c : Call) → is_open c ≡ true → new_object c ≡ Empty → ⊥
-new_filled (MqOpen name flags attr) opens e = cc
-new_filled (SemOpen name flags value) opens e = cc
-new_filled other opens e = absurd (cc)
+use Rattle.std.proofs.lemmas.Grind.{common_steps}
 
 new_free : (ps : List Place) (a : ℕ) (c : Call) → is_open c ≡ true → Finds c ps a New → IsFree queue_name ps a (new_object c) × IsFree semaphore_name ps a (new_object c)
-new_free ps a (MqOpen name flags attr) opens finds = (λ i n e there. absurd (not_named queue_name ps name i refl finds.0 (there ∙ sym e)), λ i n e there. absurd (cc))
-new_free ps a (SemOpen name flags value) opens finds = (λ i n e there. absurd (cc), λ i n e there. absurd (not_named semaphore_name ps name i refl finds.0 (there ∙ sym e)))
-new_free ps a other opens finds = absurd (cc)
+new_free ps a x opens finds = grind (arith, common_steps, not_named)
 
 -- and so has what a call leaves
 left_filled : (c : Call) (l : Lookup) (o x : Place) → MayLeave c l o x → x ≡ Empty → o ≡ Empty
-left_filled c l o x (inl kind) e = empty_of o (sym kind.0.filled ∙ ap is_empty e)
-left_filled c l o x (inr new) e = absurd (new_filled c new.0 (sym new.2 ∙ e))
+left_filled c l o x y e = search rules
 
 left_free : (ps : List Place) (a : ℕ) (c : Call) (l : Lookup) (x : Place) → AreDistinct queue_name ps → AreDistinct semaphore_name ps → Finds c ps a l → MayLeave c l (place_at ps a) x
     → IsFree queue_name ps a x × IsFree semaphore_name ps a x
-left_free ps a c l x queues semaphores finds (inl kind) =
-    (own_name queue_name ps a x queues (λ n e. sym kind.0.queue ∙ e), own_name semaphore_name ps a x semaphores (λ n e. sym kind.0.semaphore ∙ e))
-left_free ps a c l x queues semaphores finds (inr new) =
-    subst (λ y. IsFree queue_name ps a y × IsFree semaphore_name ps a y) (sym new.2) (new_free ps a c new.0 (subst (λ m. Finds c ps a m) new.1 finds))
+left_free ps a c l x queues semaphores finds y = grind (arith, common_steps, own_name, IsFree, new_free, Finds)
 
 -- an open that leaves its place empty opens nothing
 none_found : (name_of : Place → Option (List ℕ)) (ps : List Place) (n : List ℕ) (i : ℕ) (l : Lookup) (x : Place) → name_of Empty ≡ None → IsFound name_of n ps i l
     → (x ≡ Empty → place_at ps i ≡ Empty) → place_at (set ps i x) i ≡ Empty → OpensNone l x
-none_found name_of ps n i Named x nameless found filled e = (
-  λ is.
-      let less = (position-Some (λ p. is_name n (name_of p)) ps i Empty found).0 in
-      let no : None ≡ Some n = sym (ap name_of (filled (sym (place_at-set_same ps i x less) ∙ e)) ∙ nameless) ∙ name_found name_of ps n i found in cc,
-  λ is. absurd (cc),
-)
-none_found name_of ps n i New x nameless found filled e = (λ is. cc, λ is. ap is_empty (sym (place_at-set_same ps i x (position-Some is_empty ps i Empty found.1).0) ∙ e))
-none_found name_of ps n i Nowhere x nameless found filled e = (λ is. cc, λ is. absurd (cc))
+none_found name_of ps n i y x nameless found filled e = grind (arith, common_steps, Named, position-Some, place_at-set_same, name_found, New, Nowhere)
 
 opens_none : (ps : List Place) (i : ℕ) (c : Call) (l : Lookup) (x : Place) → is_open c ≡ true → Finds c ps i l → (x ≡ Empty → place_at ps i ≡ Empty) → place_at (set ps i x) i ≡ Empty → OpensNone l x
 opens_none ps i (MqOpen name flags attr) l x opens finds filled e = none_found queue_name ps name i l x refl finds filled e

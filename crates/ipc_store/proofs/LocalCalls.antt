@@ -1,6 +1,6 @@
 -- What each call makes of the tables of its process and of the object that it works on: the same in each kernel that has them, and
 -- in each with its places renamed.
-use Rattle.std.proofs.Common.{◌≡◌, ℕ, ◌-◌, ◌+◌, ◌==◌, Bool, true, false, cond, ◌||◌, ◌&&◌, not, nat_lt, nat_le, List, [], ◌∷◌, length, set, Option, Some, None, Result, Ok, Err, is_none, position, unwrap_or, slice_get, option_and_then, refl, sym, ap, ◌∙◌, inl, inr}
+use Rattle.std.proofs.Common.{◌≡◌, ℕ, ◌-◌, ◌+◌, ◌==◌, Bool, true, false, cond, ◌||◌, ◌&&◌, not, nat_lt, nat_le, List, [], ◌∷◌, length, set, Option, Some, None, Result, Ok, Err, is_none, position, unwrap_or, slice_get, option_and_then, refl, sym, ap, ◌∙◌, inl, inr, rules}
 use Rattle.std.specs.Option.{option_map}
 use Rattle.std.specs.List.{list_any}
 use Rattle.std.proofs.lemmas.Bool.{false≢true, or_parts}
@@ -62,8 +62,7 @@ abbrev pub after : Bool → KernelState → KernelState
 after b k = cond b (done k) k
 
 pub after_settled : (b : Bool) (k : KernelState) → IsSettled k → after b k ≡ k
-after_settled true k s = ap (λ ps. record k { places = ps }) s
-after_settled false k s = refl
+after_settled x k s = search rules
 
 -- through renaming f, process p has tables t, what place i holds fits, and an open finds this there
 pub record Shows (c : Call) (f g : ℕ → ℕ) (k : KernelState) (p i : ℕ) (t : OpenTables) (Fits : Place → Type 0) (l : Lookup) : Type 0 where
@@ -95,8 +94,7 @@ slot_held_refers : (t : OpenTables) (s n : ℕ) (y : Option Slot) → slot_refer
 slot_held_refers t s n y same = ap (λ b. list_any (descriptor_refers n) t.descriptors || b) (any_set (slot_refers n) t.slots s y None same)
 
 none_of : {A : Type 0} (o : Option A) → is_none o ≡ true → o ≡ None
-none_of None e = refl
-none_of (Some x) e = cc
+none_of x e = search rules
 
 -- the first that is free
 free_there : {A : Type 0} (xs : List (Option A)) (i : ℕ) → position is_none xs ≡ Some i → unwrap_or (slice_get xs i) None ≡ None

@@ -1,5 +1,5 @@
 -- Places where each object has a name: what is written into one leaves them so, and leaves each name where it was.
-use Rattle.std.proofs.Common.{subst, inl, inr, ◌≡◌, ℕ, Bool, true, false, ◌||◌, ◌&&◌, List, [], ◌∷◌, zero, suc, length-set, set, Option, Some, None, unwrap_or, slice_get, position, refl, sym, ap, ◌∙◌}
+use Rattle.std.proofs.Common.{subst, inl, inr, ◌≡◌, ℕ, Bool, true, false, ◌||◌, ◌&&◌, List, [], ◌∷◌, zero, suc, length-set, set, Option, Some, None, unwrap_or, slice_get, position, refl, sym, ap, ◌∙◌, rules}
 use Rattle.std.specs.List.{list_all}
 use Rattle.ipc_kernel.specs.declared.place.Place.{Place}
 use Rattle.ipc_kernel.specs.declared.place.Place.TheVariants.{Empty}
@@ -61,20 +61,12 @@ keeps_written ps i y named new queues semaphores = record {
 
 -- a name that is found isn't one that isn't
 other_name : (name_of : Place → Option (List ℕ)) (ps : List Place) (name n : List ℕ) (m : ℕ) → place_named name_of ps name ≡ None → place_named name_of ps n ≡ Some m → is_name n (Some name) ≡ false
-other_name name_of ps name n m absent e = by (is_name n (Some name)) refl
-  where
-    by : (b : Bool) → is_name n (Some name) ≡ b → is_name n (Some name) ≡ false
-    by false f = f
-    by true f = let same : Some name ≡ Some n = is_name-true n (Some name) f in let is : name ≡ n = cc in let no : None ≡ Some m = sym absent ∙ ap (place_named name_of ps) is ∙ e in absurd (cc)
+other_name name_of ps name n m absent e = search rules
 
 -- a new object with a name that none had
 keeps_made : (ps : List Place) (i : ℕ) (c : Call) → are_named ps ≡ true → is_open c ≡ true → Finds c ps i New → KeepNames ps (set ps i (new_object c))
-keeps_made ps i (MqOpen name flags attr) named opens finds =
-    let empty = first_empty_place ps i finds.1 in
-    keeps_written ps i _ named refl (λ n m e. other_name queue_name ps name n m finds.0 e ∙ sym (ap (λ p. is_name n (queue_name p)) empty)) (λ n m e. sym (ap (λ p. is_name n (semaphore_name p)) empty))
-keeps_made ps i (SemOpen name flags value) named opens finds =
-    let empty = first_empty_place ps i finds.1 in
-    keeps_written ps i _ named refl (λ n m e. sym (ap (λ p. is_name n (queue_name p)) empty)) (λ n m e. other_name semaphore_name ps name n m finds.0 e ∙ sym (ap (λ p. is_name n (semaphore_name p)) empty))
+keeps_made ps i (MqOpen name flags attr) named opens finds = search (rules, first_empty_place, keeps_written, other_name)
+keeps_made ps i (SemOpen name flags value) named opens finds = search (rules, first_empty_place, keeps_written, other_name)
 keeps_made ps i other named opens finds = absurd (cc)
 
 -- what a call leaves

@@ -1,17 +1,16 @@
 -- Calls that remove no object: what they depend on, and what they change.
-use Rattle.std.proofs.Common.{◌≡◌, ℕ, ◌<◌, ◌||◌, Bool, true, false, cond, List, length, set, length-set, get_or, get_or-set_other, get_or-set_same, Option, Some, None, is_some, option_and_then, position, unwrap_or, refl, sym, ap, subst, ◌∙◌, inl, inr, arith}
+use Rattle.std.proofs.Common.{◌≡◌, ℕ, ◌<◌, ◌||◌, Bool, true, false, cond, List, length, set, length-set, get_or, get_or-set_other, get_or-set_same, Option, Some, None, option_and_then, position, unwrap_or, refl, sym, ap, subst, ◌∙◌, inl, inr, arith, rules}
 use Rattle.std.specs.Option.{option_or}
 use Rattle.std.proofs.lemmas.Bool.{cases_eq, or_right}
 use Rattle.std.proofs.lemmas.Option.{cond_some, unwrap_or-slice_get}
 use Rattle.ipc_kernel.specs.declared.place.Place.{Place}
-use Rattle.ipc_kernel.specs.declared.place.Place.TheVariants.{Empty, Mq, Sem as SemPlace}
+use Rattle.ipc_kernel.specs.declared.place.Place.TheVariants.{Empty}
 use Rattle.ipc_kernel.specs.declared.process.OpenTables.{OpenTables}
 use Rattle.ipc_kernel.specs.declared.call.Call.{Call}
 use Rattle.ipc_kernel.specs.declared.call.Call.TheVariants.{MqOpen, MqClose, MqUnlink, SemOpen, SemClose, SemUnlink, Exit}
 use Rattle.ipc_kernel.specs.declared.call.Answer.{Answer}
 use Rattle.ipc_kernel.specs.declared.call.Answer.TheVariants.{Done}
 use Rattle.ipc_kernel.specs.declared.call.Reply.TheVariants.{Plain}
-use Rattle.ipc_kernel.specs.declared.call.Handle.{Handle}
 use Rattle.ipc_kernel.specs.declared.call.Handle.TheVariants.{Mqd, Slot as Sem}
 use Rattle.ipc_kernel.specs.Processes.{process_at, process_refers, closed_process}
 use Rattle.ipc_kernel.specs.Places.{place_at, is_empty, has_name, queue_name, semaphore_name, place_named, place_or_empty}
@@ -26,6 +25,7 @@ use Rattle.ipc_store.proofs.SettledTables.{all_at, any_set, get_set, place_kept}
 use Rattle.ipc_store.proofs.NamedPlaces.{is_named, name_found}
 use Rattle.ipc_store.proofs.WorkPlaces.{Lookup, Named, New, IsFound, Finds, is_local, is_open, new_object, RefersTo, IsKind, MayLeave}
 use Rattle.ipc_store.proofs.LocalCalls.{back, ended, IsLocal, local, here, after, after_settled}
+use Rattle.std.proofs.lemmas.Grind.{common_steps}
 
 -- what a call makes of tables t and of the object o in place i: the same in each settled kernel that has them, and where it works
 -- on that place
@@ -37,8 +37,7 @@ record IsAnswered (c : Call) (i : ℕ) (t : OpenTables) (o : Place) : Type 0 whe
 
 -- the place that is closed, and its object has a name
 closed_place : (ps : List Place) (x : Option ℕ) (i : ℕ) → option_and_then (if_named ps) x ≡ Some i → (x ≡ Some i) × (has_name (place_at ps i) ≡ true)
-closed_place ps None i e = absurd (cc)
-closed_place ps (Some n) i e = let named = cond_some (has_name (place_at ps n)) n i e in (ap Some named.1, ap (λ m. has_name (place_at ps m)) (sym named.1) ∙ named.0)
+closed_place ps x i e = search rules
 
 -- the end of a process where each object has a name
 all_named : (ps : List Place) (i : ℕ) → cond (are_named ps) (Some 0) None ≡ Some i → are_named ps ≡ true
@@ -50,44 +49,24 @@ lookup o = cond (is_empty o) New Named
 
 finds_name : (name_of : Place → Option (List ℕ)) (ps : List Place) (n : List ℕ) (i : ℕ) (o : Place) → name_of Empty ≡ None → place_at ps i ≡ o
     → option_or (place_named name_of ps n) (position is_empty ps) ≡ Some i → IsFound name_of n ps i (lookup o)
-finds_name name_of ps n i o nameless is at = by (is_empty o) (place_named name_of ps n) (ap is_empty is) refl at
-  where
-    by : (b : Bool) (x : Option ℕ) → is_empty (place_at ps i) ≡ b → place_named name_of ps n ≡ x → option_or x (position is_empty ps) ≡ Some i → IsFound name_of n ps i (cond b New Named)
-    by true (Some a) empty e f = let no : None ≡ Some n = sym (ap name_of (empty_of _ empty) ∙ nameless) ∙ name_found name_of ps n i (e ∙ f) in absurd (cc)
-    by false (Some a) full e f = e ∙ f
-    by true None empty e f = (e, f)
-    by false None full e f = let no : false ≡ true = sym full ∙ ap is_empty (first_empty_place ps i f) in absurd (cc)
+finds_name name_of ps n i o nameless is at = grind (arith, common_steps, IsFound, New, Named, empty_of, name_found, first_empty_place)
 
 finds : (k : KernelState) (t : OpenTables) (c : Call) (i : ℕ) (o : Place) → place_at k.places i ≡ o → operand_in k t c ≡ Some i → Finds c k.places i (lookup o)
-finds k t (MqOpen name flags attr) i o is at = finds_name queue_name k.places name i o refl is at
-finds k t (SemOpen name flags value) i o is at = finds_name semaphore_name k.places name i o refl is at
-finds k t other i o is at = tt
-
--- what is open refers to the place that a call works on
-one_place : (t : OpenTables) (x : Option Handle) (i : ℕ) → option_and_then (place_of t) x ≡ Some i → (h : Handle) (n : ℕ) → x ≡ Some h → place_of t h ≡ Some n → n ≡ i
-one_place t x i at h n e is = let same : Some n ≡ Some i = sym is ∙ sym (ap (option_and_then (place_of t)) e) ∙ at in cc
+finds k t x i o is at = grind (arith, common_steps, finds_name)
 
 refers : (k : KernelState) (t : OpenTables) (c : Call) (i : ℕ) → operand_in k t c ≡ Some i → RefersTo c i t
-refers k t (MqOpen name flags attr) i at = λ h n e is. absurd (cc)
-refers k t (MqClose d) i at = one_place t (Some (Mqd d)) i (closed_place k.places (place_of t (Mqd d)) i at).0
-refers k t (SemOpen name flags value) i at = λ h n e is. absurd (cc)
-refers k t (SemClose s) i at = one_place t (Some (Sem s)) i (closed_place k.places (place_of t (Sem s)) i at).0
-refers k t Exit i at = λ h n e is. absurd (cc)
-refers k t other i at = one_place t (handle_of other) i at
+refers k t x i at = search rules
 
 -- where a call has no open object, what it works on has a name, or is none
 queue_has_name : (p : Place) (n : List ℕ) → queue_name p ≡ Some n → is_named p ≡ true
-queue_has_name (Mq name queue) n e = ap is_some e
-queue_has_name other n e = absurd (cc)
+queue_has_name x n e = search rules
 
 semaphore_has_name : (p : Place) (n : List ℕ) → semaphore_name p ≡ Some n → is_named p ≡ true
-semaphore_has_name (SemPlace name value) n e = ap is_some e
-semaphore_has_name other n e = absurd (cc)
+semaphore_has_name x n e = search rules
 
 named_found : (name_of : Place → Option (List ℕ)) (ps : List Place) (n : List ℕ) (i : ℕ) (b : Bool) → ((p : Place) → name_of p ≡ Some n → is_named p ≡ true)
     → IsFound name_of n ps i (cond b New Named) → is_named (place_at ps i) ≡ true
-named_found name_of ps n i true has e = ap is_named (first_empty_place ps i e.1)
-named_found name_of ps n i false has e = has (place_at ps i) (name_found name_of ps n i e)
+named_found name_of ps n i x has e = grind (arith, common_steps, is_named, first_empty_place, name_found)
 
 named_operand : (k : KernelState) (t : OpenTables) (c : Call) (i : ℕ) → operand_in k t c ≡ Some i → handle_of c ≡ None → is_named (place_at k.places i) ≡ true
 named_operand k t (MqOpen name flags attr) i at none = named_found queue_name k.places name i _ (λ p. queue_has_name p name) (finds k t (MqOpen name flags attr) i _ refl at)
@@ -98,17 +77,11 @@ named_operand k t Exit i at none = all_at is_named k.places i Empty refl (all_na
 named_operand k t other i at none = absurd (cc)
 
 made_named : (c : Call) → is_open c ≡ true → is_named (new_object c) ≡ true
-made_named (MqOpen name flags attr) e = refl
-made_named (SemOpen name flags value) e = refl
-made_named other e = absurd (cc)
+made_named x e = search rules
 
 -- an object that was kept is kept with another state
 kept_kind : (b : Bool) (x y : Place) → IsKind x y → cond (has_name x || b) x Empty ≡ x → cond (has_name y || b) y Empty ≡ y
-kept_kind b x y kind e = by (has_name x || b) (ap (λ n. n || b) kind.named) e
-  where
-    by : (a : Bool) → (has_name y || b) ≡ a → cond a x Empty ≡ x → cond (has_name y || b) y Empty ≡ y
-    by true f g = rw f refl
-    by false f g = rw f (sym (empty_of y (kind.filled ∙ sym (ap is_empty g))))
+kept_kind b x y kind e = search rules
 
 -- a call on place i leaves a kernel settled
 settled_local : (k : KernelState) (c : Call) (p i : ℕ) (l : Lookup) (x : Place) (u : OpenTables) → IsSettled k → (handle_of c ≡ None → is_named (place_at k.places i) ≡ true) → MayLeave c l (place_at k.places i) x
@@ -166,10 +139,7 @@ answered j c i t o at = by_local j c i t o at refl
 
 -- what is in the written place, and the written tables
 written : (j : KernelState) (q i : ℕ) (t u x : OpenTables) (o r y : Place) → HasOperand j q i t o → HasOperand (with_operand j q i r u) q i x y → (x ≡ u) × (y ≡ r)
-written j q i t u x o r y has new =
-    let tables : Some x ≡ Some u = sym new.tables ∙ get_set j.processes q t u has.tables in
-    let object : Some y ≡ Some r = sym new.object ∙ get_set j.places i o r has.object in
-    (cc, cc)
+written j q i t u x o r y has new = grind (arith, common_steps, get_set)
 
 pub answers_by_operand : AnswersByOperand
 answers_by_operand k j p q c i t o sk sj at_k at_j hk hj =

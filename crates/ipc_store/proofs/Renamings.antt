@@ -1,10 +1,9 @@
 -- Kernels whose places are renamed, and what a change of each does.
-use Rattle.std.proofs.Common.{◌≡◌, ℕ, ◌+◌, ◌<◌, ◌≤◌, ◌==◌, Bool, true, List, [], ◌∷◌, ◌++◌, length, take, drop, get_or, map, set, arith, Option, Some, None, unwrap_or, slice_get, refl, sym, ap, ◌∙◌, inl, inr, position, is_none}
+use Rattle.std.proofs.Common.{◌≡◌, ℕ, ◌+◌, ◌<◌, ◌≤◌, ◌==◌, Bool, true, List, [], ◌∷◌, ◌++◌, length, take, drop, get_or, map, set, arith, Option, None, unwrap_or, slice_get, refl, sym, ap, ◌∙◌, position, is_none, rules}
 use Rattle.std.specs.Option.{option_map}
 use Rattle.std.specs.List.{list_any, position_or_len}
-use Rattle.std.proofs.lemmas.Bool.{eq-eqb, or_left, or_right}
+use Rattle.std.proofs.lemmas.Bool.{or_left, or_right}
 use Rattle.std.proofs.lemmas.Iterator.Adapters.{option_map_id}
-use Rattle.std.proofs.lemmas.Bool.Decides.{eqb_tells}
 use Rattle.std.proofs.lemmas.Option.{slice_get-map}
 use Rattle.std.proofs.lemmas.Simd.{map-map}
 use Rattle.std.proofs.lemmas.List.{map-set, length-map, append-nil, append_assoc, drop_all, drop_more, length-take-le, map_more, set_at, take_all}
@@ -13,6 +12,7 @@ use Rattle.ipc_kernel.specs.declared.process.Slot.{Slot}
 use Rattle.ipc_kernel.specs.declared.process.Descriptor.{Descriptor}
 use Rattle.ipc_kernel.specs.Processes.{process_at, descriptor_of, slot_of, slot_refers, descriptor_refers, process_refers, is_referred}
 use Rattle.ipc_kernel.specs.Alike.{renamed_descriptor, renamed_slot, renamed_process, IsPermutation}
+use Rattle.std.proofs.lemmas.Grind.{common_steps}
 
 abbrev pub tables : List (Option Descriptor) → List (Option Slot) → OpenTables
 tables descriptors slots = record { descriptors = descriptors; slots = slots }
@@ -22,23 +22,20 @@ nobody = tables [] []
 
 -- one element more is mapped in its place, and all are
 pub renamed_more : {X : Type 0} (f : X → X) (xs ys : List X) (i : ℕ) (d : X) → i < length xs → ys ≡ map f (take i xs) ++ drop i xs → set ys i (f (get_or xs i d)) ≡ map f (take (i + 1) xs) ++ drop (i + 1) xs
-renamed_more f xs ys i d h e =
-    simp (e, drop_more xs i d h, set_at (map f (take i xs)) (get_or xs i d) (drop (i + 1) xs) (f (get_or xs i d)) i (length-map (take i xs) f ∙ length-take-le i xs (omega arith)), map_more f xs i d h, append_assoc)
+renamed_more f xs ys i d h e = grind (arith, common_steps, drop_more, set_at, length-map, length-take-le, map_more, append_assoc)
 
 pub renamed_all : {X : Type 0} (f : X → X) (xs : List X) (i : ℕ) → length xs ≤ i → map f (take i xs) ++ drop i xs ≡ map f xs
 renamed_all f xs i h = simp (take_all i xs h, drop_all i xs h, append-nil)
 
 -- one renaming after another
 option_map-map : {A B C : Type 0} (h : B → C) (i : A → B) (o : Option A) → option_map h (option_map i o) ≡ option_map (λ x. h (i x)) o
-option_map-map h i None = refl
-option_map-map h i (Some x) = refl
+option_map-map h i x = search rules
 
 pub renamed_twice : (f h : ℕ → ℕ) (ps : List OpenTables) → map (renamed_process h) (map (renamed_process f) ps) ≡ map (renamed_process (λ i. h (f i))) ps
 renamed_twice f h ps = simp (map-map, option_map-map)
 
 unwrap_map : {A B : Type 0} (h : A → B) (d : A) (o : Option A) → unwrap_or (option_map h o) (h d) ≡ h (unwrap_or o d)
-unwrap_map h d None = refl
-unwrap_map h d (Some x) = refl
+unwrap_map h d x = search rules
 
 -- the tables of a process, renamed
 pub process_at-renamed : (f : ℕ → ℕ) (ps : List OpenTables) (p : ℕ) → process_at (map (renamed_process f) ps) p ≡ renamed_process f (process_at ps p)
@@ -88,29 +85,20 @@ pub position-map : {A B : Type 0} (q : B → Bool) (h : A → B) (xs : List A) �
 position-map q h xs = rw (prefix-map q h xs, length-map xs h) refl
 
 none_is_none : {A B : Type 0} (h : A → B) (o : Option A) → is_none (option_map h o) ≡ is_none o
-none_is_none h None = refl
-none_is_none h (Some x) = refl
+none_is_none h x = search rules
 
 pub free-renamed : {A : Type 0} (h : A → A) (xs : List (Option A)) → position is_none (map (option_map h) xs) ≡ position is_none xs
 free-renamed h xs = simp (position-map, none_is_none)
 
 -- a renaming keeps places apart
 pub same_test : (f g : ℕ → ℕ) → IsPermutation f g → (a b : ℕ) → (f a == f b) ≡ (a == b)
-same_test f g h a b = elim (eqb_tells a b) [
-  | inl same ↦ eq-eqb (f a) (f b) (ap f same.1) ∙ sym same.0
-  | inr apart ↦ elim (eqb_tells (f a) (f b)) [
-    | inl met ↦ absurd (apart.1 (sym (h.undone a) ∙ ap g met.1 ∙ h.undone b))
-    | inr different ↦ different.0 ∙ sym apart.0
-  ]
-]
+same_test f g h a b = search rules
 
 slot_refers-renamed : (f g : ℕ → ℕ) → IsPermutation f g → (i : ℕ) (o : Option Slot) → slot_refers (f i) (option_map (renamed_slot f) o) ≡ slot_refers i o
-slot_refers-renamed f g h i None = refl
-slot_refers-renamed f g h i (Some s) = same_test f g h s.place i
+slot_refers-renamed f g h i x = search rules
 
 descriptor_refers-renamed : (f g : ℕ → ℕ) → IsPermutation f g → (i : ℕ) (o : Option Descriptor) → descriptor_refers (f i) (option_map (renamed_descriptor f) o) ≡ descriptor_refers i o
-descriptor_refers-renamed f g h i None = refl
-descriptor_refers-renamed f g h i (Some d) = same_test f g h d.place i
+descriptor_refers-renamed f g h i x = search rules
 
 pub slot_for-renamed : (f g : ℕ → ℕ) → IsPermutation f g → (i : ℕ) (t : OpenTables) → position (slot_refers (f i)) (renamed_process f t).slots ≡ position (slot_refers i) t.slots
 slot_for-renamed f g h i t = simp (position-map, slot_refers-renamed f g h)
@@ -129,12 +117,10 @@ map_where refers P u v same (x ∷ xs) each =
     ) refl
 
 descriptor_where : (f h : ℕ → ℕ) (o : Option Descriptor) → ((n : ℕ) → descriptor_refers n o ≡ true → h n ≡ f n) → option_map (renamed_descriptor f) o ≡ option_map (renamed_descriptor h) o
-descriptor_where f h None each = refl
-descriptor_where f h (Some d) each = ap (λ n. Some (record d { place = n })) (sym (each d.place (eq-eqb d.place d.place refl)))
+descriptor_where f h x each = search rules
 
 slot_where : (f h : ℕ → ℕ) (o : Option Slot) → ((n : ℕ) → slot_refers n o ≡ true → h n ≡ f n) → option_map (renamed_slot f) o ≡ option_map (renamed_slot h) o
-slot_where f h None each = refl
-slot_where f h (Some s) each = ap (λ n. Some (record s { place = n })) (sym (each s.place (eq-eqb s.place s.place refl)))
+slot_where f h x each = search rules
 
 pub process_where : (f h : ℕ → ℕ) (p : OpenTables) → ((n : ℕ) → process_refers n p ≡ true → h n ≡ f n) → renamed_process f p ≡ renamed_process h p
 process_where f h p each = simp (

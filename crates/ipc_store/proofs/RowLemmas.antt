@@ -3,6 +3,7 @@ use Rattle.std.proofs.Common.{◌≡◌, ℕ, ◌+◌, ◌≤◌, ◌⊎◌, inl
 use Rattle.std.proofs.lemmas.List.{append_assoc, length-append, length-drop, drop_at, take_at, take_all, drop-append-le, take-append-le, map-append}
 use Rattle.ipc_store.specs.declared.kept.rows.Span.{Span}
 use Rattle.ipc_store.specs.Private.KeptRows.{row, row_of, AreWithin}
+use Rattle.std.proofs.lemmas.Grind.{common_steps}
 
 abbrev pub span : ℕ → ℕ → ℕ → Span
 span start objects tables = record { start = start; objects = objects; tables = tables }
@@ -38,21 +39,14 @@ rows_still ns more (s ∷ ss) within =
     rw (row_still ns more s (within zero s refl), rows_still ns more ss (λ i. within (suc i))) refl
 
 row_new : (ns os ts : List ℕ) → row_of ((ns ++ os) ++ ts) (span (length ns) (length os) (length ts)) ≡ row os ts
-row_new ns os ts =
-    rw (drop_at (ns ++ os) ts (length ns + length os) (length-append ns os))
-    (simp (append_assoc, drop_at ns (os ++ ts) (length ns) refl, take_at os ts (length os) refl, take_all (length ts) ts (omega arith)))
+row_new ns os ts = grind (arith, common_steps, drop_at, length-append, append_assoc, take_at, take_all)
 
 -- the rows with one more
 pub rows_more : (ns os ts : List ℕ) (ss : List Span) (a b d : ℕ) → AreWithin ns ss → a ≡ length ns → b ≡ length os → d ≡ length ts
     → map (row_of ((ns ++ os) ++ ts)) (ss ++ span a b d ∷ []) ≡ map (row_of ns) ss ++ row os ts ∷ []
-rows_more ns os ts ss a b d within is_a is_b is_d =
-    let still : map (row_of ((ns ++ os) ++ ts)) ss ≡ map (row_of ns) ss = rw append_assoc (rows_still ns (os ++ ts) ss within) in
-    rw (is_a, is_b, is_d) (simp (map-append, still, row_new ns os ts))
+rows_more ns os ts ss a b d within is_a is_b is_d = grind (arith, common_steps, append_assoc, rows_still, map-append, row_new)
 
 -- each of them ends among the numbers
 pub within_more : (ns os ts : List ℕ) (ss : List Span) (a b d : ℕ) → AreWithin ns ss → a ≡ length ns → b ≡ length os → d ≡ length ts
     → AreWithin ((ns ++ os) ++ ts) (ss ++ span a b d ∷ [])
-within_more ns os ts ss a b d within is_a is_b is_d = λ i s e. elim (grown_only ss (span a b d) i s e) [
-  | inl old ↦ omega (arith, within i s old, length-append ns os, length-append (ns ++ os) ts)
-  | inr new ↦ rw new (omega (arith, is_a, is_b, is_d, length-append ns os, length-append (ns ++ os) ts))
-]
+within_more ns os ts ss a b d within is_a is_b is_d = grind (arith, common_steps, grown_only, length-append)

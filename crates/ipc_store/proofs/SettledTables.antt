@@ -1,14 +1,14 @@
 -- Kernels in which other tables of a process leave each place as it was.
-use Rattle.std.proofs.Common.{◌≡◌, ℕ, Bool, true, false, ◌||◌, List, [], ◌∷◌, zero, suc, replicate, get_or, set, Some, unwrap_or, slice_get, refl, sym, ap, ◌∙◌}
+use Rattle.std.proofs.Common.{◌≡◌, ℕ, Bool, true, false, ◌||◌, List, [], ◌∷◌, zero, suc, replicate, get_or, set, Some, unwrap_or, slice_get, refl, sym, ap, ◌∙◌, rules}
 use Rattle.std.specs.List.{list_any, list_all}
 use Rattle.std.proofs.lemmas.Bool.{and_parts, or_parts}
 use Rattle.std.proofs.lemmas.Option.{unwrap_or-slice_get}
 use Rattle.ipc_kernel.specs.declared.place.Place.{Place}
-use Rattle.ipc_kernel.specs.declared.place.Place.TheVariants.{Empty, Mq, Sem}
+use Rattle.ipc_kernel.specs.declared.place.Place.TheVariants.{Empty}
 use Rattle.ipc_kernel.specs.declared.process.OpenTables.{OpenTables}
 use Rattle.ipc_kernel.specs.Places.{place_at, is_empty, has_name, place_or_empty, places_or_empty}
 use Rattle.ipc_kernel.specs.Operands.{are_named}
-use Rattle.ipc_kernel.proofs.KernelLemmas.{kept-Empty, settled_by}
+use Rattle.ipc_kernel.proofs.KernelLemmas.{settled_by}
 
 -- an element that was written is read
 pub get_set : {A : Type 0} (xs : List A) (i : ℕ) (x y : A) → slice_get xs i ≡ Some x → slice_get (set xs i y) i ≡ Some y
@@ -36,9 +36,7 @@ all_at test (x ∷ xs) (suc i) d past e = all_at test xs i d past (and_parts (te
 
 -- where each object has a name, each place is left as it was, whatever refers to it
 pub place_kept : (ps : List OpenTables) (n : ℕ) (x : Place) → (is_empty x || has_name x) ≡ true → place_or_empty ps n x ≡ x
-place_kept ps n Empty e = kept-Empty ps n
-place_kept ps n (Mq name queue) e = rw e refl
-place_kept ps n (Sem name value) e = rw e refl
+place_kept ps n x e = search rules
 
 pub settled_named : (ps : List OpenTables) (places : List Place) → are_named places ≡ true → places_or_empty ps places ≡ places
 settled_named ps places e = settled_by ps places (λ n h. place_kept ps n (get_or places n Empty) (ap (λ p. is_empty p || has_name p) (sym (unwrap_or-slice_get places n Empty)) ∙ all_at (λ p. is_empty p || has_name p) places n Empty refl e))

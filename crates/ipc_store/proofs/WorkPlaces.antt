@@ -1,5 +1,5 @@
 -- What a call works on: the place of what it has open, or where an open finds a name; and what it may leave there.
-use Rattle.std.proofs.Common.{◌≡◌, ℕ, Bool, true, false, List, Option, Some, None, position, unwrap_or, refl, sym, ap, ◌∙◌, ◌⊎◌, inl}
+use Rattle.std.proofs.Common.{◌≡◌, ℕ, Bool, true, false, List, Option, Some, None, position, unwrap_or, refl, sym, ap, ◌∙◌, ◌⊎◌, inl, rules}
 use Rattle.ipc_objects.specs.Queue.{QueueState, empty_queue}
 use Rattle.ipc_kernel.specs.declared.place.Place.{Place}
 use Rattle.ipc_kernel.specs.declared.place.Place.TheVariants.{Empty, Mq, Sem as SemPlace}
@@ -77,12 +77,10 @@ pub kind_itself : (x : Place) → IsKind x x
 kind_itself x = record { filled = refl; named = refl; queue = refl; semaphore = refl }
 
 pub kind_queue : (q : QueueState) (x : Place) → IsKind x (with_queue q x)
-kind_queue q (Mq name queue) = record { filled = refl; named = refl; queue = refl; semaphore = refl }
-kind_queue q other = kind_itself other
+kind_queue q x = search rules
 
 pub kind_value : (v : ℕ) (x : Place) → IsKind x (with_value v x)
-kind_value v (SemPlace name value) = record { filled = refl; named = refl; queue = refl; semaphore = refl }
-kind_value v other = kind_itself other
+kind_value v x = search rules
 
 -- what a call may leave where x was: x itself, or on an open object another state of it; or what an open makes
 abbrev pub MayLeave : Call → Lookup → Place → Place → Type 0

@@ -1,9 +1,10 @@
-use Rattle.std.proofs.Common.{◌≡◌, None, length, map, ap, ◌∙◌, arith, rules}
+use Rattle.std.proofs.Common.{◌≡◌, None, length, arith, rules}
 use Rattle.std.specs.Option.{option_map}
 use Rattle.ipc_kernel.specs.Alike.{renamed_descriptor, renamed_slot}
 use Rattle.ipc_store.specs.Private.Renamings.{renamed_by}
 use Rattle.ipc_store.proofs.Renamings.{tables, renamed_more, renamed_all}
 use Rattle.ipc_store.proofs.renaming.renamed_process.Goals as goal
+use Rattle.std.proofs.lemmas.Grind.{common_steps}
 
 pub loop-at-preserved : goal.loop-at-preserved
 loop-at-preserved c =
@@ -17,11 +18,4 @@ loop-at-preserved c =
     )
 
 pub returns : goal.returns
-returns c =
-    let to = renamed_by c.args.to.now in
-    let p = c.args.process.now in
-    let count = c.loop-at.invariant.0 (omega arith) in
-    record {
-      renamed = ap (λ ds. tables ds c.loop-at.renamed.slots) (c.loop-at.invariant.1 ∙ renamed_all (option_map (renamed_descriptor to)) p.descriptors c.loop-at.at (omega arith))
-          ∙ ap (tables (map (option_map (renamed_descriptor to)) p.descriptors)) (c.loop-at.invariant.2 ∙ renamed_all (option_map (renamed_slot to)) p.slots c.loop-at.at (omega arith));
-    }
+returns c = grind (arith, common_steps, tables, renamed_all)

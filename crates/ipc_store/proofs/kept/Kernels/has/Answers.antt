@@ -1,7 +1,8 @@
-use Rattle.std.proofs.Common.{sym, ap, ◌∙◌, is_some}
+use Rattle.std.proofs.Common.{sym, ap, ◌∙◌, is_some, arith}
 use Rattle.ipc_store.proofs.OperandRows.{named_there}
 use Rattle.ipc_store.proofs.KeptLemmas.{no_kernel, of_kernel}
 use Rattle.ipc_store.proofs.kept.Kernels.has.Goals as goal
+use Rattle.std.proofs.lemmas.Grind.{common_steps}
 
 pub returns-in-Some : goal.returns-in-Some
 returns-in-Some c = record {
@@ -10,6 +11,4 @@ returns-in-Some c = record {
 }
 
 pub returns-in-None : goal.returns-in-None
-returns-in-None c = record {
-  named = rw (← c.self.view_is) (λ k at_kernel. absurd (no_kernel c.self.inside.objects c.self.inside.tables c.self.inside.rows c.args.kernel k c.in-None.ensures.none at_kernel));
-}
+returns-in-None c = grind (arith, common_steps, no_kernel)

@@ -1,7 +1,8 @@
-use Rattle.std.proofs.Common.{◌≡◌, Some, map, slice_get, subst, sym}
+use Rattle.std.proofs.Common.{◌≡◌, Some, map, slice_get, subst, sym, arith}
 use Rattle.ipc_store.proofs.KeptLemmas.{rows_grow, adds_grows, kept_grows}
 use Rattle.ipc_store.proofs.ArrangedRows.{kernel_with_new, rows_with_new}
 use Rattle.ipc_store.proofs.kept.Kernels.keep_with_new.Goals as goal
+use Rattle.std.proofs.lemmas.Grind.{common_steps}
 
 pub invariant_of-self : goal.invariant_of-self
 invariant_of-self c = rows_grow c.self.inside.objects c.self.inside.objects c.self.inside.tables c.keep_changed.new.self c.self.inside.rows (λ i x e. e) c.keep_changed.ensures.grows c.self.invariant
@@ -10,8 +11,7 @@ pub invariant_of-self-in_default-3 : goal.invariant_of-self-in_default-3
 invariant_of-self-in_default-3 c = rows_grow c.self.inside.objects c.self.inside.objects c.self.inside.tables c.keep_changed.new.self c.self.inside.rows (λ i x e. e) c.keep_changed.ensures.grows c.self.invariant
 
 pub returns-in_default-3-clause-grows : goal.returns-in_default-3-clause-grows
-returns-in_default-3-clause-grows c = rw (← c.self.view_is) (
-    kept_grows c.self.inside.objects c.self.inside.objects c.self.inside.tables c.keep_changed.new.self c.self.inside.rows c.self.inside.rows (λ i x e. e) c.keep_changed.ensures.grows (λ i x e. e) c.self.invariant)
+returns-in_default-3-clause-grows c = grind (arith, common_steps, kept_grows)
 
 pub invariant_of-self-in_err-number : goal.invariant_of-self-in_err-number
 invariant_of-self-in_err-number c = rw c.in_err-number.ensures.err
