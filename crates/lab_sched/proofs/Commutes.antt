@@ -1,15 +1,12 @@
 -- A process is fixed by how many effective steps it took and by the answers to its calls.
-use Rattle.std.proofs.Common.{ℕ, zero, suc, ◌+◌, ◌≡◌, ◌==◌, ◌≤◌, ◌++◌, List, [], ◌∷◌, Some, true, false, cond, refl, sym, ap, subst, ◌∙◌, slice_get, ◌≢◌, inl, inr}
+use Rattle.std.proofs.Common.{ℕ, zero, suc, ◌+◌, ◌≡◌, ◌==◌, ◌≤◌, ◌++◌, List, [], ◌∷◌, Some, false, cond, refl, sym, ap, subst, ◌∙◌, slice_get, ◌≢◌, inl, inr, rules}
 use Rattle.std.proofs.Math.Numerals.{add-one}
 use Rattle.std.proofs.lemmas.Bool.Decides.{eqb_tells}
 use Rattle.std.proofs.lemmas.Option.{slice_get_past, slice_get_cases}
 use Rattle.lc3_machine.specs.Process.{Process as Machine}
-use Rattle.ipc_kernel.specs.declared.call.Call.{Call}
 use Rattle.ipc_kernel.specs.declared.call.Answer.{Answer}
-use Rattle.ipc_kernel.specs.declared.call.Answer.TheVariants.{Done, Wait}
 use Rattle.ipc_kernel.specs.Kernel.{KernelState}
-use Rattle.ipc_kernel.specs.Answer.{answer}
-use Rattle.lab_sched.specs.Worlds.{Process, Running, Waiting, Ended, WorldState, NextAction, moves, calls, next_action, StepEffect, nothing, local_step, kernel_step, step_effect, step_effect_in, first_try, retry, process_after_answer, process_after, after, step, IsEffective, entry_of, run, entries}
+use Rattle.lab_sched.specs.Worlds.{Process, Running, Waiting, Ended, WorldState, NextAction, moves, calls, next_action, StepEffect, nothing, local_step, kernel_step, step_effect, step_effect_in, process_after_answer, process_after, after, step, IsEffective, entry_of, run, entries}
 use Rattle.lab_sched.specs.Execution.{AreEffective, count, Commute}
 use Rattle.lab_sched.specs.History.{replay}
 use Rattle.lab_sched.specs.declared.entry.Entry.{Entry}
@@ -46,25 +43,11 @@ answers_of (kernel_step m c a) = a ∷ []
 
 answers-append : (p : ℕ) (xs ys : List Entry) → answers p (xs ++ ys) ≡ answers p xs ++ answers p ys
 answers-append p [] ys = refl
-answers-append p (x ∷ xs) ys =
-    elim (x.pid == p) as (λ b. cond b (x.answer ∷ answers p (xs ++ ys)) (answers p (xs ++ ys)) ≡ cond b (x.answer ∷ answers p xs) (answers p xs) ++ answers p ys)
-    [ true ↦ ap (λ zs. x.answer ∷ zs) (answers-append p xs ys) | false ↦ answers-append p xs ys ]
-
-one_try : (k : KernelState) (p : ℕ) (m : Machine) (q : NextAction) (rs : List Answer)
-    → one_act m q (answers_of (first_try k p m q) ++ rs) ≡ (process_after (Running m) (first_try k p m q), rs)
-one_try k p m (moves n) rs = refl
-one_try k p m (calls c) rs = refl
-
-one_retry : (m : Machine) (c : Call) (a : Answer) (rs : List Answer) → IsEffective (retry m c a)
-    → one (Waiting m c) (answers_of (retry m c a) ++ rs) ≡ (process_after (Waiting m c) (retry m c a), rs)
-one_retry m c Wait rs h = absurd h
-one_retry m c (Done r) rs h = refl
+answers-append p (x ∷ xs) ys = search (rules, (answers-append p xs ys))
 
 one_effect : (k : KernelState) (p : ℕ) (s : Process) (rs : List Answer) → IsEffective (step_effect k p (Some s))
     → one s (answers_of (step_effect k p (Some s)) ++ rs) ≡ (process_after s (step_effect k p (Some s)), rs)
-one_effect k p (Running m) rs h = one_try k p m (next_action m) rs
-one_effect k p (Waiting m c) rs h = one_retry m c (answer k p c).0 rs h
-one_effect k p (Ended e) rs h = absurd h
+one_effect k p x rs h = search rules
 
 answers_mine : (p : ℕ) (t : StepEffect) → answers p (entry_of p t) ≡ answers_of t
 answers_mine p nothing = refl

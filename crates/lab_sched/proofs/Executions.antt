@@ -1,15 +1,14 @@
 -- Executions: one after another, of one step, of one process's local steps, and of its calls.
-use Rattle.std.proofs.Common.{ℕ, zero, suc, ◌+◌, ◌≡◌, ◌==◌, ◌++◌, List, [], ◌∷◌, Option, Some, None, true, false, cond, refl, sym, ap, subst, ◌∙◌, arith, length, set, slice_get, replicate, ◌≢◌}
+use Rattle.std.proofs.Common.{ℕ, zero, suc, ◌+◌, ◌≡◌, ◌==◌, ◌++◌, List, [], ◌∷◌, Option, Some, true, false, cond, refl, sym, ap, subst, ◌∙◌, arith, length, set, slice_get, replicate, ◌≢◌, rules}
 use Rattle.std.proofs.lemmas.List.{append_assoc, append-nil, set-set, replicate_more}
 use Rattle.std.proofs.lemmas.Bool.{eq-eqb, eqb-true, false_from_ne_true}
 use Rattle.std.proofs.Math.Numerals.{add-one}
 use Rattle.lc3_machine.specs.Process.{Process as Machine}
 use Rattle.ipc_kernel.specs.declared.call.Call.{Call}
 use Rattle.ipc_kernel.specs.declared.call.Answer.{Answer}
-use Rattle.ipc_kernel.specs.declared.call.Answer.TheVariants.{Done, Wait}
 use Rattle.ipc_kernel.specs.Kernel.{KernelState}
 use Rattle.ipc_kernel.specs.Answer.{answer}
-use Rattle.lab_sched.specs.Worlds.{Process, Running, Waiting, Ended, WorldState, NextAction, moves, calls, next_action, StepEffect, nothing, local_step, kernel_step, step_effect, step_effect_in, first_try, retry, process_after_answer, after, step, IsEffective, entry_of, run, entries}
+use Rattle.lab_sched.specs.Worlds.{Process, Running, Waiting, Ended, WorldState, moves, next_action, StepEffect, nothing, local_step, kernel_step, step_effect, step_effect_in, first_try, process_after_answer, after, step, IsEffective, entry_of, run, entries}
 use Rattle.lab_sched.specs.Execution.{AreEffective, count, IsExecution}
 use Rattle.lab_sched.specs.LocalRun.{AreLocal, TakesAnswer}
 use Rattle.lab_sched.specs.History.{replay, IsLegal}
@@ -50,11 +49,7 @@ unfolding entries
 execution_none w = record { leads = run-none w; effective = tt; entered = refl }
 
 pub execution_append : {w v u : WorldState} {ps qs : List ℕ} {es fs : List Entry} → IsExecution w ps v es → IsExecution v qs u fs → IsExecution w (ps ++ qs) u (es ++ fs)
-execution_append {w} {v} {u} {ps} {qs} {es} {fs} a b = record {
-  leads = run-append w ps qs ∙ ap (λ x. run x qs) a.leads ∙ b.leads;
-  effective = effective-append w ps qs a.effective (subst (λ x. AreEffective x qs) (sym a.leads) b.effective);
-  entered = entries-append w ps qs ∙ (rw (a.entered, a.leads, b.entered) refl);
-}
+execution_append {w} {v} {u} {ps} {qs} {es} {fs} a b = search (rules, run-append, effective-append, entries-append)
 
 pub execution_step : (w : WorldState) (p : ℕ) (t : StepEffect) → step_effect_in w p ≡ t → IsEffective t → IsExecution w (p ∷ []) (after w p t) (entry_of p t)
 unfolding entries
@@ -91,12 +86,7 @@ execution_local (suc n) w p (Ended e) u at h = absurd h.1
 -- the step of a process that is told an answer
 effect_answered : (w : WorldState) (p : ℕ) (x y : Process) (c : Call) (a : Answer) → slice_get w.processes p ≡ Some x → TakesAnswer x c a y → a ≡ (answer w.kernel p c).0
     → (m : Machine) × (step_effect_in w p ≡ kernel_step m c a) × (process_after_answer m c a ≡ y)
-effect_answered w p (Running m) y c a at h is =
-    (m, ap (λ o. step_effect w.kernel p o) at ∙ ap (λ q. first_try w.kernel p m q) h.0 ∙ ap (λ b. kernel_step m c b) (sym is), h.1)
-effect_answered w p (Waiting m d) y c (Done r) at h is =
-    (m, ap (λ o. step_effect w.kernel p o) at ∙ ap (λ q. retry m q (answer w.kernel p q).0) h.0 ∙ ap (λ b. retry m c b) (sym is), h.1)
-effect_answered w p (Waiting m d) y c Wait at h is = absurd h
-effect_answered w p (Ended e) y c a at h is = absurd h
+effect_answered w p x y c a at h is = search rules
 
 -- the world after a call of process p, which leaves it as y
 abbrev pub called : WorldState → ℕ → Call → Process → WorldState
@@ -142,20 +132,8 @@ execution_kernel {w} {v} {ps} {es} c = ap (λ (x : WorldState). x.kernel) (sym c
 pub execution_length : {w v : WorldState} {ps : List ℕ} {es : List Entry} → IsExecution w ps v es → length v.processes ≡ length w.processes
 execution_length {w} {v} {ps} {es} c = ap (λ (x : WorldState). length x.processes) (sym c.leads) ∙ length-run w ps
 
--- the entries of an execution are a legal history
-legal_try : (k : KernelState) (p : ℕ) (m : Machine) (a : NextAction) → IsLegal k (entry_of p (first_try k p m a))
-legal_try k p m (moves q) = tt
-legal_try k p m (calls c) = (refl, tt)
-
-legal_retry : (k : KernelState) (p : ℕ) (m : Machine) (c : Call) (a : Answer) → a ≡ (answer k p c).0 → IsLegal k (entry_of p (retry m c a))
-legal_retry k p m c Wait is = tt
-legal_retry k p m c (Done r) is = (is, tt)
-
 legal_effect : (k : KernelState) (p : ℕ) (o : Option Process) → IsLegal k (entry_of p (step_effect k p o))
-legal_effect k p None = tt
-legal_effect k p (Some (Running m)) = legal_try k p m (next_action m)
-legal_effect k p (Some (Waiting m c)) = legal_retry k p m c (answer k p c).0 refl
-legal_effect k p (Some (Ended e)) = tt
+legal_effect k p x = search rules
 
 pub legal_run : (w : WorldState) (ps : List ℕ) → IsLegal w.kernel (entries w ps)
 unfolding entries

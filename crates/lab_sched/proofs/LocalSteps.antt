@@ -1,7 +1,6 @@
 -- Local steps of a process, what keeps it from the next one, and what comes of its call.
-use Rattle.std.proofs.Common.{ℕ, ◌≡◌, Some, refl, sym, ap, ◌∙◌, subst, Ok, length}
-use Rattle.lc3_machine.specs.Process.{Process as Machine, Held, Stops}
-use Rattle.lc3_machine.specs.Effects.{next_step}
+use Rattle.std.proofs.Common.{ℕ, ◌≡◌, Some, refl, sym, ap, ◌∙◌, subst, Ok, length, rules}
+use Rattle.lc3_machine.specs.Process.{Process as Machine, Held}
 use Rattle.lc3_machine.specs.Reply.{process_after_end}
 use Rattle.lc3_machine.specs.Steps.{AreOwnSteps}
 use Rattle.lc3_machine.specs.declared.want.How.{How}
@@ -18,20 +17,19 @@ use Rattle.ipc_kernel.specs.declared.call.Answer.TheVariants.{Done, Wait}
 use Rattle.ipc_kernel.specs.Answer.{answer}
 use Rattle.ipc_kernel.proofs.LawfulAnswers.{answer_wait}
 use Rattle.ipc_kernel.specs.Replies.{IsReplyTo}
-use Rattle.ipc_traps.specs.Asked.{Request, Local, Refuses, Calls, Ends, next_request}
+use Rattle.ipc_traps.specs.Asked.{Request, Refuses, Calls, Ends, next_request}
 use Rattle.ipc_traps.specs.Reply.{HasRoom, IsPrepared, process_after_reply}
 use Rattle.ipc_traps.proofs.Laws.{room_prepared, asked_end, asked_local}
 use Rattle.ipc_kernel.specs.declared.call.Answer.{Answer}
 use Rattle.lab_sched.specs.declared.process.Process.{Process as Kept}
 use Rattle.lab_sched.specs.declared.process.Process.TheVariants as kept
 use Rattle.lab_sched.specs.declared.stepped.Stepped.TheVariants as stepped
-use Rattle.lab_sched.specs.Worlds.{Process, Running, Waiting, Ended, machine_of, calls, next_action, action_for, process_after_answer, first_try, kernel_step}
-use Rattle.lab_sched.specs.Held.{process_view, IsHeld, local_told, HasStepped, StepResult, step_result, stepped_of}
+use Rattle.lab_sched.specs.Worlds.{Process, Running, Waiting, Ended, machine_of, calls, next_action, action_for, process_after_answer, kernel_step}
+use Rattle.lab_sched.specs.Held.{process_view, IsHeld, local_told, HasStepped, StepResult, stepped_of}
 use Rattle.lab_sched.specs.LocalRun.{IsLocalStep, AreLocal}
 use Rattle.lab_sched.specs.Private.Moved.{Came}
 use Rattle.lab_sched.specs.Settling.{AsksFor}
 use Rattle.lab_sched.specs.Stepping.{CanTakeReply, StandsBefore, StopsBy, after_end, after_reply}
-use Rattle.lab_sched.proofs.OwnSteps.{first_local}
 
 -- no local step
 pub local_none : (s u : Process) (n : ℕ) → AreLocal n s u → n ≡ 0 → u ≡ s
@@ -40,16 +38,11 @@ local_none s u n h none = sym (subst (λ i. AreLocal i s u) none h)
 -- one local step, by what was asked
 local_first : (k : KernelState) (p : ℕ) (m : Machine) (request : Request) (u : Process) → AreLocal 1 (Running m) u → next_request m ≡ request
     → HasStepped k p (Running m) k u (local_told (Some request))
-local_first k p m request u h asked =
-    let first = first_local 0 m u h in
-    let same : Running first.0 ≡ u = first.2 in
-    rw (first.1, asked, same) refl
+local_first k p m request u h asked = search rules
 
 -- one step that a machine takes by itself
 own_first : (k : KernelState) (p : ℕ) (s u : Process) → AreLocal 1 s u → AreOwnSteps 1 (machine_of s) (machine_of u) → HasStepped k p s k u stepped.Moved
-own_first k p (Running m) u h own = local_first k p m (Local own.0) u h (asked_local m own.0 own.1)
-own_first k p (Waiting m c) u h own = absurd h.1
-own_first k p (Ended e) u h own = absurd h.1
+own_first k p x u h own = search (rules, local_first, asked_local)
 
 pub local_one : (k : KernelState) (p : ℕ) (s u : Process) (n : ℕ) → AreLocal n s u → AreOwnSteps n (machine_of s) (machine_of u) → n ≡ 1
     → HasStepped k p s k u stepped.Moved
@@ -72,9 +65,7 @@ told_reply m c r is = rw is refl
 -- the first try of a call, by what the kernel answers
 tried : (k j : KernelState) (p : ℕ) (m : Machine) (c : Call) (a : Answer) → next_request m ≡ Calls c → (a, j) ≡ answer k p c
     → HasStepped k p (Running m) j (process_after_answer m c a) (stepped_of (Some (next_request m)) (kernel_step m c a))
-tried k j p m c a is answered =
-    ap {B = StepResult} (λ (x : Answer × KernelState). record { process = process_after_answer m c x.0; kernel = x.1; told = stepped_of (Some (next_request m)) (kernel_step m c x.0) }) answered
-    ∙ sym (ap {B = StepResult} (λ b. step_result k p (Running m) (first_try k p m b)) (asks m c is))
+tried k j p m c a is answered = search (rules, asks)
 
 -- a call that is answered at its first try
 pub tried_reply : (k j : KernelState) (p : ℕ) {m h n : Machine} {c : Call} {r : Reply} → (next_request m ≡ Calls c) × (h ≡ m) → (Done r, j) ≡ answer k p c → n ≡ process_after_reply h r
@@ -108,9 +99,7 @@ reply_told x h c reply q is held q-is = let so : IsHeld (kept.Waiting h c) = rw 
 -- a process that must still wait
 pub wait_step : (k j : KernelState) (p : ℕ) (m : Machine) (c : Call) → (Wait, j) ≡ answer k p c
     → HasStepped k p (Waiting m c) j (Waiting m c) stepped.Same
-wait_step k j p m c is =
-    let same : j ≡ k = ap (λ o. o.1) is ∙ answer_wait k p c (sym (ap (λ o. o.0) is)) in
-    rw (← is, same) refl
+wait_step k j p m c is = search (rules, answer_wait)
 
 -- an end asks for Exit
 act_end : (m : Machine) (how : How) → next_request m ≡ Ends how → next_action m ≡ calls Exit
@@ -131,9 +120,7 @@ end_told k j p (Ended e) u how stands u-is j-is = absurd stands
 
 -- a process at its end asks for Exit
 pub end_asks : (x : Kept) (h : Held) (p : Progress) (how : How) → x ≡ kept.Running h → p ≡ progress.Stopped (End how) → StopsBy (process_view x) p → AsksFor (process_view x) Exit
-end_asks x h p how is stopped stops =
-    let stands : next_step h.process ≡ Stops (End how) = rw (is, stopped) at stops in
-    rw is (act_end h.process how (asked_end h.process how stands))
+end_asks x h p how is stopped stops = search (rules, act_end, asked_end)
 
 -- what came of a step that was taken
 pub came : {A E : Type 0} {Told : A → Type 0} {k j : KernelState} {s u : Kept} {a : A} → Told a → IsHeld u → length j.processes ≡ length k.processes

@@ -1,9 +1,8 @@
 -- Local steps of a process: the first of them, those that its machine takes by itself, and traces that grow by them or by a call.
-use Rattle.std.proofs.Common.{ℕ, suc, ◌≡◌, refl, ap, subst, ◌+◌, ◌++◌, List, [], ◌∷◌, arith}
+use Rattle.std.proofs.Common.{ℕ, suc, ◌≡◌, refl, ap, subst, ◌+◌, ◌++◌, List, [], ◌∷◌, arith, rules}
 use Rattle.lc3_machine.specs.Process.{Process as Machine}
 use Rattle.lc3_machine.specs.Steps.{HasRun, IsOwnStep, AreOwnSteps}
 use Rattle.lc3_machine.specs.declared.machine.Progress.{Progress}
-use Rattle.lc3_machine.specs.declared.machine.Progress.TheVariants as progress
 use Rattle.lc3_machine.proofs.Runs.{steps_map, steps_append}
 use Rattle.ipc_traps.proofs.Laws.{asked_local}
 use Rattle.lab_sched.specs.Worlds.{Process, Running, moves, next_action, action_for}
@@ -23,9 +22,7 @@ own_local m q is = (q, ap (λ r. action_for m r) (asked_local m q is), refl)
 
 -- a run of the machine has done its steps, whatever stopped it
 pub ran_own : (most n : ℕ) (m q : Machine) (p : Progress) → HasRun m most p q n → AreOwnSteps n m q
-ran_own most n m q progress.Moved h = h.1
-ran_own most n m q (progress.Stopped want) h = h.1
-ran_own most n m q progress.Short h = h.1
+ran_own most n m q x h = search rules
 
 -- they are local steps of the process
 pub ran_local : (most n : ℕ) (m q : Machine) (p : Progress) → HasRun m most p q n → AreLocal n (Running m) (Running q)

@@ -1,6 +1,6 @@
 -- The processes of a world keep their profile.
-use Rattle.std.proofs.Common.{◌≡◌, ℕ, zero, suc, Some, List, [], ◌∷◌, All, map, refl, sym, ap, ◌∙◌, subst, arith}
-use Rattle.std.proofs.lemmas.List.Elements.{All-weaker, All-map}
+use Rattle.std.proofs.Common.{◌≡◌, ℕ, zero, suc, Some, List, [], ◌∷◌, All, map, refl, sym, ap, ◌∙◌, subst, rules}
+use Rattle.std.proofs.lemmas.List.Elements.{All-map}
 use Rattle.lc3_table.specs.declared.profile.Profile.{Profile}
 use Rattle.lc3_machine.specs.Process.{Process as Machine}
 use Rattle.lc3_machine.proofs.Profiles.{ended_profile}
@@ -9,7 +9,6 @@ use Rattle.ipc_kernel.specs.declared.call.Reply.{Reply}
 use Rattle.ipc_kernel.specs.declared.call.Answer.{Answer}
 use Rattle.ipc_kernel.specs.declared.call.Answer.TheVariants.{Done, Wait}
 use Rattle.ipc_kernel.specs.Kernel.{KernelState}
-use Rattle.ipc_kernel.specs.Answer.{answer}
 use Rattle.ipc_traps.specs.Asked.{Request, Local, Refuses, Calls, Ends, next_request}
 use Rattle.ipc_traps.proofs.Profiles.{Keeps, asked_keeps, replied_profile}
 use Rattle.lab_sched.specs.declared.fresh.Program.{Program}
@@ -21,10 +20,7 @@ use Rattle.lab_sched.specs.declared.trace.Trace.{Trace}
 use Rattle.lab_sched.proofs.OwnSteps.{first_local}
 
 replied-by : (m : Machine) (request : Request) (r : Reply) → profile_of (process_after_reply_to m request r) ≡ m.profile
-replied-by m (Local n) r = replied_profile m r
-replied-by m (Refuses e) r = replied_profile m r
-replied-by m (Calls d) r = replied_profile m r
-replied-by m (Ends how) r = ended_profile m how
+replied-by m x r = search (rules, replied_profile, ended_profile)
 
 -- an answer keeps the profile
 pub told_profile : (m : Machine) (c : Call) (a : Answer) → profile_of (process_after_answer m c a) ≡ m.profile
@@ -52,18 +48,14 @@ pub moves_profile : (m q : Machine) → next_action m ≡ moves q → q.profile 
 moves_profile m q is = subst (KeepsIn m.profile) is (act_keeps m)
 
 first-try : (k : KernelState) (p : ℕ) (m : Machine) (a : NextAction) → KeepsIn m.profile a → profile_of (process_after (Running m) (first_try k p m a)) ≡ m.profile
-first-try k p m (moves n) h = h
-first-try k p m (calls c) h = told_profile m c (answer k p c).0
+first-try k p m x h = search (rules, told_profile)
 
 retried : (m : Machine) (c : Call) (a : Answer) → profile_of (process_after (Waiting m c) (retry m c a)) ≡ m.profile
-retried m c Wait = refl
-retried m c (Done r) = told_profile m c (Done r)
+retried m c x = search (rules, told_profile)
 
 -- a step keeps the profile
 pub effect_profile : (k : KernelState) (p : ℕ) (s : Process) → profile_of (process_after s (step_effect k p (Some s))) ≡ profile_of s
-effect_profile k p (Running m) = first-try k p m (next_action m) (act_keeps m)
-effect_profile k p (Waiting m c) = retried m c (answer k p c).0
-effect_profile k p (Ended e) = refl
+effect_profile k p x = search (rules, first-try, act_keeps, retried)
 
 -- local steps keep the profile
 pub locals_profile : (n : ℕ) (s u : Process) → AreLocal n s u → profile_of u ≡ profile_of s
@@ -75,10 +67,7 @@ locals_profile (suc n) (Waiting m c) u h = absurd h.1
 locals_profile (suc n) (Ended e) u h = absurd h.1
 
 is_told : (s : Process) (c : Call) (a : Answer) (v : Process) → TakesAnswer s c a v → profile_of v ≡ profile_of s
-is_told (Running m) c a v h = ap profile_of (sym h.1) ∙ told_profile m c a
-is_told (Waiting m d) c (Done r) v h = ap profile_of (sym h.1) ∙ told_profile m c (Done r)
-is_told (Waiting m d) c Wait v h = absurd h
-is_told (Ended e) c a v h = absurd h
+is_told x c a v h = search (rules, told_profile)
 
 leads_profile : (ts : List TracedCall) (s : Process) (n : ℕ) (u : Process) → Leads s ts n u → profile_of u ≡ profile_of s
 leads_profile [] s n u h = locals_profile n s u h
@@ -91,8 +80,7 @@ alone_profile s t u h = leads_profile t.calls.items s t.after u h
 
 -- processes of this profile have one
 pub one_of : (profile : Profile) (ps : List Process) → All (HasProfile profile) ps → HaveOneProfile ps
-one_of profile [] h = λ i d below. absurd (omega (arith, below))
-one_of profile (s ∷ ss) h = All-weaker (HasProfile profile) (HasProfile (profile_of s)) (λ t e. e ∙ sym (h 0 s (omega arith))) (s ∷ ss) h
+one_of profile x h = search rules
 
 -- the processes of programs have the profile that they were made of
 pub starts_profile : (profile : Profile) (ps : List Program) → HaveOneProfile (map (start_of profile) ps)

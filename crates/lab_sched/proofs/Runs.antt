@@ -1,11 +1,11 @@
 -- Runs of worlds: what lists of steps do one after another.
-use Rattle.std.proofs.Common.{ℕ, zero, suc, false, Option, None, Some, slice_get, ◌+◌, ◌≡◌, ◌++◌, List, [], ◌∷◌, refl, sym, ap, ◌∙◌, length, replicate}
+use Rattle.std.proofs.Common.{ℕ, zero, suc, false, Option, slice_get, ◌+◌, ◌≡◌, ◌++◌, List, [], ◌∷◌, refl, sym, ap, ◌∙◌, length, replicate, rules}
 use Rattle.std.proofs.lemmas.List.{length-set, replicate-append-replicate}
 use Rattle.lab_sched.specs.Worlds.{Running, WorldState, StepEffect, nothing, local_step, kernel_step, step_effect_in, process_after_answer, after, step, run}
 use Rattle.ipc_kernel.specs.declared.call.Answer.TheVariants.{Done, Wait}
 use Rattle.lab_sched.specs.Held.{asked_by, local_told, stepped_of, told_in}
 use Rattle.lab_sched.specs.Private.Moved.{has_moved}
-use Rattle.ipc_traps.specs.Asked.{Request, Local, Refuses, Calls, Ends}
+use Rattle.ipc_traps.specs.Asked.{Request}
 use Rattle.lab_sched.specs.declared.stepped.Stepped.{Stepped}
 use Rattle.lab_sched.specs.declared.stepped.Stepped.TheVariants as stepped
 
@@ -49,11 +49,7 @@ run_rests (suc n) w p rests =
 
 -- only of a step without effect it is told that there was none
 local_told_some : (request : Option Request) → local_told request ≡ stepped.Same → ⊥
-local_told_some None e = cc
-local_told_some (Some (Local n)) e = cc
-local_told_some (Some (Refuses f)) e = cc
-local_told_some (Some (Calls c)) e = cc
-local_told_some (Some (Ends how)) e = cc
+local_told_some x e = search rules
 
 pub told_nothing : (request : Option Request) (t : StepEffect) → stepped_of request t ≡ stepped.Same → t ≡ nothing
 told_nothing request nothing e = refl
@@ -66,14 +62,8 @@ pub nothing_told : (w : WorldState) (p : ℕ) → step_effect_in w p ≡ nothing
 nothing_told w p is = ap (λ t. stepped_of (asked_by (slice_get w.processes p)) t) is
 
 unmoved : (told : Stepped) → false ≡ has_moved told → told ≡ stepped.Same
-unmoved stepped.Same e = refl
-unmoved stepped.Moved e = cc
-unmoved (stepped.Refused f) e = cc
-unmoved (stepped.Called r) e = cc
-unmoved stepped.Waits e = cc
+unmoved x e = search rules
 
 -- a step without effect stands for k of them
 pub run_unmoved : (w : WorldState) (p k : ℕ) → false ≡ has_moved (told_in w p) → step w p ≡ run w (replicate k p)
-run_unmoved w p k is =
-    let rests = told_nothing (asked_by (slice_get w.processes p)) (step_effect_in w p) (unmoved (told_in w p) is) in
-    ap (λ t. after w p t) rests ∙ sym (run_rests k w p rests)
+run_unmoved w p k is = search (rules, told_nothing, unmoved, run_rests)

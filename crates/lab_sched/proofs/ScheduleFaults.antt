@@ -1,6 +1,6 @@
 -- Which faults a text has, and what is read.
-use Rattle.std.proofs.Common.{inl, inr, ◌≡◌, ◌<◌, ◌≤◌, ◌-◌, ◌+◌, ℕ, suc, List, [], ◌∷◌, length, map, take, drop, get_or, Bool, true, false, cond, Option, Some, None, Result, Ok, Err, refl, ap, sym, arith, subst, IfOk, IfErr}
-use Rattle.std.specs.Prelude.{nat_lt, nat_le, ◌&&◌, position, is_none, IfSome}
+use Rattle.std.proofs.Common.{inl, inr, ◌≡◌, ◌<◌, ◌≤◌, ◌-◌, ◌+◌, ℕ, suc, List, [], ◌∷◌, length, map, take, drop, get_or, Bool, true, false, cond, Option, Some, None, Result, Ok, Err, refl, ap, sym, arith, subst, IfOk, IfErr, rules}
+use Rattle.std.specs.Prelude.{nat_lt, position, is_none, IfSome}
 use Rattle.std.specs.List.{AllByRecursion, filter_map, position_or_len}
 use Rattle.std.proofs.lemmas.List.Sums.{sum_by-cons, fails_before_first, passes_at_first}
 use Rattle.std.proofs.lemmas.Bool.Decides.{leb_tells, nat_tests}
@@ -18,18 +18,10 @@ use Rattle.ipc_kernel.specs.Limits.{process_max}
 
 -- the block of a word is valid
 range-valid : (low high : ℕ) (P : ℕ → Type 0) (o : Option ℕ) → ((n : ℕ) → low ≤ n → n ≤ high → P n) → IfSome (in_range low high o) P
-range-valid low high P None valid = tt
-range-valid low high P (Some n) valid = go (nat_le low n) (nat_le n high) refl refl
-  where
-    go : (a b : Bool) → nat_le low n ≡ a → nat_le n high ≡ b → IfSome (cond (a && b) (Some n) None) P
-    go true true e f = valid n (grind (arith, nat_tests)) (grind (arith, nat_tests))
-    go true false e f = tt
-    go false b e f = tt
+range-valid low high x y valid = search rules
 
 block_from-valid : (p n : Option ℕ) → IfSome p (λ k. k < process_max) → IfSome n (λ k. 1 ≤ k) → IfSome (block_from p n) IsBlock
-block_from-valid None n f g = tt
-block_from-valid (Some p) None f g = tt
-block_from-valid (Some p) (Some n) f g = record { process = f; some = g }
+block_from-valid x n f g = search rules
 
 block_in-valid : (w : List ℕ) → IfSome (block_in w) IsBlock
 unfolding block_in process_in count_in
@@ -108,12 +100,10 @@ ReadingTells ws (Err (TooLong at)) = IsFirstTooLong ws at
 ReadingTells ws (Err NoMemory) = ⊥
 
 none-is : (o : Option Block) → is_none o ≡ true → o ≡ None
-none-is None e = refl
-none-is (Some b) e = cc
+none-is x e = search rules
 
 none-not : (o : Option Block) → ¬ (o ≡ None) → is_none o ≡ false
-none-not None some = absurd (some refl)
-none-not (Some b) some = refl
+none-not x some = search rules
 
 reading-tells : (ws : List (List ℕ)) → ReadingTells ws (reading_of_words ws)
 unfolding reading_of_words blocks_of_words
@@ -159,8 +149,7 @@ first_bad_block_lem text at = (λ is. subst (ReadingTells (words text)) is (read
 
 -- what an answer that gives the reading of a text says
 pub gives_read : (r : Result (List Block) SchedFault) (text : List ℕ) → Gives (λ s. s) r (reading text) → IfOk r (λ s. reading text ≡ Ok s) × IfErr r (λ e. Fails e (reading text))
-gives_read (Ok s) text gives = (gives, tt)
-gives_read (Err e) text gives = (tt, gives)
+gives_read x text gives = search rules
 
 pub gives_fault : (r : Result (List Block) SchedFault) (text : List ℕ) → Gives (λ s. s) r (reading text)
     → ((at : ℕ) → r ≡ Err (BadBlock at) → IsFirstBad (words text) at) × ((at : ℕ) → r ≡ Err (TooLong at) → IsFirstTooLong (words text) at)

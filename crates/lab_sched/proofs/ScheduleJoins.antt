@@ -1,5 +1,5 @@
 -- Joined blocks.
-use Rattle.std.proofs.Common.{◌≡◌, ◌≢◌, ℕ, suc, zero, subst, ◌+◌, ◌-◌, ◌<◌, ◌≤◌, true, false, List, [], ◌∷◌, ◌++◌, length, take, get_or, set, replicate, refl, ap, sym, ◌∙◌, append_assoc, append-nil, arith, inl, inr, length-append}
+use Rattle.std.proofs.Common.{◌≡◌, ◌≢◌, ℕ, suc, zero, ◌+◌, ◌-◌, ◌<◌, ◌≤◌, true, false, List, [], ◌∷◌, ◌++◌, length, take, get_or, set, replicate, refl, ap, sym, ◌∙◌, append_assoc, append-nil, arith, inl, inr, rules}
 use Rattle.std.specs.Prelude.{◌==◌}
 use Rattle.std.specs.List.{AllByRecursion}
 use Rattle.std.proofs.lemmas.List.{replicate-append-replicate, take_all, take_more, set_at, nil_from_length, length-take-le, get_or_default, length-replicate, replicate_more}
@@ -11,6 +11,7 @@ use Rattle.lab_sched.specs.ScheduleLaws.{StepsTell}
 use Rattle.lab_sched.specs.Schedules.{block, steps_of, total_of, before, joined_blocks, IsBlock, AreApart, IsSchedule, most_steps}
 use Rattle.std.proofs.Math.Seq.{take-append_seam, get_or-append_seam}
 use Rattle.lab_sched.specs.Private.Blocks.{IsResized}
+use Rattle.std.proofs.lemmas.Grind.{common_steps}
 
 pub is_same : (m n : ℕ) → m ≡ n → (m == n) ≡ true
 is_same m n h = grind (arith, nat_tests)
@@ -40,9 +41,7 @@ steps-joined (b ∷ rest) = steps-before b (joined_blocks rest) ∙ ap (λ s. re
 
 total-before : (b : Block) (bs : List Block) → total_of (before b bs) ≡ b.count + total_of bs
 total-before b [] = omega arith
-total-before b (c ∷ rest) = before-cases (λ bs. total_of bs ≡ b.count + total_of (c ∷ rest)) b c rest
-    (λ e. omega (arith, sum_by-cons (λ (d : Block). d.count) (block b.pid (b.count + c.count)) rest, sum_by-cons (λ (d : Block). d.count) c rest))
-    (λ e. sum_by-cons (λ (d : Block). d.count) b (c ∷ rest))
+total-before b (c ∷ rest) = grind (arith, common_steps, before-cases, sum_by-cons)
 
 pub total-joined : (bs : List Block) → total_of (joined_blocks bs) ≡ total_of bs
 unfolding joined_blocks
@@ -57,16 +56,10 @@ length-steps bs = length-flat_map (λ (b : Block). replicate b.count b.pid) bs �
 -- the normal form
 
 apart-tail : (b : Block) (bs : List Block) → AreApart (b ∷ bs) → AreApart bs
-apart-tail b [] h = tt
-apart-tail b (c ∷ rest) h = h.1
-
-apart-like : (b c : Block) (bs : List Block) → b.pid ≡ c.pid → AreApart (c ∷ bs) → AreApart (b ∷ bs)
-apart-like b c [] e h = tt
-apart-like b c (d ∷ rest) e h = (λ f. h.0 (sym e ∙ f), h.1)
+apart-tail b x h = search rules
 
 apart-before : (b : Block) (bs : List Block) → AreApart bs → AreApart (before b bs)
-apart-before b [] h = tt
-apart-before b (c ∷ rest) h = before-cases AreApart b c rest (λ e. apart-like (block b.pid (b.count + c.count)) c rest e h) (λ e. (e, h))
+apart-before b x h = search rules
 
 pub apart-joined : (bs : List Block) → AreApart (joined_blocks bs)
 unfolding joined_blocks
@@ -74,8 +67,7 @@ apart-joined [] = tt
 apart-joined (b ∷ rest) = apart-before b (joined_blocks rest) (apart-joined rest)
 
 before-tail : (b : Block) (bs : List Block) → AreApart (b ∷ bs) → before b bs ≡ b ∷ bs
-before-tail b [] h = refl
-before-tail b (c ∷ rest) h = rw (is_other b.pid c.pid h.0) refl
+before-tail b x h = search rules
 
 pub joined-apart : (bs : List Block) → AreApart bs → joined_blocks bs ≡ bs
 unfolding joined_blocks
@@ -102,10 +94,7 @@ apart-push (x ∷ y ∷ rest) c b h e = (h.0, apart-push (y ∷ rest) c b h.1 e)
 -- joining what is joined already changes nothing
 
 pub before-before : (b c : Block) (bs : List Block) → b.pid ≡ c.pid → before b (before c bs) ≡ before (block b.pid (b.count + c.count)) bs
-before-before b c [] e = rw (is_same b.pid c.pid e) refl
-before-before b c (d ∷ rest) e = before-cases (λ bs. before b bs ≡ before (block b.pid (b.count + c.count)) (d ∷ rest)) c d rest
-    (λ f. rw (is_same b.pid c.pid e, is_same b.pid d.pid (e ∙ f)) (ap (λ k. block b.pid k ∷ rest) (omega arith)))
-    (λ f. rw (is_same b.pid c.pid e, is_other b.pid d.pid (λ g. f (sym e ∙ g))) refl)
+before-before b c x e = search rules
 
 joined-before : (b : Block) (zs ys : List Block) → joined_blocks (before b zs ++ ys) ≡ before b (joined_blocks (zs ++ ys))
 unfolding joined_blocks
@@ -121,9 +110,7 @@ joined-joined (b ∷ rest) ys = joined-before b (joined_blocks rest) ys ∙ ap (
 -- valid blocks
 
 valid-before : (b : Block) (bs : List Block) → IsBlock b → AllByRecursion IsBlock bs → AllByRecursion IsBlock (before b bs)
-valid-before b [] h hs = (h, tt)
-valid-before b (c ∷ rest) h hs =
-    before-cases (AllByRecursion IsBlock) b c rest (λ e. (record { process = h.process; some = omega (arith, h.some) }, hs.1)) (λ e. (h, hs))
+valid-before b x h hs = search rules
 
 pub valid-joined : (bs : List Block) → AllByRecursion IsBlock bs → AllByRecursion IsBlock (joined_blocks bs)
 unfolding joined_blocks
@@ -131,8 +118,7 @@ valid-joined [] h = tt
 valid-joined (b ∷ rest) h = valid-before b (joined_blocks rest) h.0 (valid-joined rest h.1)
 
 pub valid-push : (bs : List Block) (b : Block) → AllByRecursion IsBlock bs → IsBlock b → AllByRecursion IsBlock (bs ++ b ∷ [])
-valid-push [] b h k = (k, tt)
-valid-push (c ∷ bs) b h k = (h.0, valid-push bs b h.1 k)
+valid-push x b h k = grind (arith, common_steps)
 
 pub total-push : (bs : List Block) (b : Block) → total_of (joined_blocks (bs ++ b ∷ [])) ≡ total_of bs + b.count
 total-push bs b = total-joined (bs ++ b ∷ []) ∙ sum_by_push (λ (d : Block). d.count) bs b
@@ -149,16 +135,11 @@ pub steps-push : (bs : List Block) (b : Block) → steps_of (joined_blocks (bs +
 steps-push bs b = steps-joined (bs ++ b ∷ []) ∙ steps-append bs (b ∷ []) ∙ ap (λ s. steps_of bs ++ s) (steps-one b)
 
 pub schedule-push : (bs : List Block) (b : Block) → IsSchedule bs → IsBlock b → total_of bs + b.count ≤ most_steps → IsSchedule (joined_blocks (bs ++ b ∷ []))
-schedule-push bs b h k room = record {
-  valid = valid-joined (bs ++ b ∷ []) (valid-push bs b h.valid k);
-  apart = apart-joined (bs ++ b ∷ []);
-  within = rw (total-push bs b) room;
-}
+schedule-push bs b h k room = search (rules, valid-joined, valid-push, apart-joined, total-push)
 
 -- the last block of a Vec
 last-split : (xs : List Block) (n : ℕ) (d : Block) → length xs ≡ n → 0 < n → d ≡ get_or xs (n - 1) d → xs ≡ take (n - 1) xs ++ d ∷ []
-last-split xs n d l h e =
-    sym (take_all (n - 1 + 1) xs (omega arith)) ∙ take_more xs (n - 1) d (omega arith) ∙ ap (λ x. take (n - 1) xs ++ x ∷ []) (sym e)
+last-split xs n d l h e = search (rules, take_all, take_more)
 
 -- two reads of one element
 pub same_read : (xs : List Block) (i : ℕ) (d e : Block) → i < length xs → d ≡ get_or xs i d → e ≡ get_or xs i e → d ≡ e
@@ -166,19 +147,11 @@ same_read xs i d e h p q = p ∙ get_or_default xs i d e h ∙ sym q
 
 pub joined-set : (xs : List Block) (n : ℕ) (d b : Block) → length xs ≡ n → 0 < n → AreApart xs → d ≡ get_or xs (n - 1) d → d.pid ≡ b.pid
     → set xs (n - 1) (block d.pid (d.count + b.count)) ≡ joined_blocks (xs ++ b ∷ [])
-joined-set xs n d b l h apart e same =
-    let f : List Block = take (n - 1) xs in
-    let s : xs ≡ f ++ d ∷ [] = last-split xs n d l h e in
-    ap (λ ys. set ys (n - 1) (block d.pid (d.count + b.count))) s
-    ∙ set_at f d [] (block d.pid (d.count + b.count)) (n - 1) (length-take-le (n - 1) xs (omega arith))
-    ∙ sym (joined-push_same f d b same ∙ joined-apart (f ++ block d.pid (d.count + b.count) ∷ []) (apart-last f d (d.count + b.count) (subst AreApart s apart)))
-    ∙ ap (λ ys. joined_blocks (ys ++ b ∷ [])) (sym s)
+joined-set xs n d b l h apart e same = grind (arith, common_steps, last-split, set_at, length-take-le, joined-push_same, joined-apart, apart-last)
 
 pub joined-apart_push : (xs : List Block) (n : ℕ) (d b : Block) → length xs ≡ n → 0 < n → AreApart xs → d ≡ get_or xs (n - 1) d → d.pid ≢ b.pid
     → xs ++ b ∷ [] ≡ joined_blocks (xs ++ b ∷ [])
-joined-apart_push xs n d b l h apart e other =
-    let s = last-split xs n d l h e in
-    sym (joined-apart (xs ++ b ∷ []) (subst (λ ys. AreApart (ys ++ b ∷ [])) (sym s) (apart-push (take (n - 1) xs) d b (subst AreApart s apart) other)))
+joined-apart_push xs n d b l h apart e other = grind (arith, common_steps, last-split, joined-apart, apart-push)
 
 pub joined-first : (xs : List Block) (b : Block) → length xs ≡ 0 → xs ++ b ∷ [] ≡ joined_blocks (xs ++ b ∷ [])
 joined-first xs b l = rw (nil_from_length xs l) (sym (joined-apart (b ∷ []) tt))
@@ -197,9 +170,7 @@ blocks_of-replicate (suc n) p ps =
     ∙ ap (λ k. before (block p k) (blocks_of ps)) (omega arith)
 
 blocks_of-some : (b : Block) (ps : List ℕ) → 1 ≤ b.count → blocks_of (replicate b.count b.pid ++ ps) ≡ before b (blocks_of ps)
-blocks_of-some b ps h =
-    let e : suc (b.count - 1) ≡ b.count = omega arith in
-    ap (λ n. blocks_of (replicate n b.pid ++ ps)) (sym e) ∙ blocks_of-replicate (b.count - 1) b.pid ps ∙ ap (λ n. before (block b.pid n) (blocks_of ps)) e
+blocks_of-some b ps h = search (rules, blocks_of-replicate)
 
 blocks_of-steps : (bs : List Block) → AllByRecursion IsBlock bs → AreApart bs → blocks_of (steps_of bs) ≡ bs
 unfolding steps_of blocks_of
@@ -209,18 +180,13 @@ blocks_of-steps (b ∷ rest) v h =
 
 -- schedules of the same steps are the same
 pub steps_tell_lem : StepsTell
-steps_tell_lem xs ys h k e =
-    sym (blocks_of-steps xs h.valid h.apart) ∙ ap blocks_of e ∙ blocks_of-steps ys k.valid k.apart
+steps_tell_lem xs ys h k e = search (rules, blocks_of-steps)
 
 -- the last block of a schedule, and its last step
 
 -- lists with equal ends
 same_ends : (xs ys : List ℕ) (x y : ℕ) → xs ++ x ∷ [] ≡ ys ++ y ∷ [] → (xs ≡ ys) × (x ≡ y)
-same_ends xs ys x y e =
-    let l : length xs ≡ length ys = omega (arith, ap length e, length-append xs (x ∷ []), length-append ys (y ∷ [])) in (
-      sym (take-append_seam xs (x ∷ [])) ∙ ap (λ n. take n (xs ++ x ∷ [])) l ∙ ap (take (length ys)) e ∙ take-append_seam ys (y ∷ []),
-      sym (get_or-append_seam xs x [] 0) ∙ ap (λ n. get_or (xs ++ x ∷ []) n 0) l ∙ ap (λ zs. get_or zs (length ys) 0) e ∙ get_or-append_seam ys y [] 0,
-    )
+same_ends xs ys x y e = grind (arith, common_steps, take-append_seam, get_or-append_seam)
 
 -- the front and the last block of a schedule
 
@@ -252,10 +218,7 @@ resized-steps front d n p ps some e =
 -- a schedule of the front, and of so many steps of the last block's process
 resized : (front : List Block) (d : Block) (n : ℕ) (ys : List Block) → IsSchedule (front ++ d ∷ []) → IsSchedule ys → steps_of ys ≡ steps_of front ++ replicate (d.count - 1 + n) d.pid
     → total_of ys ≡ total_of front + (d.count - 1 + n) → IsResized (front ++ d ∷ []) ys n
-resized front d n ys h schedule steps total =
-    let some = (valid-ends front d h.valid).1.some in
-    let was = total-last front d in
-    record { schedule = schedule; total = omega arith; steps = λ ps p e. steps ∙ resized-steps front d n p ps some e }
+resized front d n ys h schedule steps total = search (rules, valid-ends, total-last, resized-steps)
 
 -- none are left of the last block
 pub resized_none : (front : List Block) (d : Block) (n : ℕ) → IsSchedule (front ++ d ∷ []) → d.count - 1 + n ≡ 0 → IsResized (front ++ d ∷ []) front n
@@ -267,14 +230,4 @@ resized_none front d n h none =
 -- some are left
 pub resized_some : (front : List Block) (d : Block) (n : ℕ) → IsSchedule (front ++ d ∷ []) → total_of (front ++ d ∷ []) + n ≤ most_steps + 1 → 0 < d.count - 1 + n
     → IsResized (front ++ d ∷ []) (front ++ block d.pid (d.count - 1 + n) ∷ []) n
-resized_some front d n h room some =
-    let ends = valid-ends front d h.valid in
-    let c : Block = block d.pid (d.count - 1 + n) in
-    let was = total-last front d in
-    let is = total-last front c in
-    resized front d n (front ++ c ∷ []) h
-    (record {
-      valid = valid-push front c ends.0 (record { process = ends.1.process; some = omega arith });
-      apart = apart-last front d (d.count - 1 + n) h.apart;
-      within = omega (arith, ends.1.some);
-    }) (steps-append front (c ∷ []) ∙ ap (λ s. steps_of front ++ s) (steps-one c)) is
+resized_some front d n h room some = search (rules, valid-ends, total-last, resized, valid-push, apart-last, steps-append, steps-one)

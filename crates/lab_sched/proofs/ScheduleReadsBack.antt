@@ -1,5 +1,5 @@
 -- The text of a schedule reads back as that schedule.
-use Rattle.std.proofs.Common.{◌≡◌, ℕ, zero, suc, get_or, ◌+◌, ◌<◌, ◌≤◌, false, List, [], ◌∷◌, ◌++◌, length, map, drop, refl, ap, ◌∙◌, arith, one-add, Some, None, Ok, Err, Result, IfOk, String, string_bytes, append-nil, length-append, lt-ltb, Bool, true, filter}
+use Rattle.std.proofs.Common.{◌≡◌, ℕ, zero, suc, get_or, ◌+◌, ◌<◌, ◌≤◌, false, List, [], ◌∷◌, ◌++◌, length, map, drop, refl, ap, ◌∙◌, arith, one-add, Some, None, Ok, Result, IfOk, String, string_bytes, append-nil, length-append, lt-ltb, Bool, true, filter, rules}
 use Rattle.std.proofs.Math.Seq.{drop-append-add}
 use Rattle.std.specs.Prelude.{decimal, is_none, position, not, ◌==◌}
 use Rattle.std.specs.List.{All, AllByRecursion, filter_map, flat_map, position_or_len, slice_split}
@@ -101,9 +101,7 @@ AreSmall bs = AllByRecursion (λ b. b.count ≤ most_steps) bs
 words-text : (b : Block) (rest : List Block) → AllByRecursion IsBlock (b ∷ rest) → AreSmall (b ∷ rest)
     → words (block_text b ++ later_text rest) ≡ block_text b ∷ map block_text rest
 words-text b [] v s = ap words (append-nil (block_text b)) ∙ words-last (block_text b) (text_some b) (text_no_space b v.0 s.0)
-words-text b (c ∷ rest) v s =
-    words-blank (block_text b) (block_text c ++ later_text rest) (text_some b) (text_no_space b v.0 s.0)
-    ∙ ap (λ ws. block_text b ∷ ws) (words-text c rest v.1 s.1)
+words-text b (c ∷ rest) v s = search (rules, words-blank, text_some, text_no_space, (words-text c rest v.1 s.1))
 
 blocks-text : (bs : List Block) → AllByRecursion IsBlock bs → AreSmall bs → filter_map block_in (map block_text bs) ≡ bs
 blocks-text [] v s = refl
@@ -143,5 +141,4 @@ reads_back_lem bs h =
 -- a text that was written reads back
 pub shown_back : {A E : Type 0} (r : Result (String A) E) (bs : List Block) → IsSchedule bs → IfOk r (λ s. string_bytes s ≡ schedule_text bs)
     → IfOk r (λ s. reading (string_bytes s) ≡ Ok bs)
-shown_back (Ok s) bs h e = ap reading e ∙ reads_back_lem bs h
-shown_back (Err e) bs h k = tt
+shown_back x bs h e = search (rules, reads_back_lem)

@@ -1,5 +1,5 @@
 -- One more word of a text, and one more block of a schedule.
-use Rattle.std.proofs.Common.{◌≡◌, ℕ, ◌+◌, ◌<◌, ◌≤◌, true, false, List, [], ◌∷◌, ◌++◌, length, take, drop, get_or, refl, ap, sym, ◌∙◌, arith, Some, None, Result, Ok, Err}
+use Rattle.std.proofs.Common.{◌≡◌, ℕ, ◌+◌, ◌<◌, ◌≤◌, true, false, List, [], ◌∷◌, ◌++◌, length, take, drop, get_or, refl, ap, sym, ◌∙◌, arith, Some, None, Result, Ok, Err, rules}
 use Rattle.std.specs.Prelude.{nat_lt}
 use Rattle.std.specs.List.{filter_map}
 use Rattle.std.proofs.lemmas.List.Elements.{filter_map-append}
@@ -8,7 +8,7 @@ use Rattle.std.proofs.lemmas.List.{drop_more, take_more, take_all, drop_all}
 use Rattle.std.proofs.lemmas.Bool.Decides.{nat_tests}
 use Rattle.lab_sched.specs.declared.schedule.block.Block.{Block}
 use Rattle.lab_sched.specs.declared.schedule.fault.SchedFault.{SchedFault}
-use Rattle.lab_sched.specs.declared.schedule.fault.SchedFault.TheVariants.{BadBlock, TooLong, NoMemory}
+use Rattle.lab_sched.specs.declared.schedule.fault.SchedFault.TheVariants.{BadBlock, TooLong}
 use Rattle.lab_sched.specs.Schedules.{joined_blocks, most_steps}
 use Rattle.lab_sched.specs.ScheduleTexts.{blocks_of_words, block_in, is_bad, too_long, schedule_of_blocks, reading_of_words, Fails, ◌>>=◌}
 use Rattle.lab_sched.proofs.ScheduleJoins.{joined-joined}
@@ -70,9 +70,7 @@ unfolding schedule_of_blocks
 schedule-ok bs made i e m h = rw e (ap Ok (ap joined_blocks (sym (take_all i bs h)) ∙ sym m))
 
 pub fails-then : {A B : Type 0} (e : SchedFault) (read : Result A SchedFault) (next : A → Result B SchedFault) → Fails e read → Fails e (read >>= next)
-fails-then (BadBlock at) read next h = rw h refl
-fails-then (TooLong at) read next h = rw h refl
-fails-then NoMemory read next h = tt
+fails-then x read next h = search rules
 
 pub reading-fails : (e : SchedFault) (ws : List (List ℕ)) → Fails e (blocks_of_words ws) → Fails e (reading_of_words ws)
 unfolding reading_of_words

@@ -1,11 +1,11 @@
 -- How a world stands, by how each of its processes stands, and the verdict that is worked out.
-use Rattle.std.proofs.Common.{◌≡◌, ℕ, Bool, true, false, not, ◌&&◌, List, Some, length, slice_get, get_or, refl, sym, ap, subst, ◌∙◌, arith, inl, inr, ◌⊎◌, ◌<◌, Option, None}
+use Rattle.std.proofs.Common.{◌≡◌, ℕ, Bool, true, false, not, ◌&&◌, List, Some, length, slice_get, get_or, refl, sym, ap, subst, ◌∙◌, arith, inl, inr, ◌⊎◌, ◌<◌, Option, None, rules}
 use Rattle.std.specs.List.{list_all, list_any, range_with_len}
 use Rattle.std.proofs.lemmas.List.Folds.{Any-from_list_any, list_any_at}
 use Rattle.std.proofs.lemmas.List.FromFn.{get_or-range_with_len, length-range_with_len}
 use Rattle.std.proofs.lemmas.List.Sums.{AllPass-from_list_all, list_all-from_AllPass}
 use Rattle.std.proofs.lemmas.Option.{slice_get_within, slice_get_read, slice_get-get_or, slice_get_cases, get_or_from_slice_get}
-use Rattle.lab_sched.specs.Worlds.{Process, Running, Waiting, Ended, WorldState, StepEffect, nothing, local_step, kernel_step, step_effect, step_effect_in, IsEffective, NextAction, moves, calls, next_action, first_try, retry}
+use Rattle.lab_sched.specs.Worlds.{Process, Running, Waiting, Ended, WorldState, StepEffect, nothing, local_step, kernel_step, step_effect, step_effect_in, IsEffective, NextAction, next_action, first_try, retry}
 use Rattle.lab_sched.specs.declared.verdict.Verdict.{Verdict}
 use Rattle.lab_sched.specs.declared.verdict.Verdict.TheVariants as verdict
 use Rattle.lab_sched.specs.Verdicts.{IsRunning, IsWaiting, HasEnded, HaveEnded, AreStuck, IsVerdict, is_running, is_waiting, is_ended, is_nothing, all_ended, none_moves, are_stuck, verdict_of, VerdictWorkedOut, HasNotEndedIn}
@@ -14,7 +14,6 @@ use Rattle.ipc_kernel.specs.Kernel.{KernelState}
 use Rattle.ipc_kernel.specs.Answer.{is_done}
 use Rattle.ipc_kernel.specs.declared.call.Call.{Call}
 use Rattle.ipc_kernel.specs.declared.call.Answer.{Answer}
-use Rattle.ipc_kernel.specs.declared.call.Answer.TheVariants.{Done, Wait}
 
 open_ended : (w : WorldState) (p : ℕ) (o : Option Process) → slice_get w.processes p ≡ o → IsEffective (step_effect w.kernel p o) → HaveEnded w → ⊥
 open_ended w p None at h all = h
@@ -28,30 +27,23 @@ is_open w p h = (open_ended w p (slice_get w.processes p) refl h, λ stuck. stuc
 
 -- a running process can always go on
 first_moves : (k : KernelState) (p : ℕ) (m : Machine) (a : NextAction) → IsEffective (first_try k p m a)
-first_moves k p m (moves n) = tt
-first_moves k p m (calls c) = tt
+first_moves k p m x = search rules
 
 pub running_moves : (k : KernelState) (p : ℕ) (m : Machine) → IsEffective (step_effect k p (Some (Running m)))
 running_moves k p m = first_moves k p m (next_action m)
 
 -- a waiting process can go on where its call is answered
 pub retry_moves : (m : Machine) (c : Call) (a : Answer) → is_done a ≡ true → IsEffective (retry m c a)
-retry_moves m c (Done r) is = tt
-retry_moves m c Wait is = cc
+retry_moves m c x is = search rules
 
 pub retry_rests : (m : Machine) (c : Call) (a : Answer) → is_done a ≡ false → retry m c a ≡ nothing
-retry_rests m c (Done r) is = cc
-retry_rests m c Wait is = refl
+retry_rests m c x is = search rules
 
 pub moves_on : (k : KernelState) (p : ℕ) (s : Process) → IsRunning s → step_effect k p (Some s) ≡ nothing → ⊥
-moves_on k p (Running m) is e = subst IsEffective e (running_moves k p m)
-moves_on k p (Waiting m c) is e = is
-moves_on k p (Ended e') is e = is
+moves_on k p x is e = search rules
 
 waits_at : (k : KernelState) (p : ℕ) (s : Process) → step_effect k p (Some s) ≡ nothing → (HasEnded s → ⊥) → IsWaiting s
-waits_at k p (Running m) e lives = absurd (moves_on k p (Running m) tt e)
-waits_at k p (Waiting m c) e lives = tt
-waits_at k p (Ended e') e lives = absurd (lives tt)
+waits_at k p x e lives = search rules
 
 some_at : {A : Type 0} (xs : List A) (p : ℕ) → p < length xs → (x : A) × (slice_get xs p ≡ Some x)
 some_at xs p h = elim (slice_get_cases xs p).1 [ inl t ↦ (t.0, t.2) | inr t ↦ absurd (omega (arith, t.0)) ]
@@ -59,16 +51,7 @@ some_at xs p h = elim (slice_get_cases xs p).1 [ inl t ↦ (t.0, t.2) | inr t �
 -- no step is effective, and some process hasn't ended
 pub stuck_from : (w : WorldState) → ((p : ℕ) → p < length w.processes → step_effect_in w p ≡ nothing)
     → (p : ℕ) → p < length w.processes → HasNotEndedIn w p → AreStuck w
-stuck_from w rests p below lives =
-    let found = some_at w.processes p below in
-    record {
-      waits = (p, found.0, found.1, waits_at w.kernel p found.0 (ap (λ o. step_effect w.kernel p o) (sym found.1) ∙ rests p below) (lives found.0 found.1));
-      none_runs = λ q t at is. moves_on w.kernel q t is (ap (λ o. step_effect w.kernel q o) (sym at) ∙ rests q (slice_get_within w.processes q t at));
-      none_moves = λ q h. elim (slice_get_cases w.processes q).1 [
-        | inl t ↦ subst IsEffective (rests q t.1) h
-        | inr t ↦ subst IsEffective (ap (λ o. step_effect w.kernel q o) t.1) h
-      ];
-    }
+stuck_from w rests p below lives = search (rules, some_at, waits_at, moves_on, slice_get_within, slice_get_cases)
 
 module _ {X : Type 0} (test : X → Bool) (xs : List X) where
   -- all pass where each does
@@ -84,19 +67,13 @@ module _ {X : Type 0} (test : X → Bool) (xs : List X) where
 
 -- the tests and what they say
 runs-tells : (s : Process) → (is_running s ≡ true → IsRunning s) × (IsRunning s → is_running s ≡ true)
-runs-tells (Running m) = (λ e. tt, λ h. refl)
-runs-tells (Waiting m c) = (λ e. cc, λ h. absurd h)
-runs-tells (Ended d) = (λ e. cc, λ h. absurd h)
+runs-tells x = search rules
 
 waits-tells : (s : Process) → (is_waiting s ≡ true → IsWaiting s) × (IsWaiting s → is_waiting s ≡ true)
-waits-tells (Running m) = (λ e. cc, λ h. absurd h)
-waits-tells (Waiting m c) = (λ e. tt, λ h. refl)
-waits-tells (Ended d) = (λ e. cc, λ h. absurd h)
+waits-tells x = search rules
 
 ended-tells : (s : Process) → (is_ended s ≡ true → HasEnded s) × (HasEnded s → is_ended s ≡ true)
-ended-tells (Running m) = (λ e. cc, λ h. absurd h)
-ended-tells (Waiting m c) = (λ e. cc, λ h. absurd h)
-ended-tells (Ended d) = (λ e. tt, λ h. refl)
+ended-tells x = search rules
 
 rests-tells : (t : StepEffect) → (is_nothing t ≡ true → IsEffective t → ⊥) × ((IsEffective t → ⊥) → is_nothing t ≡ true)
 rests-tells nothing = (λ e h. h, λ h. refl)
@@ -105,8 +82,7 @@ rests-tells (kernel_step m c a) = (λ e h. cc, λ h. absurd (h tt))
 
 -- a test that tells whether P holds
 tells : (b : Bool) (P : Type 0) → (b ≡ true → P) → (P → b ≡ true) → ((b ≡ true) × P) ⊎ ((b ≡ false) × (P → ⊥))
-tells true P there back = inl (refl, there refl)
-tells false P there back = inr (refl, λ h. let e : false ≡ true = back h in cc)
+tells x y there back = search rules
 
 all_ended-tells : (w : WorldState) → ((all_ended w ≡ true) × HaveEnded w) ⊎ ((all_ended w ≡ false) × (HaveEnded w → ⊥))
 all_ended-tells w = tells (all_ended w) (HaveEnded w)
@@ -126,9 +102,7 @@ none_moves-is : (w : WorldState) → ((p : ℕ) → IsEffective (step_effect_in 
 none_moves-is w h = all-from (λ p. is_nothing (step_effect_in w p)) (range_with_len 0 (length w.processes)) (λ i p at. (rests-tells (step_effect_in w p)).1 (h p))
 
 all-three : (a b c : Bool) → (a && (not b && c)) ≡ true → (a ≡ true) × (b ≡ false) × (c ≡ true)
-all-three true false c e = (refl, refl, e)
-all-three true true c e = cc
-all-three false b c e = cc
+all-three x y c e = search rules
 
 none_runs-is : (w : WorldState) → ((p : ℕ) (s : Process) → slice_get w.processes p ≡ Some s → IsRunning s → ⊥) → list_any is_running w.processes ≡ false
 none_runs-is w none = elim (tells (list_any is_running w.processes) ⊥ (λ e. let found = any-at is_running w.processes e in none found.0 found.1 found.2 ((runs-tells found.1).0 found.3)) (λ h. absurd h)) [
@@ -150,9 +124,7 @@ are_stuck-tells w = tells (are_stuck w) (AreStuck w)
     rw (some, none_runs-is w h.none_runs, none_moves-is w h.none_moves) refl)
 
 waits_on : (s : Process) → IsWaiting s → HasEnded s → ⊥
-waits_on (Running m) h e = e
-waits_on (Waiting m c) h e = e
-waits_on (Ended d) h e = h
+waits_on x h e = search rules
 
 pub verdict_worked_out : VerdictWorkedOut
 unfolding verdict_of

@@ -1,6 +1,5 @@
 -- A process is taken out of its world, takes a step, and is put back.
-use Rattle.std.proofs.Common.{ℕ, ◌≡◌, ◌<◌, ◌≤◌, List, [], ◌∷◌, inl, inr, Option, None, Some, length, slice_get, get_or, set, map, refl, ap, sym, ◌∙◌, subst, arith, All, ◌+◌, ◌++◌, take, replicate}
-use Rattle.std.specs.Option.{option_map}
+use Rattle.std.proofs.Common.{ℕ, ◌≡◌, ◌<◌, ◌≤◌, List, [], ◌∷◌, inl, inr, Option, Some, length, slice_get, get_or, set, map, refl, ap, sym, ◌∙◌, subst, arith, All, ◌+◌, ◌++◌, take, replicate, rules}
 use Rattle.std.specs.Prelude.{unwrap_or, Result, Ok, Err, IfOk, OnErr}
 use Rattle.std.proofs.lemmas.List.{map-set, set-set, length-map, length-set, map-append, take_more, length-replicate}
 use Rattle.std.proofs.lemmas.Option.{slice_get_cases, slice_get_read, slice_get-map}
@@ -12,22 +11,21 @@ use Rattle.lab_sched.specs.declared.process.Process.TheVariants as kept
 use Rattle.lab_sched.specs.Starts.{Runs, start_of}
 use Rattle.lab_sched.specs.Private.Fresh.{IsFresh}
 use Rattle.lab_sched.specs.declared.stepped.Stepped.{Stepped}
-use Rattle.ipc_kernel.specs.Processes.{closed_process}
 use Rattle.lc3_machine.specs.Process.{Held, start}
 use Rattle.lab_sched.specs.declared.fresh.Program.{Program}
 use Rattle.lab_sched.specs.LocalRun.{AreLocal}
 use Rattle.lab_sched.proofs.Executions.{execution_local, with_process}
 use Rattle.lab_sched.proofs.Runs.{run-none, run-one, run_on}
-use Rattle.lab_sched.specs.Worlds.{HasProfile, first_profile, HaveOneProfile, Process, Running, WorldState, run, StepEffect, step_effect, process_made, process_after, kernel_after, processes_with, after, step}
-use Rattle.lab_sched.specs.Held.{process_view, IsHeld, IsWorld, asked_by, stepped_of, told_in, StepResult, HasStepped}
+use Rattle.lab_sched.specs.Worlds.{HasProfile, first_profile, Process, WorldState, run, StepEffect, step_effect, process_made, process_after, kernel_after, processes_with, after, step}
+use Rattle.lab_sched.specs.Held.{process_view, IsHeld, IsWorld, told_in, HasStepped}
 use Rattle.lab_sched.specs.Private.Moved.{Advances, HasRun}
 use Rattle.lab_sched.proofs.ListPlaces.{get-set_same, get_past, set_same}
 use Rattle.lab_sched.proofs.Profiles.{one_of, effect_profile, starts_profile}
+use Rattle.std.proofs.lemmas.Grind.{common_steps}
 
 -- the processes with what a step makes of process p in its place, where that is s
 replaced_at : (ps : List Process) (p : ℕ) (s : Process) (o : Option Process) → slice_get ps p ≡ Some s → processes_with ps p o ≡ set ps p (unwrap_or o s)
-replaced_at ps p s None at = sym (set_same ps p s at)
-replaced_at ps p s (Some u) at = refl
+replaced_at ps p s x at = search (rules, set_same)
 
 -- the world after a step of process p, where that is s
 pub after_effect : (w : WorldState) (p : ℕ) (s : Process) (t : StepEffect) → slice_get w.processes p ≡ Some s
@@ -66,15 +64,12 @@ pub at_place : (ps : List Kept) (k : KernelState) (w : WorldState) (p : ℕ) (s 
 at_place ps k w p s view below read = record { view = view; within = omega (arith, ap (λ (x : WorldState). length x.processes) view, length-map ps process_view); read = read }
 
 pub seen : {ps : List Kept} {k : KernelState} {w : WorldState} {p : ℕ} {s : Kept} → IsAt ps k w p s → slice_get w.processes p ≡ Some (process_view s)
-seen {ps} {k} {w} {p} {s} at =
-    ap (λ (x : WorldState). slice_get x.processes p) (sym at.view) ∙ slice_get-map process_view ps p
-    ∙ ap (λ o. option_map process_view o) (slice_get_read ps (length ps) p s refl at.within at.read)
+seen {ps} {k} {w} {p} {s} at = search (rules, slice_get-map, slice_get_read)
 
 -- the world with another process in its place
 put : {ps : List Kept} {k : KernelState} {w : WorldState} {p : ℕ} {s : Kept} → IsAt ps k w p s → (j : KernelState) (u : Kept)
     → kept_world (set ps p u) j ≡ record { processes = set w.processes p (process_view u); kernel = j }
-put {ps} {k} {w} {p} {s} at j u =
-    ap (λ xs. record { processes = xs; kernel = j }) (map-set process_view ps p u ∙ ap (λ (x : WorldState). set x.processes p (process_view u)) at.view)
+put {ps} {k} {w} {p} {s} at j u = search (rules, map-set)
 
 pub put_process : {ps : List Kept} {k : KernelState} {w : WorldState} {p : ℕ} {s : Kept} → IsAt ps k w p s → (u : Kept) → kept_world (set ps p u) k ≡ with_process w p (process_view u)
 unfolding with_process
@@ -90,12 +85,7 @@ same_world {ps} {k} {w} {p} {s} at j u same j-is =
 -- the step of process p, where it is s over kernel k
 step_led : (w : WorldState) (k j : KernelState) (p : ℕ) (s u : Process) (told : Stepped) → w.kernel ≡ k → slice_get w.processes p ≡ Some s → HasStepped k p s j u told
     → (step w p ≡ record { processes = set w.processes p u; kernel = j }) × (told ≡ told_in w p)
-step_led w k j p s u told k-is at is =
-    let here : HasStepped w.kernel p s j u told = subst (λ i. HasStepped i p s j u told) (sym k-is) is in (
-      ap (λ o. after w p (step_effect w.kernel p o)) at ∙ after_effect w p s (step_effect w.kernel p (Some s)) at
-          ∙ ap (λ (x : StepResult). record { processes = set w.processes p x.process; kernel = x.kernel }) (sym here),
-      ap (λ (x : StepResult). x.told) here ∙ ap (λ o. stepped_of (asked_by o) (step_effect w.kernel p o)) (sym at),
-    )
+step_led w k j p s u told k-is at is = search (rules, after_effect)
 
 -- the world after the step, and what it was
 pub stepped_world : {ps : List Kept} {k : KernelState} {w : WorldState} {p : ℕ} {s : Kept} → IsAt ps k w p s → (j : KernelState) (u : Kept) (told : Stepped)
@@ -152,41 +142,18 @@ world_kept {ps} {k} {w} {p} {s} at inv j u ns held count led =
     }
 
 pub runs_held : (s : Kept) → Runs s → IsHeld s
-runs_held (kept.Running m) runs = tt
-runs_held (kept.Waiting h c) runs = absurd runs
-runs_held (kept.Ended e) runs = absurd runs
+runs_held x runs = search rules
 
 -- a laboratory before its first step is a world
 pub fresh_world : (ps : List Kept) (k : KernelState) → IsFresh ps k → IsWorld ps k
-fresh_world ps k inv = record {
-  held = All-weaker Runs IsHeld runs_held ps inv.starts.running;
-  profile = inv.starts.profile;
-  some = inv.starts.some;
-  few = inv.starts.few;
-  count = sym (ap (λ (x : KernelState). length x.processes) inv.empty ∙ length-replicate (length ps) closed_process);
-}
+fresh_world ps k inv = search (rules, All-weaker, runs_held, length-replicate)
 
 -- a process more at its start
 pub started_more : (profile : Profile) (ks new : List Kept) (ps : List Program) (i : ℕ) (p : Program) (h : Held) → map process_view ks ≡ map (start_of profile) (take i ps) → i < length ps
     → p ≡ get_or ps i p → h.process ≡ start profile p.image.origin p.image.words p.input.items → new ≡ ks ++ kept.Running h ∷ [] → map process_view new ≡ map (start_of profile) (take (i + 1) ps)
-started_more profile ks new ps i p h so within read is new-is =
-    let starts : Program → Process = start_of profile in
-    ap (λ xs. map process_view xs) new-is ∙ map-append process_view ks (kept.Running h ∷ [])
-    ∙ ap (λ xs. xs ++ Running h.process ∷ []) so ∙ ap (λ q. map starts (take i ps) ++ Running q ∷ []) is
-    ∙ sym (ap (λ xs. map starts xs) (take_more ps i p within ∙ ap (λ q. take i ps ++ q ∷ []) (sym read)) ∙ map-append starts (take i ps) (p ∷ []))
+started_more profile ks new ps i p h so within read is new-is = grind (arith, common_steps, map-append, take_more)
 
 -- the processes of 1 to 64 programs over their kernel
 pub fresh_is : (profile : Profile) (ks : List Kept) (ps : List Program) (k : KernelState) → map process_view ks ≡ map (start_of profile) ps → All Runs ks → k ≡ empty_kernel (length ps)
     → 1 ≤ length ps → length ps ≤ 64 → IsFresh ks k
-fresh_is profile ks ps k so runs k-is some few =
-    let count : length ks ≡ length ps = sym (length-map ks process_view) ∙ ap length so ∙ length-map ps (start_of profile) in
-    record {
-      starts =
-          record {
-            running = runs;
-            profile = subst HaveOneProfile (sym so) (starts_profile profile ps);
-            some = omega (arith, count);
-            few = omega (arith, count);
-          };
-      empty = k-is ∙ ap empty_kernel (sym count);
-    }
+fresh_is profile ks ps k so runs k-is some few = search (rules, length-map, starts_profile)

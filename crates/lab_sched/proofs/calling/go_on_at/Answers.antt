@@ -1,4 +1,4 @@
-use Rattle.std.proofs.Common.{◌∙◌, ap, refl}
+use Rattle.std.proofs.Common.{◌∙◌, ap, refl, rules}
 use Rattle.ipc_kernel.specs.declared.call.Answer.TheVariants.{Done}
 use Rattle.lab_sched.specs.declared.stepped.Stepped.TheVariants.{Refused, Called, Waits}
 use Rattle.lab_sched.proofs.LocalSteps.{came, asked_room, tried_refused, tried_reply, tried_wait}
@@ -16,10 +16,7 @@ returns-in-Ok-Done-Plain c =
     record { goes = came (Called _, tried_reply c.args.kernel.now c.call.new.self c.args.pid asked (rw is at c.in-Ok-Done-Plain.ensures.answered) c.give_word.ensures.replied, refl) tt c.call.ensures.count }
 
 pub give_reply-requires : goal.give_reply-requires
-give_reply-requires c =
-    let asked = rw c.in-Kernel.is at c.in_ok-call.ensures.asked in
-    let room = rw c.in-Kernel.is at c.in_ok-call.ensures.room in
-    record { trap = rw asked.1 c.requires.trap; room = asked_room c.ask_with_room.new.running _ asked room (rw c.in-Ok-Done.field-0-is at c.in-Ok-Done.ensures.form) }
+give_reply-requires c = search (rules, asked_room)
 
 pub returns-in-Ok-Done : goal.returns-in-Ok-Done
 returns-in-Ok-Done c =

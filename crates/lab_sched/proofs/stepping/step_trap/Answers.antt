@@ -1,4 +1,4 @@
-use Rattle.std.proofs.Common.{◌∙◌, ap}
+use Rattle.std.proofs.Common.{◌∙◌, ap, rules}
 use Rattle.ipc_kernel.specs.declared.call.Answer.TheVariants.{Done}
 use Rattle.lab_sched.proofs.LocalSteps.{came, asked_room, tried_reply, tried_wait}
 use Rattle.lab_sched.proofs.stepping.step_trap.Goals as goal
@@ -15,13 +15,7 @@ returns-in-Ok-Done-Plain c =
     record { steps = came (rw c.in-Running.is (tried_reply c.args.kernel.now c.call.new.self c.args.pid asked (rw is at c.in-Ok-Done-Plain.ensures.answered) c.give_word.ensures.replied)) tt c.call.ensures.count }
 
 pub give_reply-requires : goal.give_reply-requires
-give_reply-requires c =
-    let asked = rw c.in-Kernel.is at c.in_ok-call-in-Running.ensures.asked in
-    let room = rw c.in-Kernel.is at c.in_ok-call-in-Running.ensures.room in
-    record {
-      trap = rw asked.1 (rw c.in-Running.is at c.requires.stands);
-      room = asked_room c.ask_with_room.new.running _ asked room (rw c.in-Ok-Done.field-0-is at c.in-Ok-Done.ensures.form);
-    }
+give_reply-requires c = search (rules, asked_room)
 
 pub returns-in-Ok-Done : goal.returns-in-Ok-Done
 returns-in-Ok-Done c =

@@ -1,6 +1,5 @@
-use Rattle.std.proofs.Common.{◌≡◌, ◌≤◌, ◌+◌, ◌∷◌, ◌++◌, [], Ok, false, ap, sym, ◌∙◌, arith, below_more, map, length, get_or}
+use Rattle.std.proofs.Common.{◌≡◌, ◌∷◌, ◌++◌, [], false, ap, sym, ◌∙◌, arith, below_more, map, get_or, rules}
 use Rattle.std.specs.Prelude.{is_none}
-use Rattle.std.specs.List.{filter_map}
 use Rattle.std.proofs.lemmas.List.{take_all, length-map, get_or-map}
 use Rattle.std.proofs.lemmas.List.Elements.{All-nil, All-push}
 use Rattle.lab_sched.specs.Schedules.{IsBlock}
@@ -32,9 +31,4 @@ loop-i-preserved c =
     }
 
 pub returns-clause-exact : goal.returns-clause-exact
-returns-clause-exact c =
-    let ws = map (λ word. word.now) c.args.words.now in
-    let count = length-map c.args.words.now (λ word. word.now) in
-    let past : length ws ≤ c.loop-i.i = omega (arith, count) in
-    blocks-good ws (λ k below. c.loop-i.invariant.good k (omega (arith, past, below)))
-    ∙ ap Ok (ap (λ done. filter_map block_in done) (sym (take_all c.loop-i.i ws past)) ∙ sym c.loop-i.invariant.read)
+returns-clause-exact c = search (rules, length-map, blocks-good, take_all)

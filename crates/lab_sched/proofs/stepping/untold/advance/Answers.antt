@@ -1,15 +1,13 @@
-use Rattle.std.proofs.Common.{◌-◌, ◌+◌, ◌∙◌, ap, refl, sym, arith}
+use Rattle.std.proofs.Common.{◌-◌, ◌+◌, ◌∙◌, ap, refl, sym, arith, rules}
 use Rattle.lab_sched.specs.Held.{process_view}
 use Rattle.lab_sched.specs.Private.Moved.{has_moved}
-use Rattle.lab_sched.proofs.LocalSteps.{came, local_none}
+use Rattle.lab_sched.proofs.LocalSteps.{came}
 use Rattle.lab_sched.proofs.Runs.{run-one, run_unmoved}
 use Rattle.lab_sched.proofs.WorldLemmas.{run_locals, run_next}
 use Rattle.lab_sched.proofs.stepping.untold.advance.Goals as goal
 
 pub returns-then-taken-most-clause-advances : goal.returns-then-taken-most-clause-advances
-returns-then-taken-most-clause-advances c =
-    came (run_locals c.args.kernel.now c.args.pid (process_view c.args.process.now) (process_view c.local_steps-taken.new.process) c.local_steps-taken.result.0 c.local_steps-taken.ensures.local)
-    c.local_steps-taken.ensures.held refl
+returns-then-taken-most-clause-advances c = search (rules, came, run_locals)
 
 pub returns-in-Ok-true-clause-advances : goal.returns-in-Ok-true-clause-advances
 returns-in-Ok-true-clause-advances c =
@@ -31,15 +29,4 @@ returns-in-Ok-false-clause-advances c =
     c.move_on.ensures.moves.held c.move_on.ensures.moves.count
 
 pub returns-then-taken-gt0-clause-advances : goal.returns-then-taken-gt0-clause-advances
-returns-then-taken-gt0-clause-advances c =
-    let locals = run_locals c.args.kernel.now c.args.pid (process_view c.args.process.now) (process_view c.local_steps-taken.new.process) c.local_steps-taken.result.0 c.local_steps-taken.ensures.local in
-    came (rw (c.in-Err.ensures.moves.err, c.in-Err.ensures.moves.kernel) locals) c.move_on.ensures.moves.held c.move_on.ensures.moves.count
-
-pub returns-else-taken-gt0-clause-advances : goal.returns-else-taken-gt0-clause-advances
-returns-else-taken-gt0-clause-advances c = record {
-  ok = tt;
-  held = c.move_on.ensures.moves.held;
-  err = c.in-Err.ensures.moves.err ∙ local_none (process_view c.args.process.now) (process_view c.local_steps-taken.new.process) c.local_steps-taken.result.0 c.local_steps-taken.ensures.local (omega arith);
-  kernel = c.in-Err.ensures.moves.kernel;
-  count = c.move_on.ensures.moves.count;
-}
+returns-then-taken-gt0-clause-advances c = search (rules, run_locals, came)

@@ -1,4 +1,4 @@
-use Rattle.std.proofs.Common.{◌≡◌, ◌<◌, w64, arith}
+use Rattle.std.proofs.Common.{◌<◌, w64, arith}
 use Rattle.std.proofs.lemmas.Nat.Bits.{bit_at_set_same, bit_at_set_other}
 use Rattle.lab_sched.proofs.ReportAdditions.{not_ended, stopped_more, short_more}
 use Rattle.lab_sched.proofs.world.World.bits_of_left.Goals as goal

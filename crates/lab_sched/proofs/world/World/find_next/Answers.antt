@@ -1,5 +1,5 @@
 use Rattle.lab_sched.proofs.ReportAdditions.{next_in, next_led}
-use Rattle.std.proofs.Common.{refl}
+use Rattle.std.proofs.Common.{refl, rules}
 use Rattle.lab_sched.proofs.WorldLemmas.{at_place, world_kept}
 use Rattle.lab_sched.proofs.world.World.find_next.Goals as goal
 
@@ -10,6 +10,4 @@ invariant_of-self c =
     world_kept at c.self.invariant c.self.inside.kernel c.find_next.new.process led.0 c.find_next.ensures.held refl led.1
 
 pub returns : goal.returns
-returns c =
-    let at = at_place c.self.inside.processes.items c.self.inside.kernel c.args.self.now c.args.pid c.index_mut-process.result.now c.self.view_is c.requires.process c.index_mut-process.ensures.value in
-    record { next = next_in at c.args.most c.find_next.result c.find_next.new.process c.find_next.ensures.next }
+returns c = search (rules, at_place, next_in)

@@ -1,12 +1,9 @@
-use Rattle.std.proofs.Common.{◌≡◌, ◌-◌, length, replicate, ap, ◌∙◌, sym, arith}
-use Rattle.lab_sched.specs.Worlds.{WorldState, run}
+use Rattle.std.proofs.Common.{◌-◌, arith, rules}
 use Rattle.lab_sched.proofs.Runs.{run-none, run_on, length-run}
 use Rattle.lab_sched.proofs.world.World.run_steps.Goals as goal
 
 pub loop-left-init : goal.loop-left-init
-loop-left-init c =
-    let none : c.args.count - c.args.count ≡ 0 = omega arith in
-    record { world = sym (ap (λ n. run c.args.self.now (replicate n c.args.pid)) none ∙ run-none c.args.self.now); within = omega arith }
+loop-left-init c = search (rules, run-none)
 
 pub loop-left-preserved : goal.loop-left-preserved
 loop-left-preserved c = record {
@@ -16,8 +13,4 @@ loop-left-preserved c = record {
 }
 
 pub returns-in-Err-clause-no_process : goal.returns-in-Err-clause-no_process
-returns-in-Err-clause-no_process c =
-    let all : length c.loop-left.self.processes ≡ length c.args.self.now.processes =
-    ap (λ (w : WorldState). length w.processes) c.loop-left.invariant.world ∙ length-run c.args.self.now (replicate (c.args.count - c.loop-left.left) c.args.pid) in
-    let not = rw all at c.in-Err.ensures.no_process in
-    (not.0, not.1)
+returns-in-Err-clause-no_process c = search (rules, length-run)

@@ -1,4 +1,4 @@
-use Rattle.std.proofs.Common.{refl, ◌∙◌, arith}
+use Rattle.std.proofs.Common.{refl, ◌∙◌, arith, rules}
 use Rattle.lab_sched.specs.Schedules.{steps_of}
 use Rattle.lab_sched.proofs.ReportAdditions.{added_none, added_taken, added_more, added_length}
 use Rattle.lab_sched.proofs.world.World.settle_process.Goals as goal
@@ -20,6 +20,4 @@ loop-taken-preserved c =
     }
 
 pub returns-then-more-eq0-clause-added : goal.returns-then-more-eq0-clause-added
-returns-then-more-eq0-clause-added c =
-    added_more c.loop-taken.taken c.take_steps-more.result c.args.pid c.loop-taken.invariant.added
-    (added_taken c.take_steps-more.ensures.taken (c.replace_last.ensures.steps (steps_of c.loop-taken.schedule) c.args.pid c.in-Ok.ensures.steps))
+returns-then-more-eq0-clause-added c = search (rules, added_more, added_taken)

@@ -1,4 +1,4 @@
-use Rattle.std.proofs.Common.{◌<◌, ◌∙◌, refl, sym, arith, length}
+use Rattle.std.proofs.Common.{◌<◌, ◌∙◌, refl, sym, arith, length, rules}
 use Rattle.std.proofs.lemmas.List.{length-set}
 use Rattle.lab_sched.proofs.ReportAdditions.{settled_none, settled_more, sum_less, sum_at, added_length}
 use Rattle.lab_sched.proofs.world.World.settle_round.Goals as goal
@@ -7,9 +7,7 @@ pub loop-pid-init : goal.loop-pid-init
 loop-pid-init c = record { settled = settled_none _ _; len = c.requires.len; count = refl; total = refl }
 
 pub settle_process-requires-clause-room : goal.settle_process-requires-clause-room
-settle_process-requires-clause-room c =
-    let within : c.loop-pid.pid < length c.loop-pid.left = omega (arith, c.loop-pid.invariant.len, c.loop-pid.invariant.count) in
-    omega (arith, sum_at c.loop-pid.left c.loop-pid.pid within, c.loop-pid.invariant.total, c.requires.room)
+settle_process-requires-clause-room c = search (rules, sum_at)
 
 pub loop-pid-preserved : goal.loop-pid-preserved
 loop-pid-preserved c =

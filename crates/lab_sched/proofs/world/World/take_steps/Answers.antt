@@ -1,4 +1,4 @@
-use Rattle.std.proofs.Common.{◌++◌, ◌∷◌, [], refl, ap, ◌∙◌}
+use Rattle.std.proofs.Common.{◌++◌, ◌∷◌, [], refl, ap, ◌∙◌, rules}
 use Rattle.lab_sched.proofs.ReportAdditions.{taken_none, taken_call}
 use Rattle.lab_sched.proofs.world.World.take_steps.Goals as goal
 
@@ -12,8 +12,7 @@ pub returns-in_default-clause-taken : goal.returns-in_default-clause-taken
 returns-in_default-clause-taken c = taken_none c.args.self.now c.find_next.new.self c.args.entries.now.items c.reserve.new.self.items c.args.pid c.in-Asks.ensures.next.0 c.reserve.ensures.items
 
 pub returns-in_default-step-clause-taken : goal.returns-in_default-step-clause-taken
-returns-in_default-step-clause-taken c =
-    taken_none c.args.self.now c.step.new.self c.args.entries.now.items c.reserve.new.self.items c.args.pid (c.in_default-step.ensures.err ∙ c.in-Asks.ensures.next.0) c.reserve.ensures.items
+returns-in_default-step-clause-taken c = search (rules, taken_none, c.in_default-step.ensures.err, c.in-Asks.ensures.next.0, c.reserve.ensures.items)
 
 pub returns-clause-taken : goal.returns-clause-taken
 returns-clause-taken c =

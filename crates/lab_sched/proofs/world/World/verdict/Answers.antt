@@ -1,6 +1,7 @@
 use Rattle.lab_sched.specs.declared.verdict.Verdict.TheVariants as verdict
 use Rattle.lab_sched.proofs.VerdictLemmas.{is_open, stuck_from, verdict_from}
 use Rattle.lab_sched.proofs.world.World.verdict.Goals as goal
+use Rattle.std.proofs.Common.{rules}
 
 pub returns-then-can_move : goal.returns-then-can_move
 returns-then-can_move c =
@@ -9,9 +10,7 @@ returns-then-can_move c =
     record { verdict = is; worked_out = verdict_from c.args.self.now verdict.Open is }
 
 pub returns-then-have_ended : goal.returns-then-have_ended
-returns-then-have_ended c =
-    let is = c.have_ended.ensures.yes c.if-have_ended.true in
-    record { verdict = is; worked_out = verdict_from c.args.self.now verdict.Ended is }
+returns-then-have_ended c = search (rules, verdict_from, c.have_ended.ensures.yes, c.if-have_ended.true)
 
 pub returns : goal.returns
 returns c =
