@@ -1,5 +1,5 @@
 -- Addresses of four digits at most.
-use Rattle.std.proofs.Common.{◌≡◌, ℕ, ◌<◌, ◌≤◌, Bool, true, false, List, [], ◌∷◌, Option, Some, None, length, min, nat_lt, nat_le, refl, ap, sym, ◌∙◌, arith}
+use Rattle.std.proofs.Common.{◌≡◌, ℕ, ◌<◌, ◌≤◌, Bool, true, false, List, [], ◌∷◌, Some, None, length, min, nat_lt, nat_le, refl, arith, rules}
 use Rattle.std.specs.Option.{option_map}
 use Rattle.std.specs.List.{list_all}
 use Rattle.std.specs.Char.{digit_value}
@@ -32,15 +32,7 @@ small (d ∷ ds) n few e = by (list_all (λ c. nat_lt (digit_value c) 16) (d ∷
 -- such a number is below 65536, and is given as it is
 pub address_small : (digits : List ℕ) (n : ℕ) → length digits ≤ 4 → Some n ≡ option_map (λ n. min n 1_000_000_000) (unsigned_number 16 digits)
     → (n < 65536) × (Some n ≡ unsigned_number 16 digits)
-address_small digits n few e = by (unsigned_number 16 digits) refl e
-  where
-    by : (o : Option ℕ) → unsigned_number 16 digits ≡ o → Some n ≡ option_map (λ n. min n 1_000_000_000) o → (n < 65536) × (Some n ≡ unsigned_number 16 digits)
-    by None is some = absurd (cc)
-    by (Some v) is some =
-        let value : n ≡ min v 1_000_000_000 = cc in
-        let few : v < 65536 = small digits v few is in
-        let same : n ≡ v = omega (arith, value, few) in
-        (omega (arith, same, few), ap (λ x. Some x) same ∙ sym is)
+address_small digits n few e = search (rules, small)
 
 pub hexadecimal_here : (digits : List ℕ) (n : ℕ) → length digits ≤ 4 → Some n ≡ unsigned_number 16 digits → Some n ≡ hexadecimal_in digits
 unfolding hexadecimal_in

@@ -1,28 +1,25 @@
 -- Conditions that are carried from one world to another.
-use Rattle.std.proofs.Common.{ℕ, suc, ◌+◌, ◌≡◌, ◌≤◌, Bool, true, false, not, cond, List, [], ◌∷◌, Option, Some, None, get_or, refl, sym, ap, subst, ◌∙◌, slice_get, arith}
+use Rattle.std.proofs.Common.{ℕ, suc, ◌+◌, ◌≡◌, ◌≤◌, Bool, true, false, cond, List, [], ◌∷◌, Option, Some, None, get_or, refl, sym, subst, slice_get, arith, rules}
 use Rattle.std.specs.List.{count_by, enumerate_from}
 use Rattle.std.proofs.lemmas.List.Sums.{sum_by-cons}
 use Rattle.ipc_kernel.specs.declared.call.Call.{Call}
 use Rattle.ipc_kernel.specs.Kernel.{KernelState}
-use Rattle.ipc_kernel.specs.Answer.{is_done}
 use Rattle.ipc_kernel.specs.Alike.{IsAlike, IsConsistent}
 use Rattle.ipc_store.proofs.LikeAnswers.{answers_alike}
 use Rattle.lab_sched.specs.Worlds.{Process, WorldState}
 use Rattle.lab_conditions.specs.declared.condition.State.{State}
-use Rattle.lab_conditions.specs.declared.condition.State.TheVariants as state
 use Rattle.lab_conditions.specs.declared.condition.Part.{Part}
 use Rattle.lab_conditions.specs.declared.condition.Part.TheVariants.{Semaphore, Queue, Of, MoreThan}
 use Rattle.lab_conditions.specs.declared.condition.Condition.{Condition}
-use Rattle.lab_conditions.specs.Conditions.{must_wait, option_any, call_of, is_so, how_many, PartHolds, Holds}
+use Rattle.lab_conditions.specs.Conditions.{must_wait, option_any, is_so, how_many, PartHolds, Holds}
+use Rattle.std.proofs.lemmas.Grind.{common_steps}
 
 waits_alike : (k j : KernelState) (p : ℕ) → IsConsistent k → IsAlike k j → (o : Option Call) → option_any (must_wait j p) o ≡ option_any (must_wait k p) o
-waits_alike k j p consistent alike None = refl
-waits_alike k j p consistent alike (Some c) = ap (λ a. not (is_done a)) (sym (answers_alike k j p c consistent alike).0)
+waits_alike k j p consistent alike x = search (rules, answers_alike)
 
 -- a process stands over a kernel as it does over one that is alike
 pub so_alike : (x : State) (k j : KernelState) (p : ℕ) (s : Process) → IsConsistent k → IsAlike k j → is_so x j p s ≡ is_so x k p s
-so_alike state.Blocked k j p s consistent alike = waits_alike k j p consistent alike (call_of s)
-so_alike _ k j p s consistent alike = refl
+so_alike x k j p s consistent alike = search (rules, waits_alike)
 
 -- what is so of a process in the one world is so of it in the other, and their kernels are alike
 pub record Carries (w v : WorldState) : Type 0 where
@@ -35,8 +32,7 @@ abbrev pub Follows : {X : Type 0} → (ℕ → X → Bool) → (ℕ → X → Bo
 Follows {X} f g n xs ys = (i j : ℕ) → j ≡ n + i → (x : X) → slice_get xs i ≡ Some x → f j x ≡ true → (y : X) × (slice_get ys i ≡ Some y) × (g j y ≡ true)
 
 cond_le : (a b : Bool) (m n : ℕ) → m ≤ n → (a ≡ true → b ≡ true) → cond a 1 0 + m ≤ cond b 1 0 + n
-cond_le true b m n few h = rw (h refl) (omega (arith, few))
-cond_le false b m n few h = omega (arith, few)
+cond_le x b m n few h = search rules
 
 -- how many of a list are so, where the first has number n
 abbrev pub so_many : {X : Type 0} → (ℕ → X → Bool) → ℕ → List X → ℕ
@@ -57,9 +53,7 @@ count_le f g n [] ys h = omega arith
 count_le f g n (x ∷ xs) [] h =
     let rest = cond_le (f n x) false (so_many f (n + 1) xs) 0 (count_le f g (n + 1) xs [] (λ i j e. h (suc i) j (omega (arith, e)))) (λ so. let y = h 0 n (omega arith) x refl so in absurd (let none : None ≡ Some y.0 = y.1 in cc)) in
     omega (arith, rest, one_more f n x xs)
-count_le f g n (x ∷ xs) (y ∷ ys) h =
-    let rest = cond_le (f n x) (g n y) (so_many f (n + 1) xs) (so_many g (n + 1) ys) (count_le f g (n + 1) xs ys (λ i j e. h (suc i) j (omega (arith, e)))) (first_so f g n x y xs ys h) in
-    omega (arith, rest, one_more f n x xs, one_more g n y ys)
+count_le f g n (x ∷ xs) (y ∷ ys) h = search (rules, cond_le, first_so, one_more, (count_le f g (n + 1) xs ys (λ i j e. h (suc i) j (omega (arith, e)))))
 
 many : (x : State) (w v : WorldState) → Carries w v → how_many x w ≤ how_many x v
 many x w v carries = count_le (λ p s. is_so x w.kernel p s) (λ p s. is_so x v.kernel p s) 0 w.processes v.processes
@@ -70,26 +64,8 @@ many x w v carries = count_le (λ p s. is_so x w.kernel p s) (λ p s. is_so x v.
 
 -- what a part asks for holds then, too
 part_carried : (part : Part) (w v : WorldState) → Carries w v → PartHolds part w → PartHolds part v
-part_carried (Semaphore name r x) w v carries h =
-    let renaming = carries.kernel.2 in (
-      carries.kernel.0 h.0,
-      record {
-        value = h.1.value;
-        within = (renaming.permutation.within h.0).1 h.1.within;
-        there = renaming.places h.0 ∙ h.1.there;
-        compares = h.1.compares;
-      },
-    )
-part_carried (Queue name r x) w v carries h =
-    let renaming = carries.kernel.2 in (
-      carries.kernel.0 h.0,
-      record {
-        queue = h.1.queue;
-        within = (renaming.permutation.within h.0).1 h.1.within;
-        there = renaming.places h.0 ∙ h.1.there;
-        compares = h.1.compares;
-      },
-    )
+part_carried (Semaphore name r x) w v carries h = grind (arith, common_steps)
+part_carried (Queue name r x) w v carries h = grind (arith, common_steps)
 part_carried (Of p x) w v carries h = carries.states x p h.0 h.1 h.2
 part_carried (MoreThan x n) w v carries h = omega (arith, h, many x w v carries)
 

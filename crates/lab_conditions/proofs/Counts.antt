@@ -1,5 +1,5 @@
 -- Processes that are counted.
-use Rattle.std.proofs.Common.{ℕ, ◌≡◌, ◌<◌, ◌≤◌, ◌+◌, true, false, List, length, take, get_or, ap, ◌∙◌, arith}
+use Rattle.std.proofs.Common.{ℕ, ◌≡◌, ◌<◌, ◌≤◌, ◌+◌, true, false, List, length, take, get_or, ap, ◌∙◌, rules}
 use Rattle.std.specs.List.{count_by, enumerate_from}
 use Rattle.std.proofs.lemmas.List.{take_all}
 use Rattle.std.proofs.lemmas.List.Sums.{count_by_more_yes, count_by_more_no}
@@ -15,9 +15,7 @@ counted x k ps i = count_by (λ e. is_so x k e.0 e.1) (take i (enumerate_from 0 
 
 at_place : (x : State) (k : KernelState) (ps : List Process) (i : ℕ) (s : Process) → i < length ps
     → is_so x k (get_or (enumerate_from 0 ps) i (0, s)).0 (get_or (enumerate_from 0 ps) i (0, s)).1 ≡ is_so x k i (get_or ps i s)
-at_place x k ps i s within =
-    let same : 0 + i ≡ i = omega arith in
-    ap (λ e. is_so x k e.0 e.1) (get_or-enumerate_from 0 ps i (0, s) within) ∙ ap (λ n. is_so x k n (get_or ps i s)) same
+at_place x k ps i s within = search (rules, get_or-enumerate_from)
 
 pub counted_yes : (x : State) (k : KernelState) (ps : List Process) (i : ℕ) (s : Process) → i < length ps → is_so x k i (get_or ps i s) ≡ true → counted x k ps (i + 1) ≡ counted x k ps i + 1
 counted_yes x k ps i s within so =

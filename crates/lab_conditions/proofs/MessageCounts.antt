@@ -1,5 +1,5 @@
 -- Messages, counted.
-use Rattle.std.proofs.Common.{ℕ, suc, ◌+◌, ◌≡◌, ◌<◌, ◌≤◌, ◌≢◌, List, [], ◌∷◌, sym, ap, ◌∙◌, inl, inr, arith, length, take, get_or, set, sum_by}
+use Rattle.std.proofs.Common.{ℕ, suc, ◌+◌, ◌≡◌, ◌<◌, ◌≤◌, ◌≢◌, List, [], ◌∷◌, sym, ap, ◌∙◌, inl, inr, arith, take, set, sum_by, rules}
 use Rattle.std.proofs.lemmas.Bool.{cases_lt}
 use Rattle.std.proofs.lemmas.List.{take_all, take_more, set_past, get_or-take, length-take}
 use Rattle.std.proofs.lemmas.List.Sums.{sum_by-cons, sum_by_push, sum_by-set}
@@ -12,32 +12,15 @@ use Rattle.ipc_kernel.specs.Alike.{IsAlike}
 use Rattle.ipc_store.proofs.Alikes.{alike_back}
 use Rattle.ipc_kernel.proofs.IndexLemmas.{place_at-set_other, place_at-past}
 use Rattle.lab_conditions.specs.Losses.{messages_at, messages}
+use Rattle.std.proofs.lemmas.Grind.{common_steps}
 
 -- in one place more
 pub messages_more : (ps : List Place) (n : ℕ) → sum_by messages_at (take (n + 1) ps) ≡ sum_by messages_at (take n ps) + messages_at (place_at ps n)
-messages_more ps n = elim (cases_lt n (length ps)) [
-  | inl less ↦
-      ap (sum_by messages_at) (take_more ps n Empty less) ∙ sum_by_push messages_at (take n ps) (get_or ps n Empty)
-      ∙ ap (λ p. sum_by messages_at (take n ps) + messages_at p) (sym (unwrap_or-slice_get ps n Empty))
-  | inr past ↦
-      let none : messages_at (place_at ps n) ≡ 0 = ap messages_at (place_at-past ps n past) in
-      let more = ap (sum_by messages_at) (take_all (n + 1) ps (omega (arith, past))) in
-      let same = ap (sum_by messages_at) (take_all n ps past) in
-      omega (arith, none, more, same)
-]
+messages_more ps n = grind (arith, common_steps, cases_lt, take_more, sum_by_push, unwrap_or-slice_get, place_at-past, take_all)
 
 -- a place is emptied
 without : (n : ℕ) (qs : List Place) → sum_by messages_at (set qs n Empty) + messages_at (place_at qs n) ≡ sum_by messages_at qs
-without n qs = elim (cases_lt n (length qs)) [
-  | inl inside ↦
-      let sum = sum_by-set messages_at qs n Empty Empty inside in
-      let there : messages_at (place_at qs n) ≡ messages_at (get_or qs n Empty) = ap messages_at (unwrap_or-slice_get qs n Empty) in
-      omega (arith, sum, there)
-  | inr outside ↦
-      let none : messages_at (place_at qs n) ≡ 0 = ap messages_at (place_at-past qs n outside) in
-      let same = ap (sum_by messages_at) (set_past qs n Empty outside) in
-      omega (arith, none, same)
-]
+without n qs = search (rules, cases_lt, sum_by-set, unwrap_or-slice_get, place_at-past, set_past)
 
 -- where each place of some stands in one of its own among others, these have as many messages at least
 fewer : (f : ℕ → ℕ) (ps qs : List Place) → ((i j : ℕ) → i ≢ j → f i ≢ f j) → ((i : ℕ) → place_at qs (f i) ≡ place_at ps i) → sum_by messages_at ps ≤ sum_by messages_at qs

@@ -1,5 +1,5 @@
 -- Calls of processes that a kernel doesn't know.
-use Rattle.std.proofs.Common.{ℕ, ◌≡◌, ◌≤◌, true, false, not, List, [], length, Option, None, IsTrue, refl, ap, ◌∙◌, slice_get, unwrap_or, arith}
+use Rattle.std.proofs.Common.{ℕ, ◌≡◌, ◌≤◌, true, false, not, List, [], length, Option, None, IsTrue, refl, ap, slice_get, rules}
 use Rattle.std.specs.Option.{option_map, option_and_then}
 use Rattle.std.proofs.lemmas.Option.{slice_get_past}
 use Rattle.ipc_kernel.specs.declared.process.Slot.{Slot}
@@ -8,7 +8,7 @@ use Rattle.ipc_kernel.specs.declared.process.OpenTables.{OpenTables}
 use Rattle.ipc_kernel.specs.declared.call.Call.{Call}
 use Rattle.ipc_kernel.specs.declared.call.Call.TheVariants.{MqSend, MqReceive, SemWait}
 use Rattle.ipc_kernel.specs.declared.call.Answer.{Answer}
-use Rattle.ipc_kernel.specs.declared.call.Answer.TheVariants.{Done, Wait}
+use Rattle.ipc_kernel.specs.declared.call.Answer.TheVariants.{Wait}
 use Rattle.ipc_objects.specs.Queue.{QueueState}
 use Rattle.ipc_kernel.specs.Places.{place_at, queue_in, semaphore_value}
 use Rattle.ipc_kernel.specs.Kernel.{KernelState}
@@ -28,21 +28,16 @@ abbrev queue_from : KernelState → Option Descriptor → Option (Descriptor × 
 queue_from k o = option_and_then (λ held. option_map (λ q. (held, q)) (queue_in (place_at k.places held.place))) o
 
 no_queue : (k : KernelState) (p d : ℕ) → length k.processes ≤ p → open_queue k p d ≡ None
-no_queue k p d past =
-    ap (λ t. queue_from k (unwrap_or (slice_get t.descriptors d) None)) (closed k.processes p past)
-    ∙ ap (λ o. queue_from k (unwrap_or o None)) (slice_get_past [] d (omega arith))
+no_queue k p d past = search (rules, closed, slice_get_past)
 
 abbrev semaphore_from : KernelState → Option Slot → Option (Slot × ℕ)
 semaphore_from k o = option_and_then (λ slot. option_map (λ v. (slot, v)) (semaphore_value (place_at k.places slot.place))) o
 
 no_semaphore : (k : KernelState) (p s : ℕ) → length k.processes ≤ p → open_semaphore k p s ≡ None
-no_semaphore k p s past =
-    ap (λ t. semaphore_from k (unwrap_or (slice_get t.slots s) None)) (closed k.processes p past)
-    ∙ ap (λ o. semaphore_from k (unwrap_or o None)) (slice_get_past [] s (omega arith))
+no_semaphore k p s past = search (rules, closed, slice_get_past)
 
 can_not : (c : Call) (a : Answer) → (a ≡ Wait → IsTrue (may_wait c)) → may_wait c ≡ false → is_done a ≡ true
-can_not c (Done r) may never = refl
-can_not c Wait may never = let yes : may_wait c ≡ true = may refl in cc
+can_not c x may never = search rules
 
 done : (k : KernelState) (p : ℕ) (c : Call) → length k.processes ≤ p → is_done (answer k p c).0 ≡ true
 unfolding answer

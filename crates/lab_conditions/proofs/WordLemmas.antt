@@ -1,8 +1,9 @@
 -- Words, one by one.
-use Rattle.std.proofs.Common.{◌≡◌, ℕ, ◌≤◌, Bool, true, false, List, [], ◌∷◌, ◌++◌, length, drop, map, refl, ap, ◌∙◌, append-nil, arith, cond, Result, Ok, Err, IfOk, Bor}
+use Rattle.std.proofs.Common.{◌≡◌, ℕ, ◌≤◌, Bool, List, [], ◌∷◌, ◌++◌, length, drop, map, refl, ap, append-nil, arith, cond, Result, IfOk, Bor, rules}
 use Rattle.std.specs.List.{flat_map, slice_split, onto_first}
 use Rattle.std.proofs.lemmas.List.{drop_all}
 use Rattle.lab_conditions.specs.Written.{spaced}
+use Rattle.std.proofs.lemmas.Grind.{common_steps}
 
 -- words with a blank before each
 abbrev pub later : List (Bor (List ℕ)) → List ℕ
@@ -19,17 +20,14 @@ pub spaced-first : (w : Bor (List ℕ)) (rest : List (Bor (List ℕ))) → w.now
 spaced-first w rest = ap (λ bytes. w.now ++ bytes) (later-map rest)
 
 pub spaced-none : (words : List (Bor (List ℕ))) → length words ≡ 0 → [] ≡ spaced (map (λ w. w.now) words)
-spaced-none [] h = refl
-spaced-none (w ∷ rest) h = absurd (omega arith)
+spaced-none x h = grind (arith, common_steps)
 
 onto : {A B : Type 0} (f : A → B) (x : A) (parts : List (List A)) → map (map f) (onto_first x parts) ≡ onto_first (f x) (map (map f) parts)
-onto f x [] = refl
-onto f x (part ∷ parts) = refl
+onto f x y = search rules
 
 split_by : {A B : Type 0} (f : A → B) (x : A) (rest : List (List A)) (seen : List (List B)) (b : Bool) → map (map f) rest ≡ seen
     → map (map f) (cond b ([] ∷ rest) (onto_first x rest)) ≡ cond b ([] ∷ seen) (onto_first (f x) seen)
-split_by f x rest seen true e = ap (λ parts. [] ∷ parts) e
-split_by f x rest seen false e = onto f x rest ∙ ap (onto_first (f x)) e
+split_by f x rest seen y e = search rules
 
 -- pieces of a list that is seen by a function are the pieces of what it sees
 pub split-map : {A B : Type 0} (f : A → B) (p : B → Bool) (xs : List A) → map (map f) (slice_split (λ x. p (f x)) xs) ≡ slice_split p (map f xs)
@@ -38,8 +36,7 @@ split-map f p (x ∷ xs) = split_by f x (slice_split (λ x. p (f x)) xs) (slice_
 
 -- what holds of a value holds of what follows from it
 pub if_ok : {A E : Type 0} (P Q : A → Type 0) (r : Result A E) → ((v : A) → P v → Q v) → IfOk r P → IfOk r Q
-if_ok P Q (Ok v) f h = f v h
-if_ok P Q (Err e) f h = tt
+if_ok x y z f h = search rules
 
 pub map-twice : {A B C : Type 0} (f : B → C) (g : A → B) (xs : List A) → map (λ x. f (g x)) xs ≡ map f (map g xs)
 map-twice f g [] = refl

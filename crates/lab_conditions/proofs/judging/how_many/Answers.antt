@@ -1,4 +1,4 @@
-use Rattle.std.proofs.Common.{◌≡◌, ◌<◌, ◌+◌, length, map, get_or, ap, sym, ◌∙◌, arith}
+use Rattle.std.proofs.Common.{◌≡◌, ◌<◌, ◌+◌, length, map, get_or, ap, sym, ◌∙◌, arith, rules}
 use Rattle.std.proofs.lemmas.List.{length-map, get_or-map}
 use Rattle.lab_sched.specs.Held.{process_view}
 use Rattle.lab_conditions.specs.Conditions.{is_so}
@@ -29,8 +29,4 @@ loop-pid-preserved c =
     ]
 
 pub returns : goal.returns
-returns c =
-    let seen = map (λ s. process_view s.now) c.args.processes.now in
-    record {
-      count = c.loop-pid.invariant.counted ∙ counted_all c.args.state c.args.kernel.now seen c.loop-pid.pid (omega (arith, length-map c.args.processes.now (λ s. process_view s.now), c.loop-pid-test.false));
-    }
+returns c = search (rules, counted_all, length-map, c.loop-pid.invariant.counted, c.loop-pid.pid, c.loop-pid-test.false)

@@ -1,4 +1,4 @@
-use Rattle.std.proofs.Common.{◌<◌, ◌≤◌, ◌+◌, [], length, map, drop, get_or, ap, sym, ◌∙◌, arith}
+use Rattle.std.proofs.Common.{◌<◌, ◌+◌, [], length, map, drop, get_or, ap, sym, ◌∙◌, rules}
 use Rattle.std.proofs.lemmas.List.{get_or-map, length-map, drop_all, drop_more}
 use Rattle.lab_conditions.specs.Written.{part_in, parts_in}
 use Rattle.lab_conditions.proofs.PartLemmas.{with_front, front-start, front-more, front-none, front-end}
@@ -33,10 +33,4 @@ loop-piece-preserved c =
     ∙ front-more found (get_or ps i []) (drop (i + 1) ps) part (sym c.in-Some.is ∙ c.in_ok-part.ensures.value ∙ ap part_in (sym at)))
 
 pub returns : goal.returns
-returns c =
-    let ps = map (λ piece. map (λ word. word.now) piece.now) c.args.pieces.now in
-    let found = c.loop-piece.parts.items in
-    let past : length ps ≤ c.loop-piece.piece-index = omega (arith, length-map c.args.pieces.now (λ piece. map (λ word. word.now) piece.now), c.loop-piece-test.false) in
-    record {
-      value = sym (c.loop-piece.invariant ∙ ap (λ rest. with_front found (parts_in rest)) (drop_all c.loop-piece.piece-index ps past) ∙ front-end found);
-    }
+returns c = search (rules, length-map, with_front, drop_all, front-end)

@@ -1,5 +1,4 @@
-use Rattle.std.proofs.Common.{◌++◌, map, ap, sym, ◌∙◌}
-use Rattle.lab_conditions.specs.Written.{spaced}
+use Rattle.std.proofs.Common.{sym, ◌∙◌, rules}
 use Rattle.lab_conditions.proofs.WordLemmas.{later, later-end, spaced-first, spaced-none}
 use Rattle.lab_conditions.proofs.reading.words.spaced.Goals as goal
 
@@ -7,11 +6,7 @@ pub returns-in_default : goal.returns-in_default
 returns-in_default c = record { text = c.new-text.ensures.bytes ∙ spaced-none c.args.words.now c.in_default.ensures.cases }
 
 pub loop-word-init : goal.loop-word-init
-loop-word-init c =
-    ap (λ s. s ++ later c.in-Some.rest.now)
-    (c.in_ok-push_str.ensures.bytes ∙ ap (λ s. s ++ c.in-Some.first.now.now) c.new-text.ensures.bytes)
-    ∙ spaced-first c.in-Some.first.now c.in-Some.rest.now
-    ∙ ap (λ words. spaced (map (λ w. w.now) words)) (sym c.in-Some.ensures.cases.0)
+loop-word-init c = search (rules, later, spaced-first)
 
 pub returns : goal.returns
 returns c = record { text = sym (later-end _ c.in-Some.rest.now c.loop-word.word-index c.loop-word-test.false) ∙ c.loop-word.invariant }
