@@ -1,13 +1,11 @@
 -- The report: the merged steps, and then those of the settling.
-use Rattle.std.proofs.Common.{ℕ, ◌+◌, ◌≡◌, ◌<◌, ◌++◌, List, [], ◌∷◌, Some, refl, sym, ap, subst, ◌∙◌, arith, length, slice_get, get_or, map, inl, inr, ◌⊎◌, All}
-use Rattle.std.specs.Int.{bit_at}
+use Rattle.std.proofs.Common.{ℕ, ◌+◌, ◌≡◌, ◌<◌, ◌++◌, List, [], ◌∷◌, Some, refl, sym, ap, subst, ◌∙◌, arith, length, slice_get, get_or, map, ◌⊎◌, All, rules}
 use Rattle.std.specs.Option.{option_map}
 use Rattle.std.proofs.lemmas.List.{length-map}
-use Rattle.std.proofs.lemmas.Nat.Bits.{bit_at-zero}
 use Rattle.std.proofs.lemmas.List.Elements.{All-map}
 use Rattle.std.proofs.lemmas.Option.{slice_get-map, slice_get-get_or, slice_get_within, get_or_from_slice_get}
 use Rattle.ipc_kernel.specs.Kernel.{KernelState, empty_kernel}
-use Rattle.lab_sched.specs.Worlds.{HasProfile, first_profile, HaveOneProfile, Process, WorldState, step_effect}
+use Rattle.lab_sched.specs.Worlds.{HasProfile, first_profile, HaveOneProfile, Process, WorldState}
 use Rattle.lab_sched.specs.Execution.{count, IsExecution}
 use Rattle.lab_sched.specs.LocalRun.{steps}
 use Rattle.lab_sched.specs.History.{IsLegal, replay}
@@ -19,7 +17,6 @@ use Rattle.lab_sched.specs.declared.entry.Entry.{Entry}
 use Rattle.lab_sched.specs.declared.process.Process.{Process as ProcessValue}
 use Rattle.lab_sched.proofs.Executions.{count-append, execution_append}
 use Rattle.lab_sched.proofs.ReportAdditions.{added_length}
-use Rattle.lab_sched.proofs.IneffectiveProcesses.{at_rest}
 use Rattle.lab_sched.proofs.Profiles.{alone_profile, one_of}
 use Rattle.lab_sched.proofs.WorldLemmas.{runs_held}
 use Rattle.lab_threads.specs.declared.worker_result.WorkerResult.{WorkerResult}
@@ -33,9 +30,7 @@ map-map_seen (k ∷ ks) = ap (λ xs. process_view k.process ∷ xs) (map-map_see
 
 pub joined_is : (w : WorldState) (ps : List ProcessValue) (k : KernelState) (n : ℕ) (workers : List WorkerResult) (history : List Entry)
     → w.processes ≡ map process_view ps → ps ≡ map (λ v. v.process) workers → w.kernel ≡ k → k ≡ replay (empty_kernel n) history → w ≡ final_world n workers history
-joined_is w ps k n workers history ps-is ends-is k-is kernel-is =
-    ap (λ xs. record { processes = xs; kernel = w.kernel }) (ps-is ∙ ap (λ xs. map process_view xs) ends-is ∙ map-map_seen workers)
-    ∙ ap (λ j. record { processes = map (λ v. process_view v.process) workers; kernel = j }) (k-is ∙ kernel-is)
+joined_is w ps k n workers history ps-is ends-is k-is kernel-is = search (rules, map-map_seen)
 
 -- settling goes on with an execution
 pub settled_execution : (b w v : WorldState) (ss ss' left rest : List ℕ) (h h' : List Entry) → IsExecution b ss w h
@@ -47,11 +42,7 @@ settled_execution b w v ss ss' left rest h h' execution settled =
 
 rested : (v : WorldState) (p : ℕ) (s : Process) (ss' rest : List ℕ) (refused limit : ℕ) → slice_get v.processes p ≡ Some s → refused ≡ 0
     → count p ss' + get_or rest p 0 ≡ limit → HasStopped v rest refused p → IsAtRest v.kernel p s ⊎ (count p ss' ≡ limit)
-rested v p s ss' rest refused limit at none counts (inl all) = inr (omega (arith, counts, all))
-rested v p s ss' rest refused limit at none counts (inr (inl still)) = inl (at_rest v.kernel p s (ap (λ o. step_effect v.kernel p o) (sym at) ∙ still))
-rested v p s ss' rest refused limit at none counts (inr (inr is_set)) =
-    let zero_bit : bit_at refused p ≡ 0 = ap (λ n. bit_at n p) none ∙ bit_at-zero p in
-    absurd (omega (arith, zero_bit, is_set))
+rested v p s x rest refused limit at none counts y = search rules
 
 -- and where the steps so far and those left make the limit, it finishes
 pub settled_finished : (w v : WorldState) (ss ss' left rest : List ℕ) (h h' : List Entry) (limit refused : ℕ)

@@ -1,5 +1,5 @@
 -- What a worker does with its process, as a trace tells it.
-use Rattle.std.proofs.Common.{◌≡◌, refl, ap}
+use Rattle.std.proofs.Common.{◌≡◌, refl, ap, rules}
 use Rattle.lc3_machine.specs.Process.{Process as Machine}
 use Rattle.lc3_machine.specs.declared.want.How.{How}
 use Rattle.lc3_machine.specs.declared.want.Want.TheVariants.{End}
@@ -20,9 +20,7 @@ use Rattle.ipc_traps.specs.declared.Asked.TheVariants.{Refused}
 
 -- a refusal without the kernel is a local step
 pub refused : (s u : Process) (e : Errno) → IsAsked s (Refused e) u → AreLocal 1 s u
-refused (Running m) u e h = (u, h.1, refl)
-refused (Waiting m c) u e h = absurd h
-refused (Ended e') u e h = absurd h
+refused x u e h = search rules
 
 asks_for : (m : Machine) (c : Call) → next_request m ≡ Calls c → TakesAnswer (Running m) c Wait (Waiting m c)
 unfolding next_action process_after_answer
@@ -34,9 +32,7 @@ answered m c r asks = (ap (action_for m) asks, refl)
 
 -- the first try of a call that must wait
 pub told_wait : (x : Kept) (u : Process) (c : Call) → MayWait x c → u ≡ Waiting (machine_of (process_view x)) c → TakesAnswer (process_view x) c Wait u
-told_wait (kept.Running h) u c may is = rw is (asks_for h.process c may.0)
-told_wait (kept.Waiting h d) u c may is = absurd may
-told_wait (kept.Ended e) u c may is = absurd may
+told_wait x u c may is = search (rules, asks_for)
 
 -- the first try of a call that is answered
 pub told_first : (x : Kept) (u : Process) (c : Call) (r : Reply) → MayWait x c → u ≡ after_reply (process_view x) r → TakesAnswer (process_view x) c (Done r) u

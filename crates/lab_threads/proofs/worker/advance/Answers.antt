@@ -7,10 +7,7 @@ use Rattle.lab_threads.proofs.WorkerSteps.{refused, told_end}
 use Rattle.lab_threads.proofs.worker.advance.Goals as goal
 
 pub returns-then-taken-gt0-clause-alone : goal.returns-then-taken-gt0-clause-alone
-returns-then-taken-gt0-clause-alone g c s before =
-    let x = process_view c.args.process.now in
-    let y = process_view c.local_steps-taken.new.process in
-    c.write_local.ensures.alone x y c.local_steps-taken.ensures.local s before
+returns-then-taken-gt0-clause-alone g c s before = search (rules, c.args.process.now, c.local_steps-taken.new.process, c.write_local.ensures.alone, c.local_steps-taken.ensures.local)
 
 -- a refusal without the kernel, where no local step was taken
 pub returns-in-Ok-Refused-clause-alone : goal.returns-in-Ok-Refused-clause-alone

@@ -1,4 +1,4 @@
-use Rattle.std.proofs.Common.{refl, sym, subst}
+use Rattle.std.proofs.Common.{refl, sym, subst, rules}
 use Rattle.ipc_kernel.specs.declared.call.Call.{Call}
 use Rattle.ipc_kernel.specs.declared.call.Answer.TheVariants.{Wait}
 use Rattle.lab_sched.specs.Held.{process_view}
@@ -15,10 +15,7 @@ returns-in-Blocked-clause-alone g c s before =
     c.add_call.ensures.alone (process_view p) u (subst (λ (d : Call). TakesAnswer (process_view p) d Wait u) (sym c.in-Ok.ensures.equal) told) s before
 
 pub returns-in-Answered-clause-alone : goal.returns-in-Answered-clause-alone
-returns-in-Answered-clause-alone g c s before =
-    let p = c.args.process.now in
-    let u = process_view c.answer_call.new.process in
-    c.add_call-in-Answered.ensures.alone (process_view p) u (told_first p u c.args.call c.in-Answered.reply c.requires.may c.answer_call.ensures.told) s before
+returns-in-Answered-clause-alone g c s before = search (rules, told_first, c.args.process.now, c.answer_call.new.process, c.add_call-in-Answered.ensures.alone, c.args.call, c.in-Answered.reply, c.requires.may, c.answer_call.ensures.told)
 
 pub returns-in-AnsweredAfterWait-clause-alone : goal.returns-in-AnsweredAfterWait-clause-alone
 returns-in-AnsweredAfterWait-clause-alone g c s before =

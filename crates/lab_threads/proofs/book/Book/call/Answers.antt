@@ -4,15 +4,10 @@ use Rattle.lab_threads.proofs.BookCalls.{book_after, book_still, kernel_after}
 use Rattle.lab_threads.proofs.book.Book.call.Goals as goal
 
 pub invariant_of-self-then-not-has_entry : goal.invariant_of-self-then-not-has_entry
-invariant_of-self-then-not-has_entry c =
-    book_still c.args.pid c.args.call.now c.in_ok-answer.field-0.answer c.self.invariant (search rules) c.in_ok-answer.ensures.answered (search rules)
+invariant_of-self-then-not-has_entry c = search (rules, book_still, c.args.pid, c.args.call.now, c.in_ok-answer.field-0.answer, c.self.invariant, c.in_ok-answer.ensures.answered)
 
 pub returns-then-not-has_entry-clause-kernel : goal.returns-then-not-has_entry-clause-kernel
-returns-then-not-has_entry-clause-kernel c =
-    kernel_after c.self.inside.kernel c.answer_with_entry.new.kernel c.self.inside.history.items c.reserve.new.self.items c.self.inside.waiting.items c.self.inside.waiting.items c.args.pid c.args.call.now c.args.self.now
-    c.self.invariant
-    (book_still c.args.pid c.args.call.now c.in_ok-answer.field-0.answer c.self.invariant (search rules) c.in_ok-answer.ensures.answered (search rules))
-    c.self.view_is (ap (λ (o : Outcome). o.1) c.in_ok-answer.ensures.answered)
+returns-then-not-has_entry-clause-kernel c = search (rules, kernel_after, book_still, c.self.inside.kernel, c.answer_with_entry.new.kernel, c.self.inside.history.items, c.reserve.new.self.items, c.self.inside.waiting.items, c.args.pid, c.args.call.now, c.args.self.now, c.self.invariant, c.in_ok-answer.field-0.answer, c.in_ok-answer.ensures.answered, c.self.view_is)
 
 pub invariant_of-self-2 : goal.invariant_of-self-2
 invariant_of-self-2 c =

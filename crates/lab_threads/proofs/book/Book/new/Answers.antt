@@ -8,7 +8,4 @@ invariant_of-result c =
     rw c.new-2.ensures.items (book_none c.loop.waiting.items c.args.count c.in_ok-kernel.ensures.empty len c.loop.invariant.none)
 
 pub loop-preserved : goal.loop-preserved
-loop-preserved c = record {
-  len = search rules;
-  none = none_after c.loop.waiting.items c.push.new.self.items (search rules) c.loop.invariant.none;
-}
+loop-preserved c = search (rules, none_after, c.loop.waiting.items, c.push.new.self.items, c.loop.invariant.none)
