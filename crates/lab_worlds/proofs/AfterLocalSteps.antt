@@ -1,9 +1,9 @@
 -- Processes and worlds ahead of others: by all their local steps.
-use Rattle.std.proofs.Common.{ℕ, zero, suc, ◌+◌, ◌≡◌, List, [], ◌∷◌, Option, Some, None, refl, sym, subst, slice_get, rules}
+use Rattle.std.proofs.Common.{ℕ, zero, suc, ◌≡◌, List, [], ◌∷◌, Option, Some, refl, sym, subst, slice_get, rules}
 use Rattle.lc3_machine.specs.Process.{Process as Machine}
 use Rattle.lc3_machine.proofs.Runs.{steps_append}
 use Rattle.lab_sched.specs.Worlds.{Process, Running, moves, next_action}
-use Rattle.lab_sched.specs.LocalRun.{IsLocalStep, AreLocal}
+use Rattle.lab_sched.specs.LocalRun.{AreLocal}
 use Rattle.lab_sched.proofs.OwnSteps.{first_local}
 use Rattle.lab_worlds.specs.Calls.{IsAtCall, IsAhead, Both}
 
@@ -29,13 +29,7 @@ pub ahead_moves : (m q : Machine) (u : Process) → next_action m ≡ moves q �
 ahead_moves m q u e h = goes_on h.taken m q u e h.local h.at_call
 
 pub ahead_of_ahead : (a b c : Option Process) → Both IsAhead a b → Both IsAhead b c → Both IsAhead a c
-ahead_of_ahead None None None h i = tt
-ahead_of_ahead (Some x) (Some y) (Some z) h i = record {
-  taken = h.taken + i.taken;
-  local = steps_append IsLocalStep h.taken i.taken x y z h.local i.local;
-  at_call = i.at_call;
-}
-ahead_of_ahead _ _ _ h i = search rules
+ahead_of_ahead x y z h i = search (rules, steps_append)
 
 -- lists with the same elements at the same places
 pub same_by_gets : {A : Type 0} (xs ys : List A) → ((i : ℕ) → slice_get xs i ≡ slice_get ys i) → xs ≡ ys

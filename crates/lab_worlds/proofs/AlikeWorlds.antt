@@ -1,10 +1,10 @@
 -- Worlds that are alike make the same steps, to worlds that are alike.
-use Rattle.std.proofs.Common.{ℕ, ◌≡◌, List, [], ◌∷◌, Option, Some, None, refl, sym, ap, subst, ◌∙◌, slice_get, set}
+use Rattle.std.proofs.Common.{ℕ, ◌≡◌, List, [], ◌∷◌, Option, refl, sym, ap, subst, ◌∙◌, slice_get, set, rules}
 use Rattle.ipc_kernel.specs.Kernel.{KernelState}
 use Rattle.ipc_kernel.specs.Alike.{IsAlike, IsConsistent}
 use Rattle.ipc_store.proofs.Alikes.{alike_itself, alike_then, alike_back}
 use Rattle.ipc_store.proofs.LikeAnswers.{answers_alike, stays_consistent}
-use Rattle.lab_sched.specs.Worlds.{Process, Running, Waiting, Ended, WorldState, NextAction, moves, calls, next_action, StepEffect, nothing, local_step, kernel_step, step_effect, step_effect_in, process_after_answer, after, step, run, first_try, retry, IsEffective}
+use Rattle.lab_sched.specs.Worlds.{Process, Running, WorldState, StepEffect, nothing, local_step, kernel_step, step_effect, step_effect_in, process_after_answer, after, step, run, IsEffective}
 use Rattle.lab_sched.specs.Execution.{AreEffective}
 use Rattle.lab_sched.specs.Verdicts.{HaveEnded, AreStuck}
 use Rattle.lab_sched.specs.declared.verdict.Verdict.TheVariants as verdict
@@ -22,14 +22,7 @@ world_back w v a = record { processes = sym a.processes; kernel = alike_back w.k
 
 -- kernels that are alike give a process the same step
 pub effect_alike : (k j : KernelState) (p : ℕ) (o : Option Process) → IsConsistent k → IsAlike k j → step_effect j p o ≡ step_effect k p o
-effect_alike k j p None s a = refl
-effect_alike k j p (Some (Running m)) s a = by_act (next_action m)
-  where
-    by_act : (x : NextAction) → first_try j p m x ≡ first_try k p m x
-    by_act (moves n) = refl
-    by_act (calls c) = ap (kernel_step m c) (sym (answers_alike k j p c s a).0)
-effect_alike k j p (Some (Waiting m c)) s a = ap (retry m c) (sym (answers_alike k j p c s a).0)
-effect_alike k j p (Some (Ended e)) s a = refl
+effect_alike k j p x s a = search (rules, answers_alike)
 
 -- the kernels stay alike
 pub kernel_alike : (w v : WorldState) (p : ℕ) (t : StepEffect) → IsConsistent w.kernel → IsAlike w.kernel v.kernel → IsAlike (after w p t).kernel (after v p t).kernel
@@ -77,11 +70,7 @@ ended_alike w v e h p s at = h p s (ap (λ ps. slice_get ps p) (sym e) ∙ at)
 
 -- where the same processes make the same steps
 stuck_alike : (w v : WorldState) → v.processes ≡ w.processes → ((p : ℕ) → step_effect_in v p ≡ step_effect_in w p) → AreStuck w → AreStuck v
-stuck_alike w v e steps h = record {
-  waits = (h.waits.0, h.waits.1, ap (λ ps. slice_get ps h.waits.0) e ∙ h.waits.2, h.waits.3);
-  none_runs = λ p x at. h.none_runs p x (ap (λ ps. slice_get ps p) (sym e) ∙ at);
-  none_moves = λ p effective. h.none_moves p (subst IsEffective (steps p) effective);
-}
+stuck_alike w v e steps h = search rules
 
 pub one_verdict : OneVerdict
 one_verdict w v verdict.Ended s a h = ended_alike w v a.processes h

@@ -1,5 +1,5 @@
 -- Laboratories before their first step.
-use Rattle.std.proofs.Common.{ℕ, true, All, ◌≡◌, slice_get, List, Option, Some, None, refl, sym, ap, subst, ◌∙◌, length, map}
+use Rattle.std.proofs.Common.{ℕ, true, All, ◌≡◌, slice_get, List, Option, Some, None, refl, sym, ap, subst, ◌∙◌, length, map, rules}
 use Rattle.ipc_kernel.specs.Kernel.{KernelState, empty_kernel}
 use Rattle.lab_sched.specs.declared.process.Process.{Process as Kept}
 use Rattle.std.proofs.lemmas.List.Elements.{All-weaker}
@@ -21,8 +21,7 @@ use Rattle.lab_worlds.proofs.Pushes.{all_at}
 -- the start of a laboratory, by copies of its processes over an empty kernel
 pub started : (w : WorldState) (ps qs : List Kept) (k : KernelState) (n : ℕ) → initial_world ps ≡ w → qs ≡ ps → n ≡ length qs → k ≡ empty_kernel n
     → w ≡ record { processes = map process_view qs; kernel = k }
-started w ps qs k n world same count empty =
-    sym world ∙ ap initial_world (sym same) ∙ ap (λ j. record { processes = map process_view qs; kernel = j }) (ap empty_kernel (sym count) ∙ sym empty)
+started w ps qs k n world same count empty = search rules
 
 -- in the kernel of a laboratory before its first step each object has a name
 pub fresh_named : (w : WorldState) (n : ℕ) → w.kernel ≡ empty_kernel n → are_named w.kernel.places ≡ true

@@ -1,17 +1,14 @@
 -- Passes, fair lassos, and passes as many as one likes.
-use Rattle.std.proofs.Common.{ℕ, Bool, zero, suc, ◌≡◌, ◌<◌, ◌≤◌, ◌++◌, List, [], ◌∷◌, Option, Some, None, IfSome, true, false, refl, sym, ap, subst, ◌∙◌, arith, length, slice_get, set, get_or, replicate, inl, inr, All}
+use Rattle.std.proofs.Common.{ℕ, Bool, zero, suc, ◌≡◌, ◌<◌, ◌≤◌, ◌++◌, List, [], ◌∷◌, Option, Some, None, IfSome, true, false, refl, sym, ap, subst, ◌∙◌, arith, length, slice_get, set, get_or, replicate, inl, inr, All, rules}
 use Rattle.std.specs.Prelude.{Contains}
 use Rattle.std.proofs.Math.ListN.{get_or-append}
 use Rattle.std.proofs.lemmas.List.{append_assoc, append-nil, length-append, length-replicate, length-set}
 use Rattle.std.proofs.lemmas.List.Elements.{All-replicate, Contains-push}
 use Rattle.std.proofs.lemmas.Option.{slice_get-get_or}
 use Rattle.ipc_kernel.specs.Alike.{IsConsistent}
-use Rattle.lab_sched.specs.Worlds.{WorldState, nothing, step_effect_in, step, after, run, entries, IsEffective}
+use Rattle.lab_sched.specs.Worlds.{WorldState, step_effect_in, run, entries, IsEffective}
 use Rattle.lab_sched.specs.Execution.{AreEffective}
 use Rattle.lab_sched.specs.Schedules.{steps_of}
-use Rattle.lab_sched.specs.declared.stepped.Stepped.TheVariants as stepped
-use Rattle.lab_sched.specs.Held.{asked_by, told_in}
-use Rattle.lab_sched.proofs.Runs.{told_nothing}
 use Rattle.lab_sched.proofs.ListPlaces.{get-set_other}
 use Rattle.lab_worlds.specs.declared.walking.Walk.{Walk}
 use Rattle.lab_worlds.specs.declared.segments.FairSegment.{FairSegment}
@@ -23,22 +20,9 @@ use Rattle.lab_worlds.specs.Segments.{IsSegmentSoFar}
 use Rattle.lab_worlds.proofs.Pushes.{all_at, at_or_other}
 use Rattle.lab_worlds.proofs.AlikeWorlds.{world_itself, world_then, world_back, same_effect, run_alike, effective_alike, consistent_run}
 
--- a step that is told as none has no effect, and changes nothing
-told_same : (w : WorldState) (p : ℕ) → told_in w p ≡ stepped.Same → step_effect_in w p ≡ nothing
-told_same w p e = told_nothing (asked_by (slice_get w.processes p)) (step_effect_in w p) e
-
-pub told_pause : (w : WorldState) (p : ℕ) → told_in w p ≡ stepped.Same → IsEffective (step_effect_in w p) → ⊥
-told_pause w p e effective = subst IsEffective (told_same w p e) effective
-
-pub told_world : (w : WorldState) (p : ℕ) → told_in w p ≡ stepped.Same → step w p ≡ w
-told_world w p e = ap (λ t. after w p t) (told_same w p e)
-
 -- a process that is served is served along more steps
 pub contained_more : (ps qs : List ℕ) (p : ℕ) → Contains ps p → Contains (ps ++ qs) p
-contained_more ps qs p h =
-    let long = length-append ps qs in
-    let within = h.1 in
-    (h.0, omega (arith, within, long), get_or-append ps qs p h.0 h.1 ∙ h.2)
+contained_more ps qs p h = search (rules, length-append, get_or-append)
 
 fair_to_more : (w : WorldState) (ps qs : List ℕ) (p : ℕ) → IsFairTo w ps p → IsFairTo w (ps ++ qs) p
 fair_to_more w ps qs p (inl takes) = inl (contained_more ps qs p takes)

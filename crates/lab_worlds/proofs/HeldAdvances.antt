@@ -1,12 +1,12 @@
 -- Whatever steps are taken, the list has the advance of the world that they lead to, but for who waits.
-use Rattle.std.proofs.Common.{ℕ, ◌+◌, ◌≤◌, ◌≡◌, arith, length, List, [], ◌∷◌, Option, Some, None, refl, sym, ap, subst, ◌∙◌, slice_get, inl, inr, ◌⊎◌, Contains}
+use Rattle.std.proofs.Common.{ℕ, ◌+◌, ◌≤◌, ◌≡◌, arith, length, List, [], ◌∷◌, Option, Some, None, refl, sym, ap, subst, ◌∙◌, slice_get, inl, inr, ◌⊎◌, Contains, rules}
 use Rattle.std.proofs.lemmas.List.{length-append}
 use Rattle.lc3_machine.specs.Process.{Process as Machine}
 use Rattle.ipc_kernel.specs.declared.call.Answer.TheVariants.{Wait}
 use Rattle.ipc_kernel.specs.Answer.{answer}
 use Rattle.ipc_kernel.specs.Alike.{IsConsistent}
 use Rattle.ipc_store.proofs.Alikes.{alike_then}
-use Rattle.lab_sched.specs.Worlds.{Process, Running, Waiting, Ended, WorldState, moves, next_action, StepEffect, nothing, local_step, kernel_step, step_effect, step_effect_in, process_after_answer, after, step, run, IsEffective, entry_of, entries}
+use Rattle.lab_sched.specs.Worlds.{Process, Running, Waiting, WorldState, moves, next_action, StepEffect, nothing, local_step, kernel_step, step_effect, step_effect_in, process_after_answer, after, step, run, IsEffective, entry_of, entries}
 use Rattle.lab_sched.specs.Finished.{IsAtRest}
 use Rattle.lab_sched.specs.Stepping.{before_wait}
 use Rattle.lab_sched.proofs.ListPlaces.{get-set_same, get_past}
@@ -167,9 +167,7 @@ rests_on w p rest h = by (step_of w p)
 
 -- a process at rest is at a call, also if it hasn't begun to wait
 rest_at_call : (w : WorldState) (p : ℕ) (s : Process) → IsAtRest w.kernel p s → AsksAgain s → IsAtCall (before_wait s)
-rest_at_call w p (Running m) rest asks = absurd rest
-rest_at_call w p (Waiting m c) rest asks = (c, asks)
-rest_at_call w p (Ended e) rest asks = tt
+rest_at_call w p x rest asks = search rules
 
 -- the world at rest but for who waits has the processes of its advance
 unwaiting_stays : (w v : WorldState) → AskAgain w → AreAtRest w → IsAdvance (unwaiting w) v → AreAlike (unwaiting w) v

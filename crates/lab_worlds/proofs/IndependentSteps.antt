@@ -1,5 +1,5 @@
 -- Independent steps commute with those of other processes.
-use Rattle.std.proofs.Common.{ℕ, ◌≡◌, ◌≢◌, true, false, List, Option, Some, None, refl, sym, ap, ◌∙◌, slice_get}
+use Rattle.std.proofs.Common.{ℕ, ◌≡◌, ◌≢◌, true, false, List, Option, Some, None, refl, sym, ap, ◌∙◌, slice_get, rules}
 use Rattle.std.proofs.lemmas.List.{set_comm}
 use Rattle.ipc_kernel.specs.Kernel.{KernelState}
 use Rattle.ipc_kernel.specs.declared.call.Answer.{Answer}
@@ -20,23 +20,11 @@ SameAnswer k j p _ = Unit {0}
 
 -- so the step is the same
 pub same_effect_over : (k j : KernelState) (p : ℕ) (o : Option Process) → GoesOn (step_effect k p o) → SameAnswer k j p (step_effect k p o) → step_effect j p o ≡ step_effect k p o
-same_effect_over k j p None goes same = refl
-same_effect_over k j p (Some (Running m)) goes same = by (next_action m) same
-  where
-    by : (x : NextAction) → SameAnswer k j p (first_try k p m x) → first_try j p m x ≡ first_try k p m x
-    by (moves n) h = refl
-    by (calls c) h = ap (kernel_step m c) h
-same_effect_over k j p (Some (Waiting m c)) goes same = by (answer k p c).0 refl goes same
-  where
-    by : (a : Answer) → (answer k p c).0 ≡ a → GoesOn (retry m c a) → SameAnswer k j p (retry m c a) → retry m c (answer j p c).0 ≡ retry m c a
-    by Wait e goes h = absurd goes
-    by (Done r) e goes h = ap (retry m c) (h ∙ e)
-same_effect_over k j p (Some (Ended e)) goes same = refl
+same_effect_over k j p x goes same = search rules
 
 -- what a step makes of a list of processes
 made_comm : (ps : List Process) (p q : ℕ) (a b : Option Process) → p ≢ q → processes_with (processes_with ps p a) q b ≡ processes_with (processes_with ps q b) p a
-made_comm ps p q (Some x) (Some y) ne = set_comm ps p q x y ne
-made_comm ps p q _ _ ne = refl
+made_comm ps p q x y ne = search (rules, set_comm)
 
 -- two steps of two processes, the first of which is independent
 pub record AreIndependent (w : WorldState) (p q : ℕ) : Type 0 where
@@ -47,9 +35,7 @@ pub record AreIndependent (w : WorldState) (p q : ℕ) : Type 0 where
 
 -- an independent step goes on
 pub independent_goes : (k : KernelState) (t : StepEffect) → IsIndependent k t → GoesOn t
-independent_goes k (local_step n) h = tt
-independent_goes k (kernel_step m c (Done r)) h = tt
-independent_goes k _ h = h
+independent_goes k x h = search rules
 
 -- a call that takes no name away, if a step is one
 abbrev pub CallKeepsNames : StepEffect → Type 0
@@ -133,8 +119,4 @@ module _ (law : OwnCallsCommute) where
 
 -- each object has a name still, after a step of a process that takes none away
 pub named_after : StayNamed → (w : WorldState) (p : ℕ) → are_named w.kernel.places ≡ true → KeepsNames w p → are_named (step w p).kernel.places ≡ true
-named_after law w p named keeps = by (step_effect_in w p) (keeps_names w.kernel p (slice_get w.processes p) keeps)
-  where
-    by : (t : StepEffect) → CallKeepsNames t → are_named (kernel_after w.kernel p t).places ≡ true
-    by (kernel_step m c a) h = law w.kernel p c named h
-    by _ h = named
+named_after law w p named keeps = search (rules, keeps_names)

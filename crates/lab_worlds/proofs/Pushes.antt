@@ -1,5 +1,5 @@
 -- Lists with one more element, and pairs of lists.
-use Rattle.std.proofs.Common.{ℕ, zero, suc, ◌≡◌, ◌+◌, ◌<◌, get_or, All, List, [], ◌∷◌, ◌++◌, Option, Some, None, refl, sym, subst, slice_get, length, set, inl, inr}
+use Rattle.std.proofs.Common.{ℕ, zero, suc, ◌≡◌, ◌+◌, ◌<◌, get_or, All, List, [], ◌∷◌, ◌++◌, Option, Some, refl, sym, subst, slice_get, length, set, inl, inr, rules}
 use Rattle.std.specs.List.{AllWithin}
 use Rattle.std.proofs.lemmas.Bool.Decides.{eqb_tells}
 use Rattle.std.proofs.lemmas.List.Elements.{AllWithin-more}
@@ -26,9 +26,7 @@ pub within_more : {A : Type 0} (P : A → Type 0) (xs : List A) (i : ℕ) (x : A
 within_more P xs i x h is here = AllWithin-more P xs 0 i h (λ d. subst P (sym (get_or_from_slice_get xs i x d is)) here)
 
 pub both_weaker : {A B : Type 0} (R Q : A → B → Type 0) → ((x : A) (y : B) → R x y → Q x y) → (a : Option A) (b : Option B) → Both R a b → Both Q a b
-both_weaker R Q w None None h = tt
-both_weaker R Q w (Some x) (Some y) h = w x y h
-both_weaker R Q w _ _ h = absurd h
+both_weaker x y w z u h = search rules
 
 -- what holds at a place, and at another, holds at each
 pub at_or_other : (P : ℕ → Type 0) (p j : ℕ) → P p → ((p ≡ j → ⊥) → P j) → P j
@@ -36,10 +34,7 @@ at_or_other P p j here there = elim (eqb_tells p j) [ inl same ↦ subst P same.
 
 pub alongside_set : {A B : Type 0} (R : A → B → Type 0) (xs : List A) (ys : List B) (p : ℕ) (a x : A) (b y : B) → slice_get xs p ≡ Some a → slice_get ys p ≡ Some b
     → Alongside R xs ys → R x y → Alongside R (set xs p x) (set ys p y)
-alongside_set R xs ys p a x b y ea eb h r j = at_or_other (λ n. Both R (slice_get (set xs p x) n) (slice_get (set ys p y) n)) p j
-    (subst (λ o. Both R o (slice_get (set ys p y) p)) (sym (get-set_same xs p x (get_past xs p a ea)))
-    (subst (λ o. Both R (Some x) o) (sym (get-set_same ys p y (get_past ys p b eb))) r))
-    (λ other. subst (λ o. Both R o (slice_get (set ys p y) j)) (sym (get-set_other xs p j x other)) (subst (λ o. Both R (slice_get xs j) o) (sym (get-set_other ys p j y other)) (h j)))
+alongside_set R xs ys p a x b y ea eb h r j = search (rules, at_or_other, get-set_same, get_past, get-set_other)
 
 -- an element that was read
 pub got : {A : Type 0} (xs ys : List A) (i : ℕ) (x : A) → xs ≡ ys → i < length xs → x ≡ get_or xs i x → slice_get ys i ≡ Some x

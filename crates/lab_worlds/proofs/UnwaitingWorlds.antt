@@ -1,5 +1,5 @@
 -- A process that waits does next what it would do if it stood before its call.
-use Rattle.std.proofs.Common.{ℕ, ◌≡◌, ◌<◌, ◌≤◌, arith, length, ◌∷◌, [], List, Option, Some, None, refl, sym, ap, subst, ◌∙◌, slice_get, set, map, inl, inr, ◌⊎◌}
+use Rattle.std.proofs.Common.{ℕ, ◌≡◌, ◌<◌, ◌≤◌, arith, length, ◌∷◌, [], List, Option, Some, None, refl, sym, ap, subst, ◌∙◌, slice_get, set, map, inl, inr, ◌⊎◌, rules}
 use Rattle.std.specs.Option.{option_map}
 use Rattle.std.proofs.lemmas.Bool.{cases_lt}
 use Rattle.std.proofs.lemmas.List.{map-set}
@@ -13,7 +13,7 @@ use Rattle.ipc_kernel.specs.declared.call.Reply.{Reply}
 use Rattle.ipc_kernel.specs.Kernel.{KernelState}
 use Rattle.ipc_kernel.specs.Answer.{answer}
 use Rattle.ipc_kernel.proofs.LawfulAnswers.{answer_wait}
-use Rattle.lab_sched.specs.Worlds.{Process, Running, Waiting, Ended, WorldState, NextAction, moves, calls, next_action, StepEffect, nothing, local_step, kernel_step, step_effect, step_effect_in, process_after_answer, process_after_reply_to, after, step, first_try, retry}
+use Rattle.lab_sched.specs.Worlds.{Process, Running, Waiting, WorldState, NextAction, moves, calls, next_action, StepEffect, nothing, local_step, kernel_step, step_effect, step_effect_in, process_after_answer, process_after_reply_to, after, step, first_try, retry}
 use Rattle.lab_sched.specs.Stepping.{before_wait}
 use Rattle.lab_sched.proofs.ListPlaces.{get-set_same, get_past, set_same}
 use Rattle.lab_sched.proofs.Commutes.{after_other}
@@ -32,9 +32,7 @@ tells (kernel_step m c Wait) = inr (λ h. h)
 tells (kernel_step m c (Done r)) = inl tt
 
 back_twice : (s : Process) → before_wait (before_wait s) ≡ before_wait s
-back_twice (Running m) = refl
-back_twice (Waiting m c) = refl
-back_twice (Ended e) = refl
+back_twice x = search rules
 
 all_twice : (ss : List Process) → map before_wait (map before_wait ss) ≡ map before_wait ss
 all_twice [] = refl
@@ -47,24 +45,14 @@ unwaiting_twice w = ap {B = WorldState} (λ ps. record { processes = ps; kernel 
 pub unwaiting_at : (w : WorldState) (p : ℕ) (o : Option Process) → slice_get w.processes p ≡ o → slice_get (unwaiting w).processes p ≡ option_map before_wait o
 unwaiting_at w p o a = slice_get-map before_wait w.processes p ∙ ap (λ x. option_map before_wait x) a
 
--- a call that is tried again
-retry_goes : (m : Machine) (c : Call) (a : Answer) → GoesOn (retry m c a) → kernel_step m c a ≡ retry m c a
-retry_goes m c Wait h = absurd h
-retry_goes m c (Done r) h = refl
-
 retry_none : (m : Machine) (c : Call) (a : Answer) → (GoesOn (retry m c a) → ⊥) → GoesOn (kernel_step m c a) → ⊥
-retry_none m c Wait h = λ g. g
-retry_none m c (Done r) h = h
+retry_none m c x h = search rules
 
 same_here : (k : KernelState) (p : ℕ) (s : Process) → AsksAgain s → GoesOn (step_effect k p (Some s)) → step_effect k p (Some (before_wait s)) ≡ step_effect k p (Some s)
-same_here k p (Running m) asks h = refl
-same_here k p (Waiting m c) asks h = ap (first_try k p m) asks ∙ retry_goes m c (answer k p c).0 h
-same_here k p (Ended e) asks h = refl
+same_here k p x asks h = search rules
 
 none_here : (k : KernelState) (p : ℕ) (s : Process) → AsksAgain s → (GoesOn (step_effect k p (Some s)) → ⊥) → GoesOn (step_effect k p (Some (before_wait s))) → ⊥
-none_here k p (Running m) asks h = h
-none_here k p (Waiting m c) asks h = λ g. retry_none m c (answer k p c).0 h (subst GoesOn (ap (first_try k p m) asks) g)
-none_here k p (Ended e) asks h = h
+none_here k p x asks h = search rules
 
 -- the effect of a step where none has begun to wait
 unwaiting_effect : (w : WorldState) (p : ℕ) (o : Option Process) → slice_get w.processes p ≡ o → step_effect_in (unwaiting w) p ≡ step_effect w.kernel p (option_map before_wait o)
@@ -119,14 +107,7 @@ step_of w p = by (slice_get w.processes p) refl
     by o at = still (effect_at w p o at)
 
 pub still_unwaiting : (w : WorldState) (p : ℕ) → (GoesOn (step_effect_in w p) → ⊥) → unwaiting (step w p) ≡ unwaiting w
-still_unwaiting w p h = by (step_of w p)
-  where
-    by : StepOf w p → unwaiting (step w p) ≡ unwaiting w
-    by (still e) = ap (λ t. unwaiting (after w p t)) e
-    by (by_itself m q at asks e) = absurd (h (subst GoesOn (sym e) tt))
-    by (by_call m c Wait at asks is e) = ap (λ t. unwaiting (after w p t)) e ∙ begun w p m c at is
-    by (by_call m c (Done r) at asks is e) = absurd (h (subst GoesOn (sym e) tt))
-    by (by_answer m c r at is e) = absurd (h (subst GoesOn (sym e) tt))
+still_unwaiting w p h = search (rules, step_of, begun)
 
 -- a process that has its reply doesn't wait
 replied_back : (m : Machine) (c : Call) (r : Reply) → before_wait (process_after_answer m c (Done r)) ≡ process_after_answer m c (Done r)
@@ -139,16 +120,11 @@ replied_back m c r = by (next_request m)
 
 -- a step that goes on
 pub moved_unwaiting : (w : WorldState) (p : ℕ) (t : StepEffect) → GoesOn t → unwaiting (after w p t) ≡ after (unwaiting w) p t
-moved_unwaiting w p (local_step n) h = ap {B = WorldState} (λ ps. record { processes = ps; kernel = w.kernel }) (map-set before_wait w.processes p (Running n))
-moved_unwaiting w p (kernel_step m c (Done r)) h =
-    ap {B = WorldState} (λ ps. record { processes = ps; kernel = (answer w.kernel p c).1 })
-    (map-set before_wait w.processes p (process_after_answer m c (Done r)) ∙ ap (λ x. set (map before_wait w.processes) p x) (replied_back m c r))
-moved_unwaiting w p _ h = absurd h
+moved_unwaiting w p x h = search (rules, map-set, replied_back)
 
 -- a step that goes on, where none has begun to wait
 pub goes_unwaiting : (w : WorldState) (p : ℕ) → AskAgain w → GoesOn (step_effect_in w p) → unwaiting (step w p) ≡ step (unwaiting w) p
-goes_unwaiting w p asks h =
-    moved_unwaiting w p (step_effect_in w p) h ∙ ap (λ t. after (unwaiting w) p t) (sym (same_step w p asks h))
+goes_unwaiting w p asks h = search (rules, moved_unwaiting, same_step)
 
 pub commutes : (w : WorldState) (p : ℕ) → AskAgain w → unwaiting (step w p) ≡ unwaiting (step (unwaiting w) p)
 commutes w p asks = elim (tells (step_effect_in w p)) [
@@ -186,19 +162,11 @@ asks_on w p asks = by (step_of w p)
     by (by_answer m c r at done e) = answered (Waiting m c) m c (Done r) at e (asks p (Waiting m c) at)
 
 pub unwaiting_step : StepsUnaffectedByWaits
-unwaiting_step w p asks = record {
-  same = same_step w p asks;
-  none = none_goes w p asks;
-  still = still_unwaiting w p;
-  commutes = commutes w p asks;
-  asks = asks_on w p asks;
-}
+unwaiting_step w p asks = search (rules, same_step, none_goes, still_unwaiting, commutes, asks_on)
 
 -- processes at rest that are the same before they began to wait are the same
 one_rest : (k j : KernelState) (p : ℕ) (s u : Process) → AsksAgain s → AsksAgain u → IsAtRest k p s → IsAtRest j p u → before_wait u ≡ before_wait s → u ≡ s
-one_rest k j p (Running m) u a b h i e = absurd h
-one_rest k j p s (Running n) a b h i e = absurd i
-one_rest k j p s u a b h i e = cc
+one_rest k j p x u a b h i e = search rules
 
 pub rests_alike : RestsAlike
 rests_alike w v a b h i same = record {
@@ -234,22 +202,16 @@ same_unwaiting w n few h = ap {B = WorldState} (λ ps. record { processes = ps; 
     ]
 
 running_back : (s : Process) → IsRunning s → before_wait s ≡ s
-running_back (Running m) h = refl
-running_back _ h = absurd h
+running_back x h = search rules
 
 running_asks : (s : Process) → IsRunning s → AsksAgain s
-running_asks (Running m) h = tt
-running_asks _ h = absurd h
+running_asks x h = search rules
 
 abbrev pub AreRunning : WorldState → Type 0
 AreRunning w = (p : ℕ) (s : Process) → slice_get w.processes p ≡ Some s → IsRunning s
 
 pub running_unwaiting : (w : WorldState) → AreRunning w → unwaiting w ≡ w
-running_unwaiting w h = same_unwaiting w (length w.processes) (omega arith) (λ p within. by p (slice_get w.processes p) refl)
-  where
-    by : (p : ℕ) (o : Option Process) → slice_get w.processes p ≡ o → slice_get (unwaiting w).processes p ≡ slice_get w.processes p
-    by p None a = unwaiting_at w p None a ∙ sym a
-    by p (Some s) a = same_at w p s a (running_back s (h p s a))
+running_unwaiting w h = search (rules, same_unwaiting, unwaiting_at, same_at, running_back)
 
 pub running_ask : (w : WorldState) → AreRunning w → AskAgain w
 running_ask w h p s a = running_asks s (h p s a)

@@ -1,5 +1,5 @@
 -- Walks from the start, and worlds that are compared with rows.
-use Rattle.std.proofs.Common.{ℕ, ◌≡◌, ◌<◌, ◌≤◌, ◌+◌, ◌++◌, List, [], ◌∷◌, None, refl, sym, ap, subst, ◌∙◌, arith, slice_get, length, replicate, inl, inr}
+use Rattle.std.proofs.Common.{ℕ, ◌≡◌, ◌<◌, ◌≤◌, ◌+◌, ◌++◌, List, [], ◌∷◌, refl, sym, ap, subst, slice_get, length, replicate, rules}
 use Rattle.std.proofs.lemmas.Bool.{cases_lt}
 use Rattle.std.proofs.lemmas.List.{append-nil, length-append}
 use Rattle.std.proofs.lemmas.Option.{slice_get_past}
@@ -8,7 +8,6 @@ use Rattle.lab_sched.specs.declared.stepped.Stepped.{Stepped}
 use Rattle.lab_sched.specs.declared.stepped.Stepped.TheVariants as stepped
 use Rattle.lab_sched.specs.Worlds.{WorldState, StepEffect, nothing, step_effect_in, step, run, entries, entry_of, IsEffective}
 use Rattle.lab_sched.specs.Held.{told_in}
-use Rattle.lab_sched.specs.Execution.{AreEffective}
 use Rattle.lab_sched.specs.Schedules.{steps_of}
 use Rattle.lab_sched.proofs.Runs.{run-append, run-one, nothing_told}
 use Rattle.lab_sched.proofs.Executions.{effective-append, entries-append}
@@ -32,36 +31,16 @@ one_entry w p = ap length (append-nil (entry_of p (step_effect_in w p)))
 -- one step more
 pub walk_more : (start : WorldState) (old new : Walk) (p : ℕ) (told : Stepped) → IsWalk start old → new.world ≡ step old.world p → told ≡ told_in old.world p
     → (told ≡ stepped.Same → ⊥) → steps_of new.schedule ≡ steps_of old.schedule ++ replicate 1 p → new.calls ≡ old.calls + length (entry_of p (step_effect_in old.world p)) → IsWalk start new
-walk_more start old new p told h world-is told-is moved steps-is calls-is =
-    let one : IsEffective (step_effect_in old.world p) = told_effective old.world p (λ e. moved (told-is ∙ e)) in
-    let there : AreEffective (run start (steps_of old.schedule)) (p ∷ []) = subst (λ w. AreEffective w (p ∷ [])) (sym h.leads) (one, tt) in
-    record {
-      effective = subst (AreEffective start) (sym steps-is) (effective-append start (steps_of old.schedule) (p ∷ []) h.effective there);
-      leads = ap (run start) steps-is ∙ run-append start (steps_of old.schedule) (p ∷ []) ∙ ap (λ w. run w (p ∷ [])) h.leads ∙ run-one old.world p ∙ sym world-is;
-      calls =
-          ap (λ ps. length (entries start ps)) steps-is ∙ ap length (entries-append start (steps_of old.schedule) (p ∷ []))
-          ∙ length-append (entries start (steps_of old.schedule)) (entries (run start (steps_of old.schedule)) (p ∷ []))
-          ∙ ap (λ n. n + length (entries (run start (steps_of old.schedule)) (p ∷ []))) h.calls
-          ∙ ap (λ w. old.calls + length (entries w (p ∷ []))) h.leads ∙ ap (λ n. old.calls + n) (one_entry old.world p) ∙ sym calls-is;
-    }
+walk_more start old new p told h world-is told-is moved steps-is calls-is = search (rules, told_effective, effective-append, run-append, run-one, entries-append, length-append, one_entry)
 
 -- lists that are as long, place by place
 pub by_places : {A B : Type 0} (R : A → B → Type 0) (xs : List A) (ys : List B) (n : ℕ) → length xs ≤ n → length xs ≡ length ys
     → ((p : ℕ) → p < n → Both R (slice_get xs p) (slice_get ys p)) → Alongside R xs ys
-by_places R xs ys n long same below p = elim (cases_lt p n) [
-  | inl within ↦ below p within
-  | inr past ↦
-      let first : slice_get xs p ≡ None = slice_get_past xs p (omega arith) in
-      let second : slice_get ys p ≡ None = slice_get_past ys p (omega arith) in
-      subst (λ o. Both R o (slice_get ys p)) (sym first) (subst (λ o. Both R None o) (sym second) tt)
-]
+by_places R xs ys n long same below p = search (rules, cases_lt, slice_get_past)
 
 -- lists that are as long and the same at each place
 pub same_below : {A : Type 0} (xs ys : List A) (n : ℕ) → n ≡ length xs → n ≡ length ys → ((p : ℕ) → p < n → slice_get ys p ≡ slice_get xs p) → ys ≡ xs
-same_below xs ys n first second below = same_by_gets ys xs (λ p. elim (cases_lt p n) [
-  | inl within ↦ below p within
-  | inr past ↦ slice_get_past ys p (omega arith) ∙ sym (slice_get_past xs p (omega arith))
-])
+same_below xs ys n first second below = search (rules, same_by_gets, cases_lt, slice_get_past)
 
 -- no step yet
 pub walk_none : (start w : WorldState) (bs : List Block) → bs ≡ [] → w ≡ start → IsWalk start (record { world = w; schedule = bs; calls = 0 })

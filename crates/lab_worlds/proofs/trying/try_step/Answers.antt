@@ -1,24 +1,14 @@
-use Rattle.std.proofs.Common.{Some, ap, subst, arith}
+use Rattle.std.proofs.Common.{Some, ap, subst, arith, rules}
 use Rattle.lab_sched.specs.Held.{StepResult, process_view, asked_by}
 use Rattle.lab_sched.specs.Worlds.{step_effect}
 use Rattle.lab_worlds.specs.Stepped.{IsReached}
 use Rattle.lab_worlds.proofs.trying.try_step.Goals as goal
 
 pub returns-then-not-goes_on : goal.returns-then-not-goes_on
-returns-then-not-goes_on c = record {
-  stepped =
-      let s = process_view c.args.process in
-      let told = ap (λ (x : StepResult). x.told) c.in_ok-stepped.ensures.ok in
-      c.goes_on.ensures.no c.if-not-goes_on.true (asked_by (Some s)) (step_effect c.args.kernel c.args.pid (Some s)) told;
-}
+returns-then-not-goes_on c = search rules
 
 pub returns-then-not-at_call : goal.returns-then-not-at_call
-returns-then-not-at_call c = record {
-  stepped =
-      let s = process_view c.args.process in
-      let told = ap (λ (x : StepResult). x.told) c.in_ok-stepped.ensures.ok in
-      c.goes_on.ensures.yes c.if-not-goes_on.false (asked_by (Some s)) (step_effect c.args.kernel c.args.pid (Some s)) told;
-}
+returns-then-not-at_call c = search rules
 
 pub returns : goal.returns
 returns c =

@@ -3,6 +3,4 @@ use Rattle.lab_worlds.proofs.FairLassos.{none_segment_so_far}
 use Rattle.lab_worlds.proofs.segments.FairSegment.at.Goals as goal
 
 pub returns : goal.returns
-returns c = record {
-  segments = none_segment_so_far c.args.world (record { walk = c.at.result; fair_to = c.in_ok-fair_to.fair_to }) c.count.result c.at.ensures.walk (c.in_ok-fair_to.ensures.items_if_clones_equal (λ y h. search rules)) c.count.ensures.count;
-}
+returns c = search (rules, none_segment_so_far, c.args.world, c.at.result, c.in_ok-fair_to.fair_to, c.count.result, c.at.ensures.walk, c.in_ok-fair_to.ensures.items_if_clones_equal, c.count.ensures.count)
