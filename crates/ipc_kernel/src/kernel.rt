@@ -12,7 +12,7 @@ ghost use Rattle.ipc_kernel.specs.declared.call.Reply.TheVariants.{Plain};
 
 use crate::places::Places;
 use crate::processes::Processes;
-use crate::{Answer, Call, Descriptor, Reply, Slot};
+use crate::{Answer, Call, Descriptor, Place, Reply, Slot};
 use decision::{Change, Decision, ShortReply};
 use ipc_names::{Errno, Name};
 use ipc_objects::Queue;
@@ -89,7 +89,10 @@ impl Kernel {
         ensures held { option_map (λ r. (option_copied r.0, r.1.now)) result
             ≡ queue_and_name (place_at self.now.places place) }
     {
-        self.places.get(place)?.queue_and_name()
+        match self.places.get(place)? {
+            Place::Mq { name, queue } => Some((name.as_ref(), queue)),
+            _ => None,
+        }
     }
 
     /// The value of the semaphore in a place, 0 to 32,767, with its name or none.
@@ -97,7 +100,10 @@ impl Kernel {
         ensures held { option_map (λ r. (option_copied r.0, r.1)) result
             ≡ value_and_name (place_at self.now.places place) }
     {
-        self.places.get(place)?.value_and_name()
+        match self.places.get(place)? {
+            Place::Sem { name, semaphore } => Some((name.as_ref(), semaphore.value())),
+            _ => None,
+        }
     }
 
     /// What a descriptor of a process holds, where it is open.

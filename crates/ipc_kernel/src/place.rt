@@ -1,6 +1,6 @@
 //! One object place.
-ghost use Rattle.std.specs.Prelude.{◌≡◌, ◌+◌, ◌-◌, ◌<◌, ◌≤◌, ◌||◌, if◌then◌else◌, length, IfSome, OnOk, OnErr, ◌∷◌, IsTrue, IsSomeAnd, drop};
-ghost use Rattle.std.specs.Option.{option_map, option_copied};
+ghost use Rattle.std.specs.Prelude.{◌≡◌, ◌+◌, ◌-◌, ◌<◌, ◌≤◌, ◌||◌, if◌then◌else◌, IfSome, OnOk, OnErr, ◌∷◌, IsTrue, IsSomeAnd, drop};
+ghost use Rattle.std.specs.Option.{option_copied};
 ghost use Rattle.ipc_objects.specs.Queue.{QueueState, with_message, without_first};
 ghost use Rattle.ipc_objects.specs.declared.queue.Message.{Message};
 ghost use Rattle.ipc_objects.specs.Limits.{sem_value_max, mq_prio_max};
@@ -33,15 +33,8 @@ pub(crate) enum Kind {
     Semaphore,
 }
 
-fn text_of(name: &Option<Name>) -> &str {
-    match name {
-        Some(name) => name.text(),
-        None => "",
-    }
-}
-
 impl Place {
-    ghost use Rattle.ipc_kernel.specs.Places.{is_empty, has_name, queue_name, semaphore_name, semaphore_value, with_value, without_name, queue_in, with_queue, queue_and_name, value_and_name};
+    ghost use Rattle.ipc_kernel.specs.Places.{is_empty, has_name, queue_name, semaphore_name, semaphore_value, with_value, without_name, queue_in, with_queue};
     ghost use Rattle.ipc_kernel.specs.Private.Index.{KeepsName, name_by};
     ghost use Rattle.ipc_kernel.specs.Private.Messages.{HasRoomFor, HasMessage};
 
@@ -113,25 +106,6 @@ impl Place {
         }
     }
 
-    pub(crate) fn queue_and_name(&self) -> Option<(Option<&Name>, &Queue)>
-        ensures held { option_map (λ r. (option_copied r.0, r.1.now)) result
-            ≡ queue_and_name self.now }
-    {
-        match self {
-            Place::Mq { name, queue } => Some((name.as_ref(), queue)),
-            _ => None,
-        }
-    }
-
-    pub(crate) fn value_and_name(&self) -> Option<(Option<&Name>, u16)>
-        ensures held { option_map (λ r. (option_copied r.0, r.1)) result ≡ value_and_name self.now }
-    {
-        match self {
-            Place::Sem { name, semaphore } => Some((name.as_ref(), semaphore.value())),
-            _ => None,
-        }
-    }
-
     #[inline(always)]
     pub(crate) fn send(&mut self, priority: u16, words: Words) -> Result<(), AllocError>
         requires queue { IsSomeAnd (queue_in self.old) (HasRoomFor words) }
@@ -198,18 +172,17 @@ impl Place {
     }
 
     fn kind_and_name(&self) -> (u8, &str) {
-        match self {
-            Place::Empty => (0, ""),
-            Place::Mq { name, .. } => (1, text_of(name)),
-            Place::Sem { name, .. } => (2, text_of(name)),
-        }
+        let (kind, name) = match self {
+            Place::Empty => return (0, ""),
+            Place::Mq { name, .. } => (1, name),
+            Place::Sem { name, .. } => (2, name),
+        };
+        (kind, name.as_ref().map_or("", |name| name.text()))
     }
 
     /// Whether the object is before another by its kind and its name.
     pub fn is_before(&self, other: &Place) -> bool {
-        let (kind, name) = self.kind_and_name();
-        let (other_kind, other_name) = other.kind_and_name();
-        kind < other_kind || (kind == other_kind && name < other_name)
+        self.kind_and_name() < other.kind_and_name()
     }
 
     /// Whether a place is empty, or has a name, or something refers to it.

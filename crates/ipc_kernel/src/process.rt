@@ -54,7 +54,13 @@ impl OpenTables {
                 hasher.write_u8(held.nonblock as u8);
             }
         }
-        feed_slots(&self.slots, &mut hasher);
+        for (i, slot) in self.slots.iter().enumerate() {
+            if let Some(held) = slot {
+                hasher.write_usize(OPEN_MAX.saturating_add(i));
+                hasher.write_u8(held.place);
+                hasher.write_u8(held.opens);
+            }
+        }
         hasher.finish()
     }
 
@@ -66,25 +72,6 @@ impl OpenTables {
             Handle::Mqd(mqd) => Some(held_at(&self.descriptors, mqd)?.place),
             Handle::Slot(slot) => Some(held_at(&self.slots, slot)?.place),
         }
-    }
-}
-
-fn feed_slots(slots: &[Option<Slot>], hasher: &mut FoldHasher) {
-    for (i, slot) in slots.iter().enumerate() {
-        if let Some(held) = slot {
-            hasher.write_usize(OPEN_MAX.saturating_add(i));
-            hasher.write_u8(held.place);
-            hasher.write_u8(held.opens);
-        }
-    }
-}
-
-pub(crate) fn slot_refers(slot: &Option<Slot>, place: u8) -> bool
-    ensures refers { result ≡ slot_refers place slot.now }
-{
-    match slot {
-        Some(slot) => slot.place == place,
-        None => false,
     }
 }
 
@@ -109,7 +96,9 @@ pub(crate) fn first_that_refers(slots: &[Option<Slot>], place: u8) -> Option<usi
     ensures first { result ≡ position (slot_refers place) slots.now }
     ensures range { IfSome result (λ i. i < length slots.now) }
 {
-    slots.iter().position(|slot| slot_refers(slot, place))
+    slots
+        .iter()
+        .position(|slot| slot.is_some_and(|slot| slot.place == place))
 }
 
 pub(crate) fn write_slot(tables: &mut Vec<OpenTables>, pid: usize, slot: usize, value: Option<Slot>)

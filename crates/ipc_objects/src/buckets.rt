@@ -4,10 +4,10 @@ ghost use Rattle.std.specs.Option.{option_copied};
 ghost use Rattle.std.specs.Ordering.{nat_cmp};
 ghost use Rattle.std.specs.BTreeMap.{get, IsOrdered};
 ghost use Rattle.ipc_objects.specs.Queue.{after_send};
-ghost use Rattle.ipc_objects.specs.Private.Buckets.{messages_of_buckets, buckets_with_message, after_greatest, AreBelow, IsBucket};
+ghost use Rattle.ipc_objects.specs.Private.Buckets.{buckets_with_message, after_greatest, AreBelow, IsBucket};
 
 use crate::Message;
-use crate::bucket::Bucket;
+use crate::messages::Bucket;
 use std::alloc::{AllocError, Global};
 use std::collections::BTreeMap;
 use std::hash::FoldHasher;
@@ -63,21 +63,6 @@ fn put(buckets: &mut BTreeMap<u16, Bucket>, alloc: Global, message: Message) -> 
         Some(bucket) => bucket.push(message),
         None => make(buckets, alloc, message),
     }
-}
-
-/// The message with `n` others before it, bucket by bucket.
-fn nth_of(buckets: &BTreeMap<u16, Bucket>, n: usize) -> Option<&Message>
-    ensures message { option_copied result ≡ slice_get (messages_of_buckets buckets.now.entries) n }
-{
-    let mut left = n;
-    for (_, bucket) in buckets.iter().rev() {
-        let count = bucket.len();
-        if left < count {
-            return bucket.get(left);
-        }
-        left -= count;
-    }
-    None
 }
 
 /// Equal buckets.
@@ -143,7 +128,15 @@ impl Buckets {
     pub(crate) fn get(&self, n: usize) -> Option<&Message>
         ensures message { option_copied result ≡ slice_get self.now n }
     {
-        nth_of(&self.by_priority, n)
+        let mut left = n;
+        for (_, bucket) in self.by_priority.iter().rev() {
+            let count = bucket.len();
+            if left < count {
+                return bucket.get(left);
+            }
+            left -= count;
+        }
+        None
     }
 
     /// Equal messages in the same order.

@@ -1,7 +1,6 @@
 //! Message queues and semaphores of POSIX.1-2017, each by itself: no names, no descriptors.
 #![tactic(auto)]
 
-mod bucket;
 mod buckets;
 mod few_words;
 mod limits;

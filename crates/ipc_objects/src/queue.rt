@@ -128,9 +128,7 @@ impl Queue {
         ensures message { option_map (λ e. record { priority = e.0; words = e.1.now }) result ≡
             slice_get self.now.messages i }
     {
-        match self.messages.get(i) {
-            Some(message) => Some((message.priority, message.words.as_slice())),
-            None => None,
-        }
+        let message = self.messages.get(i)?;
+        Some((message.priority, message.words.as_slice()))
     }
 }

@@ -42,9 +42,8 @@ impl Words {
     pub fn from_vec(items: Vec<u16>) -> Result<Words, AllocError>
         ensures words { IfOk result (λ words. words ≡ items.items) }
     {
-        let items = ArcSlice::from_vec(items)?;
         Ok(Words {
-            store: Store::Shared(items),
+            store: Store::Shared(ArcSlice::from_vec(items)?),
         })
     }
 

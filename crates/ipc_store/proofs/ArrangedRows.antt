@@ -8,7 +8,7 @@ use Rattle.std.proofs.lemmas.List.{ext_get_or, map-set}
 use Rattle.ipc_kernel.specs.declared.place.Place.{Place}
 use Rattle.ipc_kernel.specs.declared.place.Place.TheVariants.{Empty}
 use Rattle.ipc_kernel.specs.declared.process.OpenTables.{OpenTables}
-use Rattle.ipc_store.specs.declared.renaming.Renaming.{Renaming}
+use Rattle.ipc_store.specs.declared.alike.Renaming.{Renaming}
 use Rattle.ipc_kernel.specs.Places.{place_at, places_or_empty, padded}
 use Rattle.ipc_kernel.specs.Processes.{process_at}
 use Rattle.ipc_kernel.specs.Kernel.{KernelState, IsSettled}

@@ -2,7 +2,7 @@
 use Rattle.std.proofs.Common.{◌≡◌, ℕ, ◌<◌, Bool, true, false, ◌||◌, map, refl, sym, ap, ◌∙◌, arith}
 use Rattle.std.proofs.lemmas.Bool.{or_right}
 use Rattle.ipc_kernel.specs.declared.place.Place.TheVariants.{Empty}
-use Rattle.ipc_store.specs.declared.renaming.Renaming.{Renaming}
+use Rattle.ipc_store.specs.declared.alike.Renaming.{Renaming}
 use Rattle.ipc_kernel.specs.Processes.{process_refers, is_referred}
 use Rattle.ipc_kernel.specs.Places.{place_at, has_name}
 use Rattle.ipc_kernel.specs.Kernel.{KernelState, IsSettled}

@@ -4,7 +4,7 @@ use Rattle.std.proofs.lemmas.Bool.{cases_lt, ne_eqb}
 use Rattle.std.proofs.lemmas.Bool.Decides.{eqb_tells}
 use Rattle.std.proofs.lemmas.List.{get_or_default, get_or_past}
 use Rattle.std.proofs.lemmas.Option.{unwrap_or-slice_get}
-use Rattle.ipc_store.specs.declared.renaming.Renaming.{Renaming}
+use Rattle.ipc_store.specs.declared.alike.Renaming.{Renaming}
 use Rattle.ipc_kernel.specs.Alike.{IsPermutation}
 use Rattle.ipc_store.specs.Private.Renamings.{Permutes, renamed_by, Follows}
 use Rattle.ipc_store.proofs.Renamings.{same_test}

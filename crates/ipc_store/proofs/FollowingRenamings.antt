@@ -1,7 +1,7 @@
 -- Renamings that follow another at each place with a name, and at each that is referred to.
 use Rattle.std.proofs.Common.{◌≡◌, ℕ, ◌+◌, ◌<◌, true, false, List, Option, Some, None, rules}
 use Rattle.ipc_kernel.specs.declared.place.Place.{Place}
-use Rattle.ipc_store.specs.declared.renaming.Renaming.{Renaming}
+use Rattle.ipc_store.specs.declared.alike.Renaming.{Renaming}
 use Rattle.ipc_kernel.specs.Places.{place_at, has_name}
 use Rattle.ipc_store.specs.Private.Renamings.{Follows}
 

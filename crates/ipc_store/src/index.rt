@@ -84,7 +84,12 @@ impl Index {
         self.older.reserve(1)?;
         let count = self.hashes.len();
         if count >= self.newest.len() {
-            self.widen()?;
+            let chains = self.newest.len().saturating_mul(2);
+            self.newest.resize(chains, 0)?;
+            self.newest.fill(0);
+            for at in 0..count {
+                self.link(at);
+            }
         }
         self.hashes.push(half(hash))?;
         self.older.push(0)?;
@@ -94,17 +99,6 @@ impl Index {
 
     fn chain(&self, hash: u32) -> usize {
         hash as usize & self.newest.len().wrapping_sub(1)
-    }
-
-    /// Makes twice as many chains.
-    fn widen(&mut self) -> Result<(), AllocError> {
-        let count = self.newest.len().saturating_mul(2);
-        self.newest.resize(count, 0)?;
-        self.newest.fill(0);
-        for at in 0..self.hashes.len() {
-            self.link(at);
-        }
-        Ok(())
     }
 
     /// Puts the number after `at` at the head of its chain.

@@ -8,10 +8,8 @@ ghost use Rattle.ipc_kernel.specs.Operands.{with_operand, HasOperand};
 ghost use Rattle.ipc_kernel.specs.Places.{is_empty};
 ghost use Rattle.ipc_store.specs.Kept.{GrowsKept};
 
-mod arranged;
 mod changes;
 mod objects;
-mod operands;
 mod parts;
 mod renames;
 mod rows;

@@ -3,17 +3,12 @@
 #![tactic(auto)]
 
 mod alike;
-mod arrangement;
 mod arranging;
 mod index;
 mod kept;
 pub mod laws;
-mod numbers;
-mod referring;
-mod renaming;
 
 pub use alike::is_alike;
-pub use arranging::arranged;
+pub use arranging::{are_with, arranged};
 pub use index::Index;
 pub use kept::Kernels;
-pub use numbers::are_with;

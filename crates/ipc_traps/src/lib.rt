@@ -1,15 +1,13 @@
 //! From the registers and the memory of a process to the call that it makes, and from the reply back.
 #![tactic(auto)]
 
-mod memory;
 mod reading;
 mod replying;
 mod service;
 
 use ipc_kernel::Call;
 use ipc_names::Errno;
-pub use memory::{WINDOW_MAX, is_in_memory, name_length, read_words};
-pub use reading::{read_by_vector, read_call};
+pub use reading::{WINDOW_MAX, is_in_memory, name_length, read_by_vector, read_call, read_words};
 pub use replying::{effect_by_vector, effect_of, prepare, prepare_by_vector};
 pub use service::{MQ_RECEIVE, MQ_SEND, SEM_POST, SEM_WAIT, Service};
 

@@ -14,7 +14,7 @@ ghost use Rattle.ipc_traps.specs.Asked.{mq_receive_request, mq_getattr_request, 
 ghost use Rattle.ipc_traps.specs.Reply.{unless_zero, four_words_address, process_after_reply, HasRoom, IsPrepared, IsPreparedFor};
 
 use crate::Service;
-use crate::memory::{is_in_memory, register};
+use crate::reading::{is_in_memory, register};
 use ipc_kernel::Reply;
 use ipc_objects::MQ_MSGSIZE_MAX;
 use lc3_machine::{AtCall, Effect, Machine, Running, Want};

@@ -2,7 +2,6 @@
 #![tactic(auto)]
 
 mod commands;
-mod exploring;
 mod misuse;
 mod options;
 mod parser;
@@ -12,9 +11,8 @@ mod question;
 mod request;
 mod requirements;
 mod rows;
-mod shown;
-mod table;
 
+pub use misuse::Shown;
 pub use parser::read_words;
 pub use pieces::{is_of_calls, required_words};
 pub use programs::{Console, program_of, takes_input};
@@ -22,7 +20,6 @@ pub use question::{Choice, Question};
 pub use request::{Manner, Notes, Page, Refusal, Request, Setup};
 pub use requirements::{Requirements, Rest};
 pub use rows::{CommandRow, ProgramRow, Row, Takes};
-pub use shown::Shown;
 
 /// The most steps of each process that can be asked for.
 pub const MOST_STEPS_EACH: u32 = 10_000_000;

@@ -37,7 +37,6 @@ pub(crate) fn values_of<'a>(
     words.get_strs(name).unwrap_or_default().to_vec(alloc)
 }
 
-/// The profile that the words of a command name.
 pub(crate) fn profile_of(words: &ArgMatches<'_>) -> Profile
     ensures a { first_value (found_of words.now) (codes "profile") ≡ Some (codes "a")
         → result ≡ A }

@@ -34,8 +34,5 @@ pub fn program_of(word: &str) -> (&str, Console<'_>)
 pub fn takes_input(word: &str) -> bool
     ensures value { result ≡ takes_input word.now }
 {
-    match word.split_once('=') {
-        Some((_, input)) => input == "-",
-        None => false,
-    }
+    word.split_once('=').is_some_and(|(_, input)| input == "-")
 }

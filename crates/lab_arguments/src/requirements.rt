@@ -59,12 +59,6 @@ pub(crate) fn words_of(alloc: Global, text: &str) -> Result<Vec<&str>, AllocErro
     text.split(',').collect(alloc)
 }
 
-fn how_often(word: &str, words: &[&str]) -> usize
-    ensures count { result ≡ how_often word.now (map (λ w. w.now) words.now) }
-{
-    words.iter().filter(|other| word == **other).count()
-}
-
 /// Whether a word stands among words, if it isn't there more than once.
 fn stands(word: &str, words: &[&str]) -> Option<bool>
     ensures some { IfSome result (λ there.
@@ -72,7 +66,7 @@ fn stands(word: &str, words: &[&str]) -> Option<bool>
     ensures none { result ≡ None
         → 1 < how_often word.now (map (λ w. w.now) words.now) }
 {
-    match how_often(word, words) {
+    match words.iter().filter(|other| word == **other).count() {
         0 => Some(false),
         1 => Some(true),
         _ => None,

@@ -102,9 +102,6 @@ Example:
 const MACHINE: &str =
     "The machine that the warnings are about: a is the book's; in b a trap leaves R7";
 
-/// The machine of programs.
-const MACHINES: &str = "The machine: a is the book's; in b LEA sets no codes and a trap leaves R7";
-
 /// The programs of a laboratory.
 const GIVEN: &str =
     "A source (.asm) or an object file; with =INPUT behind it, a file of console input";
@@ -112,13 +109,6 @@ const GIVEN: &str =
 /// The programs of a laboratory that finds nothing else in standard input.
 const GIVEN_OR_TYPED: &str =
     "A source (.asm) or an object file; with =INPUT behind it, a file of console input, or - for standard input";
-
-/// The notes of a run.
-const NOTES: &str =
-    "Tells calls that were refused, and warnings of sources, on standard error, as at a terminal";
-
-/// No notes of a run.
-const QUIET: &str = "Tells no notes and no advice, also at a terminal";
 
 /// The page of a run.
 const PAGE: &str = "Also writes FILE, a page that shows the run step by step in a browser";
@@ -131,6 +121,21 @@ macro_rules! rows {
             takes: $takes,
             help: $help,
         }),*]
+    };
+}
+
+/// The options of a command on such programs: those that all these commands have, and then its own.
+macro_rules! rows_of {
+    ($given:expr; $($own:tt)*) => {
+        rows! {
+            "PROGRAM", Takes::Places, $given;
+            "profile", Takes::Profile,
+                "The machine: a is the book's; in b LEA sets no codes and a trap leaves R7";
+            "notes", Takes::Nothing,
+                "Tells calls that were refused, and warnings of sources, on standard error, as at a terminal";
+            "quiet", Takes::Nothing, "Tells no notes and no advice, also at a terminal";
+            $($own)*
+        }
     };
 }
 
@@ -154,27 +159,16 @@ const DIS: &[Row] = rows! {
     "OBJECT", Takes::Place, "The object file or the source to read";
 };
 
-const PROGRAMS: &[Row] = rows! {
-    "PROGRAM", Takes::Places, GIVEN;
-    "profile", Takes::Profile, MACHINES;
-    "notes", Takes::Nothing, NOTES;
-    "quiet", Takes::Nothing, QUIET;
-};
+const PROGRAMS: &[Row] = rows_of!(GIVEN;);
 
-const TRACE: &[Row] = rows! {
-    "PROGRAM", Takes::Places, GIVEN;
-    "profile", Takes::Profile, MACHINES;
-    "notes", Takes::Nothing, NOTES;
-    "quiet", Takes::Nothing, QUIET;
+const TRACE: &[Row] = rows_of! {
+    GIVEN;
     "page", Takes::Text("FILE"), PAGE;
     "source", Takes::Sources, "On the page, shows the lines of FILE, the source of process P";
 };
 
-const RUN: &[Row] = rows! {
-    "PROGRAM", Takes::Places, GIVEN_OR_TYPED;
-    "profile", Takes::Profile, MACHINES;
-    "notes", Takes::Nothing, NOTES;
-    "quiet", Takes::Nothing, QUIET;
+const RUN: &[Row] = rows_of! {
+    GIVEN_OR_TYPED;
     "limit", Takes::Usually("N", MOST_STEPS_EACH, "100000"), "The most steps of each process";
     "mix", Takes::Number("SEED"),
         "Pauses before calls, by random numbers from SEED, which does not fix the interleaving";
@@ -183,11 +177,8 @@ const RUN: &[Row] = rows! {
     "page", Takes::Text("FILE"), PAGE;
 };
 
-const EXPLORE: &[Row] = rows! {
-    "PROGRAM", Takes::Places, GIVEN_OR_TYPED;
-    "profile", Takes::Profile, MACHINES;
-    "notes", Takes::Nothing, NOTES;
-    "quiet", Takes::Nothing, QUIET;
+const EXPLORE: &[Row] = rows_of! {
+    GIVEN_OR_TYPED;
     "limit", Takes::Usually("N", MOST_LOCAL_STEPS, "100000"),
         "The most steps of a process without a call";
     "memory", Takes::Usually("MB", MOST_MEMORY, "2048"), "The most memory to take, in megabytes";

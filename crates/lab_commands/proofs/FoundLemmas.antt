@@ -6,7 +6,7 @@ use Rattle.lab_worlds.specs.Calls.{Alongside}
 use Rattle.lab_worlds.specs.Ends.{AreEnds, HaveAllEnds, NeverStuck}
 use Rattle.lab_worlds.specs.Lassos.{AreBounded}
 use Rattle.lab_worlds.specs.Reached.{AreReached, AreKept}
-use Rattle.lab_worlds.specs.declared.fault.ExploreFault.{ExploreFault}
+use Rattle.lab_worlds.specs.declared.exploration.ExploreFault.{ExploreFault}
 use Rattle.lab_questions.specs.Claims.{SaysComplete, SaysEndless, SaysStuck, TellsEveryEnd}
 use Rattle.lab_questions.specs.Outputs.{IsOutputRefuted, AlwaysWritten}
 use Rattle.lab_questions.specs.Programs.{AlwaysMeet, IsRefuted}

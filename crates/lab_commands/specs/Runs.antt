@@ -1,8 +1,8 @@
 -- What `step` and `run` write.
 use Rattle.std.specs.Prelude.{ℕ, ◌≡◌, Bool, cond, Option, List, [], ◌∷◌, ◌++◌, codes, length, ◌==◌}
 use Rattle.lc3_table.specs.declared.profile.Profile.{Profile}
-use Rattle.lab_sched.specs.declared.fresh.Program.{Program}
-use Rattle.lab_sched.specs.declared.schedule.block.Block.{Block}
+use Rattle.lab_sched.specs.declared.process.Program.{Program}
+use Rattle.lab_sched.specs.declared.schedule.Block.{Block}
 use Rattle.lab_sched.specs.Starts.{fresh}
 use Rattle.lab_sched.specs.Worlds.{WorldState, run}
 use Rattle.lab_sched.specs.Schedules.{steps_of}

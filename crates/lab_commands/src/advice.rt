@@ -68,7 +68,6 @@ pub fn advice_line<F: Display + Drop>(
     }
 }
 
-/// The words of a text, between blanks.
 pub(crate) fn words_of(alloc: Global, text: &str) -> Result<Vec<&str>, AllocError> {
     text.split(' ')
         .filter(|piece| !piece.is_empty())

@@ -1,19 +1,20 @@
-//! The command `asm`.
+//! The commands `asm` and `dis`.
 ghost use Rattle.std.specs.Prelude.{◌≡◌, false, IsTrue, OnOk};
 ghost use Rattle.std.specs.Io.KnownBytes.{Appends};
 ghost use Rattle.lc3_asm.specs.Listings.{listing_text};
 ghost use Rattle.lc3_asm.specs.Texts.{Program};
+ghost use Rattle.lc3_word.specs.Segment.{Segment};
+ghost use Rattle.lc3_table.specs.Text.{image_lines};
 
 use crate::check::messages_if;
 use crate::complaint::{At, Complaint, Misuse};
 use crate::files::{has_source_name, is_same_file, write_bytes, write_object};
-use crate::job::Job;
-use crate::programs::read_assembled;
-use crate::progress::Progress;
+use crate::job::{Job, Progress};
+use crate::programs::{read_assembled, read_image_file};
 use lab_io::Output;
 use lab_sources::Source;
 use lc3_asm::listing;
-use lc3_table::Profile;
+use lc3_table::{Profile, image_text};
 use std::io::Write;
 use std::rt::Files;
 
@@ -53,8 +54,7 @@ pub fn assemble_file<'a, T: Files, W: Write, E: Write, P: Progress>(
     }
     let (profile, wanted) = (assembly.profile, assembly.explain);
     let Source { text, assembled } = read_assembled(job, assembly.source, profile, wanted)?;
-    let report = messages_if(job, assembly.source, text.as_bytes(), profile, wanted);
-    if let Some(report) = report {
+    if let Some(report) = messages_if(job, assembly.source, text.as_bytes(), profile, wanted) {
         let _ = errors.write_all(report.text.as_bytes());
     }
     write_object(job.rt, assembly.object, assembled.image()).at(job.alloc, assembly.object)?;
@@ -62,4 +62,17 @@ pub fn assemble_file<'a, T: Files, W: Write, E: Write, P: Progress>(
         return Ok(());
     }
     write_bytes(listing(job.alloc, &assembled)?.as_bytes(), output)
+}
+
+/// Writes a line for each word of an object file, or of what a source is assembled to.
+pub fn disassemble_file<'a, T: Files, W: Write, P: Progress>(
+    job: &Job<'_, T, P>,
+    object: &'a str,
+    output: &mut Output<W>,
+) -> Result<(), Complaint<'a>>
+    ensures lines { OnOk result ((image : Segment)
+        × Appends (W.contents output.old.device) (W.contents output.new.device) (image_lines image)) }
+{
+    let (image, _) = read_image_file(job, object)?;
+    write_bytes(image_text(job.alloc, &image)?.as_bytes(), output)
 }

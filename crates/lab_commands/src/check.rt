@@ -1,10 +1,19 @@
 //! The command `check`: all messages about sources.
+ghost use Rattle.std.specs.Prelude.{◌≡◌, true, false, IfOk, OnOk, OnErr, string_bytes};
+ghost use Rattle.std.specs.Option.{option_map, option_copied};
+ghost use Rattle.lab_commands.specs.Complaints.{asks_verdict_alone, failure_of, complains};
+ghost use Rattle.lab_commands.specs.Told.{numbered_end, IsChosen, Tells, HasTold, HasBegun};
+
+use crate::advice::advice_line;
 use crate::complaint::{Complaint, Reason};
-use crate::files::read_code;
-use crate::job::Job;
-use crate::progress::Progress;
-use lab_arguments::Shown;
+use crate::explore::Search;
+use crate::files::{read_code, write_bytes};
+use crate::job::{Job, Progress};
+use lab_arguments::{Choice, Shown};
 use lab_io::Output;
+use lab_places::{Numbered, placed};
+use lab_questions::{Answers, Failure, Word, answers_json};
+use lab_worlds::End;
 use lc3_messages::{Report, Wish, report_on};
 use lc3_table::Profile;
 use std::alloc::{AllocError, Global};
@@ -69,4 +78,146 @@ pub fn check_sources<T: Files, E: Write, P>(
         }
     }
     all_pass
+}
+
+/// Writes what was found, with where processes stand in these sources, says which objects that conditions name nobody opens,
+/// and complains where memory was refused on the way, or not all is as it has to be.
+#[tactic(auto, using(crate::proofs::TellingLemmas::nothing_told, crate::proofs::TellingLemmas::has_told, crate::proofs::TellingLemmas::has_begun, crate::proofs::TellingLemmas::all_begun))]
+pub fn tell_ends<T, W: Write, P: Progress>(
+    job: &Job<'_, T, P>,
+    sources: &[Option<Numbered<'_>>],
+    search: &Search,
+    output: &mut Output<W>,
+) -> Result<(), Complaint<'static>>
+    requires output_healthy { output.old.failed ≡ false }
+    ensures told { OnOk result (HasTold sources.now search.now
+        (W.contents output.old.device) (W.contents output.new.device)) }
+    ensures prefix { OnErr result (HasBegun sources.now search.now
+        (W.contents output.old.device) (W.contents output.new.device)) }
+    ensures passes { OnOk result (complains search.now ≡ false) }
+{
+    write_bytes(&told_of(job.alloc, sources, search)?, output)?;
+    for object in &search.answers.unopened {
+        let told = format_args!("explore: nobody opens {object}");
+        job.progress.tell(&advice_line(job.alloc, told, None)?);
+    }
+    complain(job.alloc, search)
+}
+
+#[tactic(auto, using(crate::proofs::TellingLemmas::tells_chosen))]
+fn told_of(
+    alloc: Global,
+    sources: &[Option<Numbered<'_>>],
+    search: &Search,
+) -> Result<Vec<u8>, Complaint<'static>>
+    ensures told { IfOk result (λ bytes.
+        Tells sources.now search.now search.now.inquiry.choice bytes.items) }
+{
+    let found = &search.answers;
+    match search.inquiry.choice {
+        Some(choice) => match chosen_schedule(alloc, found, choice)? {
+            Some(text) => Ok(format!(in alloc; "{text}\n")?.into_bytes()),
+            None => Ok(Vec::new(alloc)),
+        },
+        None if search.inquiry.json => {
+            let reach = search.inquiry.reach;
+            Ok(answers_json(alloc, found, reach, search.limit.as_ref())?.into_bytes())
+        }
+        None => Ok(placed(alloc, sources, found.text.as_bytes())?),
+    }
+}
+
+/// The text of a schedule that is chosen, if there is one: what isn't as it has to be has none where all is so, and an end, which
+/// must be there, has none where memory was refused.
+#[tactic(auto, using(crate::proofs::TellingLemmas::shows_failure))]
+pub fn chosen_schedule(
+    alloc: Global,
+    found: &Answers,
+    choice: Choice,
+) -> Result<Option<String>, Complaint<'static>>
+    ensures chosen { IfOk result (λ shown.
+        IsChosen found.now choice (option_map string_bytes shown)) }
+{
+    match choice {
+        Choice::Bad => Ok(found.bad_schedule(alloc)?),
+        Choice::End(number) => match numbered_end(found, number as usize) {
+            Some(end) => Ok(Some(end.schedule.text(alloc)?)),
+            None if found.exploration.refused => Ok(None),
+            None => Err(Reason::NoEnd.at("explore")),
+        },
+    }
+}
+
+fn numbered_end(found: &Answers, number: usize) -> Option<&End>
+    ensures end { option_copied result ≡ numbered_end found.now number }
+{
+    found.end(number.checked_sub(1)?)
+}
+
+/// Whether no more is required than that each end has one verdict, be what is told of the ends as it may.
+fn is_of_verdict(search: &Search) -> bool
+    ensures alone { result ≡ asks_verdict_alone search.now }
+{
+    let asked = &search.answers.asked;
+    search.inquiry.reach.walks.is_none()
+        && asked.outputs.is_empty()
+        && asked.waiters.is_empty()
+        && asked.never.is_empty()
+        && asked.wanted.is_empty()
+        && matches!(asked.words.as_slice(), [Word::Ended] | [Word::Stuck])
+}
+
+/// Why not all is shown to be as it is required. Of a verdict alone what wasn't visited counts first, and then what never ends;
+/// but a search that ended with what it found was to visit no more.
+fn failure_of(search: &Search) -> Option<Failure>
+    ensures failure { result ≡ failure_of search.now }
+{
+    let found = &search.answers.exploration;
+    if !is_of_verdict(search) {
+        return search.answers.failure;
+    }
+    if !found.complete && !search.inquiry.reach.is_stage {
+        return Some(Failure::Incomplete);
+    }
+    match found.lasso {
+        Some(_) => Some(Failure::Endless),
+        None => search.answers.failure,
+    }
+}
+
+/// Complains where something has to be so and isn't, or where memory was refused on the way.
+fn complain(alloc: Global, search: &Search) -> Result<(), Complaint<'static>>
+    ensures none { OnOk result (complains search.now ≡ false) }
+    ensures some { OnErr result (complains search.now ≡ true) }
+{
+    let asked = &search.answers.asked;
+    let refused = search.answers.exploration.refused;
+    let judges = asked.judges();
+    match failure_of(search) {
+        Some(Failure::Incomplete) if refused => Err(Reason::NoMemory.at("run")),
+        Some(Failure::Incomplete) if judges => Err(unmet(alloc, "incomplete", "")),
+        Some(Failure::Incomplete) | None => Ok(()),
+        Some(Failure::Endless) => Err(unmet(alloc, "endless", "")),
+        Some(Failure::Not(Word::Ended)) if is_of_verdict(search) => Err(unmet(alloc, "stuck", "")),
+        Some(Failure::Not(Word::Stuck)) if is_of_verdict(search) => Err(unmet(alloc, "ended", "")),
+        Some(Failure::Not(word)) => Err(unmet(alloc, "not ", word.text())),
+        Some(Failure::Output(number)) => {
+            let need = asked.outputs.get(number);
+            Err(unmet(alloc, "not ", need.map_or("out", |need| need.text.as_str())))
+        }
+        Some(Failure::Reached(number)) => {
+            let never = asked.never.get(number);
+            Err(unmet(alloc, "reached ", never.map_or("", |never| never.text())))
+        }
+        Some(Failure::Call(number)) => {
+            let word = asked.call_words.get(number);
+            let text = word.map_or("", |word| word.text.as_str());
+            let is_never = word.is_some_and(|word| word.never);
+            Err(unmet(alloc, if is_never { "reached " } else { "uncalled " }, text))
+        }
+    }
+}
+
+fn unmet(alloc: Global, head: &str, text: &str) -> Complaint<'static> {
+    Complaint::new(alloc, "explore", format_args!("{head}{text}"))
 }

@@ -46,20 +46,16 @@ pub fn debug_given<T, R: Read, W: Write, P>(
     requires output_healthy { output.old.failed ≡ false }
 {
     let alloc = job.alloc;
-    let Programs {
-        programs,
-        sources,
-        lines,
-    } = given;
-    let listings: Result<Vec<Option<Listing>>, AllocError> = sources
+    let listings: Result<Vec<Option<Listing>>, AllocError> = given
+        .sources
         .into_iter()
-        .zip(lines)
+        .zip(given.lines)
         .map(|(source, lines)| source.map(|source| Listing { source, lines }))
         .collect(alloc);
     let Ok(listings) = listings else {
         return Err(Reason::NoMemory.at("session"));
     };
-    let start = Session::new(alloc, programs, listings, job.texts.help, profile);
+    let start = Session::new(alloc, given.programs, listings, job.texts.help, profile);
     let start = start.map_err(|fault| fault_of(alloc, fault))?;
     let session = session_over(alloc, start, input, output).at(alloc, "session")?;
     Ok(Debugged { session })

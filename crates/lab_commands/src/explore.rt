@@ -1,21 +1,26 @@
-//! The command `explore`.
-ghost use Rattle.std.specs.Prelude.{◌≡◌, IfOk, IfSome};
+//! The command `explore`, and what a search took.
+ghost use Rattle.std.specs.Prelude.{◌≡◌, IfOk, IfSome, ◌≤◌, None, IsTrue};
 ghost use Rattle.lab_sched.specs.Starts.{fresh};
 ghost use Rattle.lab_commands.specs.Found.{IsFound, IsFoundBy};
+ghost use Rattle.lab_commands.specs.Told.{names_no_limit, limit_of_worlds};
 
 use crate::complaint::{At, Complaint};
-use crate::cost::SearchCost;
+use crate::files::read_file;
 use crate::inquiry::{Inquiry, asked_of, inquiry_of};
-use crate::job::Job;
+use crate::job::{Job, Progress, SearchCount, WALKS, WORLDS};
 use crate::programs::{Programs, laboratory};
-use crate::progress::{Progress, SearchCount, WALKS, WORLDS};
-use crate::stages::{has_more, most_of, stage_of, stages_of};
-use lab_arguments::Question;
-use lab_questions::{Answers, Asked, LimitMet, Reach, ask, ask_walks};
-use lab_sched::Fresh;
-use lab_worlds::{ExploreFault, Workers};
+use lab_arguments::{MOST_WORLDS, Question};
+use lab_questions::{Answers, Asked, Failure, LimitMet, Reach, Standing, ask, ask_walks};
+use lab_sched::{Fresh, Process, Stepped, World};
+use lab_sources::Source;
+use lab_worlds::{ExploreFault, Limits, Workers};
 use lc3_table::Profile;
+use lc3_word::{Hex, unsigned};
+use std::alloc::{AllocError, Global};
+use std::fmt;
+use std::rt::Files;
 use std::thread::{Threads, available_parallelism};
+use std::time::{Clock, Duration, Instant};
 
 /// How far an exploration was to go, and what it found.
 #[derive(Drop)]
@@ -42,11 +47,18 @@ pub fn find_ends<'a, T: Threads + Sync, P: Progress>(
     let inquiry = inquiry_of(question);
     if question.first {
         let most = most_of(inquiry.reach);
-        for stage in stages_of(inquiry.reach)
-            .iter()
-            .filter(|stage| **stage < most)
-        {
-            let search = searched(job, given, profile, question, stage_of(&inquiry, *stage))?;
+        let stages = match inquiry.reach.walks {
+            Some(_) => WALK_STAGES,
+            None => WORLD_STAGES,
+        };
+        for stage in stages.iter().filter(|stage| **stage < most) {
+            let mut earlier = inquiry;
+            earlier.reach.is_stage = true;
+            match &mut earlier.reach.walks {
+                Some(walks) => walks.count = *stage,
+                None => earlier.reach.limits.worlds = *stage,
+            }
+            let search = searched(job, given, profile, question, earlier)?;
             if !has_more(&search) {
                 return Ok(search);
             }
@@ -108,12 +120,180 @@ fn explore<T: Threads + Sync, P: Progress>(
     }
 }
 
-/// So many threads as were asked for, or as there are processors.
 fn thread_count<T: Threads>(rt: &T, asked: Option<u32>) -> usize
     ensures asked { IfSome asked (λ count. result ≡ count) }
 {
     match asked {
         Some(count) => count as usize,
         None => available_parallelism(rt).map_or(1, |count| count.get()),
+    }
+}
+
+/// How many worlds are visited at first, and then, as long as nothing is found.
+const WORLD_STAGES: &[u32] = &[1_000, 4_000, 16_000, 64_000, 256_000, 1_024_000, 4_096_000];
+
+/// How many walks are taken.
+const WALK_STAGES: &[u32] = &[10, 100, 1_000, 10_000, 100_000, 1_000_000];
+
+/// How many worlds a search visits at most, or how many walks are taken.
+fn most_of(reach: Reach) -> u32 {
+    match reach.walks {
+        Some(walks) => walks.count,
+        None => reach.limits.worlds,
+    }
+}
+
+/// Whether a search that goes further than this one has something to find: it went as far as it was to go, without visiting
+/// everything, and nothing was found that isn't as it has to be; or what is asked of calls isn't known.
+fn has_more(search: &Search) -> bool {
+    let found = &search.answers.exploration;
+    match search.answers.failure {
+        Some(Failure::Incomplete) if found.complete => true,
+        Some(Failure::Incomplete) | None => {
+            !found.complete && found.worlds >= most_of(search.inquiry.reach)
+        }
+        Some(_) => false,
+    }
+}
+
+/// How many steps are taken to find a process that goes on without a call, at least.
+const LEAST_TAKEN: u32 = 1_000_000;
+
+/// Which limit a search of programs met, where it met one. Of walks none is named, nor of a search that ends with what it found.
+pub fn limit_met<T, P: Progress>(
+    job: &Job<'_, T, P>,
+    given: &Programs,
+    profile: Profile,
+    search: &Search,
+) -> Result<Option<LimitMet>, Complaint<'static>>
+    ensures none { IfOk result (λ met. IsTrue (names_no_limit search.now) → met ≡ None) }
+    ensures worlds { IfOk result (λ met. IfSome met (λ limit.
+        search.now.inquiry.reach.limits.worlds ≤ search.now.answers.exploration.worlds
+        → limit ≡ limit_of_worlds search.now.answers.exploration.worlds)) }
+{
+    let found = &search.answers.exploration;
+    let reach = search.inquiry.reach;
+    if found.complete || found.refused || reach.walks.is_some() {
+        return Ok(None);
+    }
+    if found.worlds < reach.limits.worlds {
+        return Ok(Some(limit_of_steps(job.alloc, given, profile, reach.limits)?));
+    }
+    if reach.is_stage {
+        return Ok(None);
+    }
+    let visited = found.worlds;
+    let next = visited.saturating_mul(100).min(MOST_WORLDS);
+    let more = (visited < MOST_WORLDS).then_some(next);
+    Ok(Some(LimitMet::Worlds { visited, more }))
+}
+
+/// The process that took too many steps without a call, where it is found, and else both limits that a search can have met.
+fn limit_of_steps(
+    alloc: Global,
+    given: &Programs,
+    profile: Profile,
+    limits: Limits,
+) -> Result<LimitMet, Complaint<'static>> {
+    let Limits { steps, memory, .. } = limits;
+    let mut world = World::from(laboratory(alloc, given.programs.as_slice(), profile)?);
+    if let Some(process) = loop_in(&mut world, steps)
+        && let Some(stopped) = world.process(process)
+    {
+        let source = given.sources.get(process);
+        let source = source.and_then(|source| source.as_ref());
+        let machine = stopped.machine();
+        let pc = machine.pc();
+        return Ok(LimitMet::Steps {
+            process,
+            steps,
+            standing: standing_at(alloc, source, pc, machine.word(pc))?,
+        });
+    }
+    Ok(LimitMet::StepsOrMemory { steps, memory })
+}
+
+/// Where an address stands: its nearest label and its line, as far as there is a source with such, and else the address.
+pub fn standing_at(
+    alloc: Global,
+    source: Option<&Source>,
+    address: u16,
+    word: u16,
+) -> Result<Standing, AllocError> {
+    let row = source.and_then(|source| source.held_row(address, word));
+    let place = match source.and_then(|source| source.nearest(address)) {
+        Some(near) => format!(in alloc; "{near}")?,
+        None => format!(in alloc; "{}", Hex(address))?,
+    };
+    let line = row.map(|row| row.line);
+    Ok(Standing { place, line })
+}
+
+/// A process that takes so many steps without a call, if there is one as the processes of a world take turns, each to its next
+/// call, for some time. A call that is refused before the kernel is asked counts as none.
+fn loop_in(world: &mut World, most: u32) -> Option<usize> {
+    let mut left = most.saturating_mul(4).max(LEAST_TAKEN);
+    for _round in 0..left {
+        let mut goes_on = false;
+        'turns: for process in 0..world.count() {
+            for _ in 0..most {
+                left = left.checked_sub(1)?;
+                match world.step(process).ok()? {
+                    Stepped::Moved | Stepped::Refused(_) => (),
+                    Stepped::Same => continue 'turns,
+                    Stepped::Waits | Stepped::Called(_) => {
+                        goes_on = true;
+                        continue 'turns;
+                    }
+                }
+            }
+            if !matches!(world.process(process)?, Process::Ended(_)) {
+                return Some(process);
+            }
+            goes_on = true;
+        }
+        if !goes_on {
+            return None;
+        }
+    }
+    None
+}
+
+/// The file in which Linux tells how many pages of memory the program has: its second word.
+const PAGES: &str = "/proc/self/statm";
+
+const PAGES_IN_A_MEGABYTE: u32 = 256;
+
+/// The time that a search took, and the memory that the program then has, where that is known. It is shown as
+/// `0.6 s and 40 MB`.
+#[derive(Clone, Copy)]
+pub struct SearchCost {
+    took: Duration,
+    megabytes: Option<u32>,
+}
+
+impl SearchCost {
+    /// What was spent since then.
+    pub fn since<T: Files + Clock, P>(job: &Job<'_, T, P>, began: Instant) -> Option<SearchCost> {
+        let took = began.elapsed(job.rt).ok()?;
+        let told = read_file(job.rt, job.alloc, PAGES).unwrap_or(Vec::new(job.alloc));
+        let pages = told.split(|byte| *byte == b' ').nth(1);
+        let pages = pages.and_then(|digits| unsigned(10, digits));
+        Some(SearchCost {
+            took,
+            megabytes: pages.map(|pages| pages / PAGES_IN_A_MEGABYTE),
+        })
+    }
+}
+
+impl fmt::Display for SearchCost {
+    fn fmt<W: fmt::Write>(&self, f: &mut fmt::Formatter<W>) -> fmt::Result {
+        let seconds = self.took.as_secs();
+        let tenths = self.took.subsec_millis() / 100;
+        write!(f, "{seconds}.{tenths} s")?;
+        match self.megabytes {
+            Some(megabytes) => write!(f, " and {megabytes} MB"),
+            None => Ok(()),
+        }
     }
 }

@@ -1,19 +1,19 @@
 //! What is asked of an exploration, read from words.
 ghost use Rattle.std.specs.Prelude.{◌≡◌, ◌++◌, List, true, false, length, All, IfOk, OnOk};
 ghost use Rattle.lab_conditions.specs.declared.never.Never.{Never as Condemned};
-ghost use Rattle.lab_commands.specs.Private.Inquiries.{required_words, IsAsked, IsAskedOfCalls};
+ghost use Rattle.lab_commands.specs.Private.Inquiries.{required_words, IsAsked, IsAskedOfCalls, AsksSo};
+ghost use Rattle.lab_ways.specs.declared.wanted.Wanted.{Wanted as Sought};
 
 use crate::advice::{line_on, meant_by};
-use crate::calls::{push_calls, wanted_in};
 use crate::complaint::{Complaint, Misuse};
 use crate::labels::Labelled;
-use crate::outputs::{need_in, needs_of};
 use crate::places::Place;
-use crate::resolving::outlined;
+use crate::resolving::{need_in, outlined};
 use lab_arguments::{Choice, Question, Requirements, Rest, is_of_calls};
 use lab_conditions::{Condition, Never, Part, ReadFault, State};
-use lab_questions::{Asked, Reach, Show, Waiter, Word};
+use lab_questions::{Asked, CallWord, Reach, Show, Waiter, Word, read_calls};
 use lab_sources::Source;
+use lab_ways::Wanted;
 use lab_worlds::{Limits, Walks};
 use lc3_word::unsigned;
 use std::alloc::{AllocError, Global};
@@ -79,9 +79,12 @@ pub fn asked_of<'a>(
     let count = sources.len();
     let outputs = question.outputs.as_slice();
     let never = question.never.as_slice();
+    let needs = outputs.iter().copied().filter(|word| !is_of_calls(word));
     let mut asked = Asked {
         words: words_required(alloc, question.required)?,
-        outputs: needs_of(alloc, outputs, count)?,
+        outputs: needs
+            .map(|word| need_in(alloc, word, count))
+            .try_collect(alloc)?,
         waiters: waiters_of(alloc, question.waiters.as_slice(), sources)?,
         never: nevers_of(alloc, never, sources)?,
         call_words: Vec::new(alloc),
@@ -305,4 +308,74 @@ fn read_waiter(alloc: Global, text: &str) -> Result<Option<Waiter>, AllocError> 
         }),
         _ => None,
     }))
+}
+
+/// Adds what words of `--require`, or of `--never`, ask of the calls of so many processes: as they say it, and as what has to be
+/// so on every way.
+fn push_calls<'a>(
+    texts: &mut Vec<CallWord>,
+    wanted: &mut Vec<Wanted>,
+    words: &[&'a str],
+    never: bool,
+    count: usize,
+) -> Result<(), Complaint<'a>>
+    ensures more { OnOk result ((more : List Sought)
+        × (wanted.new.items ≡ wanted.old.items ++ more)) }
+    ensures each { OnOk result (
+        All (λ word. IsAskedOfCalls never wanted.new.items word.now) words.now) }
+{
+    for word in words {
+        push_call(texts, wanted, word, never, count)?;
+    }
+    Ok(())
+}
+
+#[tactic(auto, using(crate::proofs::AskedLemmas::called_last))]
+fn push_call<'a>(
+    texts: &mut Vec<CallWord>,
+    wanted: &mut Vec<Wanted>,
+    word: &'a str,
+    never: bool,
+    count: usize,
+) -> Result<(), Complaint<'a>>
+    ensures more { OnOk result ((more : List Sought)
+        × (wanted.new.items ≡ wanted.old.items ++ more)) }
+    ensures asked { OnOk result (IsAskedOfCalls never wanted.new.items word.now) }
+{
+    if !is_of_calls(word) {
+        return Ok(());
+    }
+    let alloc = *wanted.allocator();
+    wanted.push(wanted_in(alloc, word, never, count)?)?;
+    let text = String::from_str(alloc, word)?;
+    texts.push(CallWord { text, never })?;
+    Ok(())
+}
+
+fn wanted_in<'a>(
+    alloc: Global,
+    word: &'a str,
+    never: bool,
+    count: usize,
+) -> Result<Wanted, Complaint<'a>>
+    ensures asks { IfOk result (λ wanted. AsksSo never word.now wanted) }
+{
+    let (unread, elsewhere, first) = if never {
+        (
+            Misuse::NoCondition,
+            Misuse::NoSuchProcess,
+            Place::NeverCaller,
+        )
+    } else {
+        (Misuse::NoCalls, Misuse::NoSuchWriter, Place::Caller)
+    };
+    match read_calls(alloc, word, never)? {
+        Some(wanted) if wanted.process.is_none_or(|process| process < count) => Ok(wanted),
+        Some(_) => Err(elsewhere.of(word)),
+        None => Err(
+            unread
+                .of(word)
+                .followed(line_on(alloc, first, word, ',', None)),
+        ),
+    }
 }

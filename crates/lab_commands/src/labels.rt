@@ -45,11 +45,8 @@ pub(crate) fn has_label(place: &str) -> bool {
 /// Whether a word is a place with a label: the other end may be an address.
 pub(crate) fn is_labelled(place: &str) -> bool {
     let (first, last) = ends_of(place);
+    let is_end = |end: &str| is_label(end) || address(end).is_some();
     has_label(place) && is_end(first) && is_end(last)
-}
-
-fn is_end(end: &str) -> bool {
-    is_label(end) || address(end).is_some()
 }
 
 /// The address that one end of a place stands for in process `pid`: of a label that in its own source.
@@ -142,10 +139,7 @@ fn nearest_to<'a>(
             }
         }
     }
-    let label = end
-        .split('+')
-        .next()
-        .unwrap_or(end)
-        .to_ascii_uppercase(alloc)?;
+    let label = end.split('+').next().unwrap_or(end);
+    let label = label.to_ascii_uppercase(alloc)?;
     Ok(suggestion(alloc, &label, &names)?.and_then(|at| names.get(at).copied()))
 }

@@ -210,9 +210,6 @@ impl Kind {
 }
 
 pub(crate) fn address(word: &str) -> Option<u32> {
-    let digits = word.strip_prefix('x')?;
-    if digits.len() > 4 {
-        return None;
-    }
+    let digits = word.strip_prefix('x').filter(|digits| digits.len() <= 4)?;
     unsigned(16, digits.as_bytes())
 }

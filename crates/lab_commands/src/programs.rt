@@ -6,8 +6,7 @@ use crate::advice::advice_line;
 use crate::check::messages_if;
 use crate::complaint::{At, Complaint, Reason};
 use crate::files::{has_source_name, read_code, read_file};
-use crate::job::Job;
-use crate::progress::Progress;
+use crate::job::{Job, Progress};
 use lab_arguments::{Console, Shown, program_of, takes_input};
 use lab_hex::read_whole;
 use lab_io::Input;
@@ -51,19 +50,15 @@ impl Programs {
             Console::Standard | Console::Nowhere => Vec::new(job.alloc),
         };
         self.programs.push(Program { image, input })?;
-        Ok(self.push_source(job.alloc, source)?)
-    }
-
-    fn push_source(&mut self, alloc: Global, source: Option<Source>) -> Result<(), AllocError> {
-        let Some(source) = source else {
-            self.sources.push(None)?;
-            self.lines.push(Vec::new(alloc))?;
-            return Ok(());
+        let (source, lines) = match source {
+            Some(source) => {
+                let Listing { source, lines } = Listing::new(job.alloc, source)?;
+                (Some(source), lines)
+            }
+            None => (None, Vec::new(job.alloc)),
         };
-        let Listing { source, lines } = Listing::new(alloc, source)?;
-        self.sources.push(Some(source))?;
-        self.lines.push(lines)?;
-        Ok(())
+        self.sources.push(source)?;
+        Ok(self.lines.push(lines)?)
     }
 
     /// The sources with their lines, of each program where it was given as one.

@@ -1,9 +1,12 @@
 //! Conditions with addresses in the place of labels, and conditions that speak of labels of no process, as such that name
 //! processes.
-use crate::advice::words_of;
-use crate::complaint::Complaint;
+
+use crate::advice::{reached, unknown, words_of};
+use crate::complaint::{Complaint, Misuse};
 use crate::labels::{Labelled, has_label, is_labelled, span_in};
+use crate::places::Place;
 use lab_arguments::Shown;
+use lab_questions::OutputNeed;
 use lab_sources::Source;
 use lc3_word::unsigned;
 use std::alloc::{AllocError, Global};
@@ -34,27 +37,23 @@ impl<'a> Labelled<'_, 'a> {
             if at > 0 {
                 resolved.push_str(" ")?;
             }
-            self.push_resolved(&mut resolved, &words[..at], words[at])?;
+            let word = words[at];
+            let pid = match &words[..at] {
+                [.., process, "at"] if has_label(word) => {
+                    unsigned(10, process.as_bytes()).unwrap_or(0) as usize
+                }
+                ["at"] if has_label(word) => 0,
+                _ => {
+                    resolved.push_str(word)?;
+                    continue;
+                }
+            };
+            match span_in(self.sources, pid, word) {
+                Some(span) => write!(resolved, "{span}")?,
+                None => return Err(self.not_in(pid, word)),
+            }
         }
         Ok(resolved)
-    }
-
-    /// Adds a word behind others, with addresses in the place of its labels.
-    fn push_resolved(
-        &self,
-        text: &mut String,
-        before: &[&str],
-        word: &str,
-    ) -> Result<(), Complaint<'a>> {
-        let pid = match before {
-            [.., process, "at"] if has_label(word) => unsigned(10, process.as_bytes()).unwrap_or(0),
-            ["at"] if has_label(word) => 0,
-            _ => return Ok(text.push_str(word)?),
-        } as usize;
-        match span_in(self.sources, pid, word) {
-            Some(span) => Ok(write!(text, "{span}")?),
-            None => Err(self.not_in(pid, word)),
-        }
     }
 
     /// The conditions of which one holds where the word holds. Where a part of it says that more than some number of processes
@@ -69,9 +68,17 @@ impl<'a> Labelled<'_, 'a> {
         Ok(texts)
     }
 
-    /// Each of some texts with what a part of a condition says of each group of processes behind it.
+    /// Each of some texts with what a part of a condition says of each group of processes behind it, where it speaks of some
+    /// without naming them: the fewest, at labels.
     fn joined(&self, texts: &[String], part: &[&str]) -> Result<Vec<String>, Complaint<'a>> {
-        let groups = self.groups_of(part)?;
+        let groups = match part {
+            ["at", place] if is_spread(self.sources, place) => self.groups_at(place, 1)?,
+            ["at", place, ">", number] if is_spread(self.sources, place) => {
+                let most = unsigned(10, number.as_bytes()).unwrap_or(0).min(65_535);
+                self.groups_at(place, (most as usize).saturating_add(1))?
+            }
+            _ => vec![in self.alloc; part.join(self.alloc, " ")?]?,
+        };
         let mut joined = Vec::new(self.alloc);
         for text in texts {
             for group in &groups {
@@ -92,19 +99,6 @@ impl<'a> Labelled<'_, 'a> {
         Err(self.because(why, None))
     }
 
-    /// What a part of a condition says of each group of processes, where it speaks of some without naming them: the fewest, at
-    /// labels.
-    fn groups_of(&self, part: &[&str]) -> Result<Vec<String>, Complaint<'a>> {
-        match part {
-            ["at", place] if is_spread(self.sources, place) => self.groups_at(place, 1),
-            ["at", place, ">", number] if is_spread(self.sources, place) => {
-                let most = unsigned(10, number.as_bytes()).unwrap_or(0).min(65_535);
-                self.groups_at(place, (most as usize).saturating_add(1))
-            }
-            _ => Ok(vec![in self.alloc; part.join(self.alloc, " ")?]?),
-        }
-    }
-
     /// What is said of each group of so many of the processes that have the labels of a place.
     fn groups_at(&self, place: &str, size: usize) -> Result<Vec<String>, Complaint<'a>> {
         let sources = self.sources;
@@ -120,31 +114,17 @@ impl<'a> Labelled<'_, 'a> {
             let why = format_args!("{place}: only {count} of the processes can be there");
             return Err(self.because(why, None));
         }
-        self.grouped(&holders, place, size)
-    }
-
-    /// What each group of so many of these processes says of a place.
-    fn grouped(
-        &self,
-        holders: &[usize],
-        place: &str,
-        size: usize,
-    ) -> Result<Vec<String>, Complaint<'a>> {
         let none = Group {
             text: String::new(self.alloc),
             last: None,
         };
         let mut groups = vec![in self.alloc; none]?;
         for _ in 0..size {
-            groups = larger(self.alloc, &groups, holders, place)?;
+            groups = larger(self.alloc, &groups, &holders, place)?;
             self.refuse_many(groups.len())?;
         }
-        Ok(
-            groups
-                .into_iter()
-                .map(|group| group.text)
-                .collect(self.alloc)?,
-        )
+        let texts = groups.into_iter().map(|group| group.text);
+        Ok(texts.collect(self.alloc)?)
     }
 }
 
@@ -188,4 +168,52 @@ fn larger(
         }
     }
     Ok(larger)
+}
+
+/// What a word requires of the outputs of so many processes, where it asks nothing of calls.
+pub(crate) fn need_in<'a>(
+    alloc: Global,
+    word: &'a str,
+    count: usize,
+) -> Result<OutputNeed, Complaint<'a>> {
+    let Some(need) = OutputNeed::read(alloc, word)? else {
+        return Err(Misuse::NoOutput.of(word).followed(advice_on(alloc, word)));
+    };
+    let alternatives = need.alternatives.iter();
+    let mut parts = alternatives.flat_map(|alternative| alternative.parts.iter());
+    if parts.any(|part| part.process >= count) {
+        return Err(Misuse::NoSuchWriter.of(word));
+    }
+    Ok(need)
+}
+
+/// The line that says why a word requires nothing of an output, where memory allows it.
+fn advice_on(alloc: Global, word: &str) -> Option<String> {
+    let mut place = Place::Output;
+    let mut left = word;
+    for _ in 0..=word.len() {
+        let (head, string) = match left.split_once('"') {
+            Some((head, string)) => (head, Some(string)),
+            None => (left, None),
+        };
+        match (reached(place, head, ' '), string) {
+            ((None, Place::Text), Some(string)) => {
+                let Some(rest) = behind_string(string) else {
+                    return unknown(alloc, left.strip_prefix(head), Place::Text.text(), None);
+                };
+                left = rest;
+                place = Place::Joint;
+            }
+            ((word, place), _) => return unknown(alloc, word, place.text(), None),
+        }
+    }
+    None
+}
+
+/// What stands behind a string, where that goes on with `and` or `or`.
+fn behind_string(string: &str) -> Option<&str> {
+    let (characters, rest) = string.split_once('"')?;
+    let joint = rest.split(' ').find(|piece| !piece.is_empty());
+    let goes_on = !characters.ends_with('\\') && matches!(joint, Some("and" | "or"));
+    goes_on.then_some(rest)
 }

@@ -1,21 +1,20 @@
 //! The command `run`.
-ghost use Rattle.std.specs.Prelude.{◌≡◌, ◌≤◌, ℕ, List, false, IfOk, OnOk};
+ghost use Rattle.std.specs.Prelude.{◌≡◌, ◌≤◌, ℕ, List, false, IfOk, OnOk, ◌++◌, string_bytes};
 ghost use Rattle.std.specs.Io.KnownBytes.{Appends};
 ghost use Rattle.lab_sched.specs.Worlds.{run};
 ghost use Rattle.lab_sched.specs.Schedules.{steps_of};
 ghost use Rattle.lab_commands.specs.Runs.{run_bytes, IsToldRun};
 ghost use Rattle.lab_threads.specs.Limits.{most_steps_each};
+ghost use Rattle.lab_commands.specs.Plain.{name_line, plain_part, plain_output};
 
 use crate::complaint::{At, Complaint};
 use crate::files::write_bytes;
-use crate::job::Job;
-use crate::plain::plain_output;
+use crate::job::{CallCount, Job, Progress};
 use crate::programs::{Programs, laboratory};
-use crate::progress::{CallCount, Progress};
 use lab_arguments::{MOST_STEPS_EACH, Manner};
 use lab_io::Output;
 use lab_places::{Numbered, placed};
-use lab_sched::Fresh;
+use lab_sched::{Fresh, World};
 use lab_texts::report_text;
 use lab_threads::{Gate, NoGate, PausingGate, Report, RunFault, run_threads};
 use lc3_table::Profile;
@@ -107,4 +106,46 @@ fn report_of<T: Threads + Wait + Sync, G: Gate, P: Progress>(
     let outcome = run_threads(job.rt, job.alloc, fresh, limit, &count);
     count.clear();
     outcome
+}
+
+fn name_line(alloc: Global, count: usize, pid: usize) -> Result<String, AllocError>
+    ensures text { IfOk result (λ s. string_bytes s ≡ name_line count pid) }
+{
+    if count > 1 {
+        format!(in alloc; "process {pid}\n")
+    } else {
+        Ok(String::new(alloc))
+    }
+}
+
+fn push_process(
+    alloc: Global,
+    bytes: &mut Vec<u8>,
+    world: &World,
+    pid: usize,
+) -> Result<(), AllocError>
+    ensures bytes { OnOk result (bytes.new.items ≡ bytes.old.items ++ plain_part pid world.now) }
+{
+    bytes.extend_from_slice(name_line(alloc, world.count(), pid)?.as_bytes())?;
+    let Some(process) = world.process(pid) else {
+        return Ok(());
+    };
+    let output = process.machine().output();
+    bytes.extend_from_slice(output)?;
+    match output.last() {
+        Some(b'\n') | None => Ok(()),
+        Some(_) => bytes.extend_from_slice(b"\n"),
+    }
+}
+
+/// What each process has written, as it is, and a line feed where that doesn't end with one; before it, where there is more
+/// than one process, a line `process P`.
+pub fn plain_output(alloc: Global, world: &World) -> Result<Vec<u8>, AllocError>
+    ensures bytes { IfOk result (λ bytes. bytes.items ≡ plain_output world.now) }
+{
+    let mut bytes = Vec::new(alloc);
+    for pid in 0..world.count() {
+        push_process(alloc, &mut bytes, world, pid)?;
+    }
+    Ok(bytes)
 }

@@ -6,17 +6,17 @@ ghost use Rattle.lab_sched.specs.Schedules.{steps_of};
 ghost use Rattle.lab_texts.specs.Reports.{report_text};
 ghost use Rattle.lab_commands.specs.Runs.{IsReport};
 
-use crate::blocks::block_advice;
+use crate::advice::unknown;
 use crate::complaint::{At, Complaint, Reason};
-use crate::job::Job;
+use crate::job::{Job, Progress, StepCount};
 use crate::programs::{Programs, laboratory};
-use crate::progress::{Progress, StepCount};
 use lab_hex::read_whole;
 use lab_io::Input;
 use lab_places::placed;
-use lab_sched::{Program, Schedule, World};
+use lab_sched::{Program, SchedFault, Schedule, World};
 use lab_texts::report_text;
 use lc3_table::Profile;
+use lc3_word::{WHITE_SPACE, words_between};
 use std::io::Read;
 
 /// The report on programs that were given, after the steps of a schedule, with where processes stand in their sources.
@@ -62,4 +62,37 @@ pub fn read_schedule<T, R: Read, P: Progress>(
         let complaint = Complaint::new(job.alloc, "schedule", fault);
         complaint.followed(block_advice(job, text, fault))
     })
+}
+
+const BLOCK: &str = "a block is P*N, with P from 0 to 63 and N from 1 to 999999999, or P alone";
+
+const MOST_SHOWN: usize = 80;
+
+/// The line that says what a block of a schedule is, for the word of a text that is none, and which block of its numbers was
+/// meant, if there is one, where somebody looks.
+fn block_advice<T, P: Progress>(
+    job: &Job<'_, T, P>,
+    text: &str,
+    fault: SchedFault,
+) -> Option<String> {
+    let alloc = job.alloc;
+    let at = match fault {
+        SchedFault::BadBlock { at } if job.advises() => at.checked_sub(1)?,
+        _ => return None,
+    };
+    let words = words_between(alloc, WHITE_SPACE, text.as_bytes()).ok()?;
+    let word = str::from_utf8(*words.get(at)?).ok();
+    let word = word.filter(|word| word.len() <= MOST_SHOWN)?;
+    let mut numbers = word
+        .split(|character: char| !character.is_ascii_digit())
+        .filter(|piece| !piece.is_empty());
+    let block = match (numbers.next(), numbers.next(), numbers.next()) {
+        (Some(process), None, _) if !word.contains('*') => String::from_str(alloc, process).ok(),
+        (Some(process), Some(steps), None) => format!(in alloc; "{process}*{steps}").ok(),
+        _ => None,
+    };
+    let meant = block
+        .as_deref()
+        .filter(|block| Schedule::read(alloc, block).is_ok());
+    unknown(alloc, Some(word), BLOCK, meant)
 }

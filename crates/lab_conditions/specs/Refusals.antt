@@ -9,7 +9,7 @@ use Rattle.lab_sched.specs.declared.stepped.Stepped.{Stepped}
 use Rattle.lab_sched.specs.declared.stepped.Stepped.TheVariants.{Moved, Refused, Called, Waits, Same}
 use Rattle.lab_sched.specs.Worlds.{WorldState}
 use Rattle.lab_sched.specs.Held.{told_in}
-use Rattle.lab_conditions.specs.declared.refusals.Refusal.{Refusal}
+use Rattle.lab_conditions.specs.declared.never.Refusal.{Refusal}
 use Rattle.lab_conditions.specs.Conditions.{option_any}
 
 -- the number of an error, of which a reply is the negative in 16 bits

@@ -1,14 +1,18 @@
 //! Whether conditions hold of worlds.
-ghost use Rattle.std.specs.Prelude.{◌≡◌, ◌↔◌, ◌<◌, false, All, Some, IfOk, IsTrue, map, slice_get};
+ghost use Rattle.std.specs.Prelude.{◌≡◌, ◌↔◌, ◌<◌, false, All, Some, IfOk, IsTrue, map, slice_get, ℕ, IfSome, ◌^◌};
 ghost use Rattle.std.specs.List.{list_any};
 ghost use Rattle.lab_sched.specs.Held.{process_view};
-ghost use Rattle.lab_sched.specs.Worlds.{Process as Seen};
-ghost use Rattle.lab_conditions.specs.Conditions.{is_so, how_many, PartHolds, Holds, NamesOnly, world_of, part_needs_kernel, HoldsOverAny};
+ghost use Rattle.lab_sched.specs.Worlds.{Process as Seen, next_action};
+ghost use Rattle.lab_conditions.specs.Conditions.{is_so, how_many, PartHolds, Holds, NamesOnly, world_of, part_needs_kernel, HoldsOverAny, Compares, IsSemaphoreIn, IsQueueIn, must_wait, call_next, call_of, StandsAt};
+ghost use Rattle.ipc_kernel.specs.Limits.{object_places};
+ghost use Rattle.ipc_kernel.specs.Places.{place_at};
+ghost use Rattle.lab_conditions.specs.Losses.{messages_at, messages, is_receiving};
 
-use crate::places::{has_queue, has_semaphore};
-use crate::{Condition, Part, State};
-use ipc_kernel::Kernel;
-use lab_sched::Process;
+use crate::{Condition, Part, Relation, State};
+use ipc_kernel::{Call, Kernel, OBJECT_PLACES};
+use ipc_names::Name;
+use lab_sched::{Next, Process, find_next};
+use lc3_machine::{How, Running};
 use std::alloc::{AllocError, Global};
 
 fn how_many(
@@ -134,5 +138,163 @@ impl Condition {
         ensures no { result ≡ false → HoldsOverAny self.now }
     {
         need_kernel(self.parts.as_slice())
+    }
+}
+
+impl Relation {
+    /// Whether a number stands so to another.
+    pub fn compares(self, number: usize, other: usize) -> bool
+        ensures compares { IsTrue result ↔ Compares self number other }
+    {
+        match self {
+            Relation::More => number > other,
+            Relation::Less => number < other,
+            Relation::Equal => number == other,
+        }
+    }
+}
+
+fn is_semaphore_in(kernel: &Kernel, place: u8, name: &Name, relation: Relation, value: u16) -> bool
+    requires within { place < object_places }
+    ensures is { IsTrue result ↔ IsSemaphoreIn kernel.now place name.now relation value }
+{
+    matches!(
+        kernel.semaphore_at(place),
+        Some((Some(other), held))
+            if name == other && relation.compares(usize::from(held), usize::from(value))
+    )
+}
+
+fn is_queue_in(kernel: &Kernel, place: u8, name: &Name, relation: Relation, value: u16) -> bool
+    requires within { place < object_places }
+    ensures is { IsTrue result ↔ IsQueueIn kernel.now place name.now relation value }
+{
+    matches!(
+        kernel.queue_at(place),
+        Some((Some(other), queue))
+            if name == other && relation.compares(usize::from(queue.attr().2), usize::from(value))
+    )
+}
+
+fn has_semaphore(kernel: &Kernel, name: &Name, relation: Relation, value: u16) -> bool
+    ensures has { IsTrue result ↔ ((i : ℕ) × IsSemaphoreIn kernel.now i name.now relation value) }
+{
+    for place in 0..OBJECT_PLACES as u8 {
+        if is_semaphore_in(kernel, place, name, relation, value) {
+            return true;
+        }
+    }
+    false
+}
+
+fn has_queue(kernel: &Kernel, name: &Name, relation: Relation, value: u16) -> bool
+    ensures has { IsTrue result ↔ ((i : ℕ) × IsQueueIn kernel.now i name.now relation value) }
+{
+    for place in 0..OBJECT_PLACES as u8 {
+        if is_queue_in(kernel, place, name, relation, value) {
+            return true;
+        }
+    }
+    false
+}
+
+/// The call that a running process is about to make, if its next step is one.
+fn call_next(alloc: Global, running: &Running) -> Result<Option<Call>, AllocError>
+    ensures call { IfOk result (λ call. call ≡ call_next (next_action running.now.process)) }
+{
+    let mut process = Process::Running(running.copy(alloc)?);
+    match find_next(alloc, &mut process, 1) {
+        Next::Asks(call) => Ok(Some(call)),
+        Next::Moved(_) | Next::Ended => Ok(None),
+        Next::Short => Err(AllocError),
+    }
+}
+
+/// The call that a process is about to make, or waits for.
+pub fn call_of(alloc: Global, process: &Process) -> Result<Option<Call>, AllocError>
+    ensures value { IfOk result (λ found. found ≡ call_of (process_view process.now)) }
+    ensures call { IfOk result
+        (λ found. IfSome found (λ c. StandsAt (process_view process.now) c)) }
+{
+    match process {
+        Process::Running(running) => call_next(alloc, running),
+        Process::Waiting(_, call) => Ok(Some(call.clone()?)),
+        Process::Ended(_) => Ok(None),
+    }
+}
+
+#[tactic(auto, using(crate::proofs::PastProcesses::none_waits))]
+fn must_wait(kernel: &Kernel, pid: usize, call: &Call) -> bool
+    ensures value { result ≡ must_wait kernel.now pid call.now }
+{
+    pid < kernel.count() && !kernel.can_go(pid, call)
+}
+
+impl State {
+    /// Whether process `pid`, over a kernel, stands so. An error is want of memory.
+    pub fn is_so(
+        self,
+        alloc: Global,
+        kernel: &Kernel,
+        pid: usize,
+        process: &Process,
+    ) -> Result<bool, AllocError>
+        ensures so { IfOk result
+            (λ so. so ≡ is_so self kernel.now pid (process_view process.now)) }
+    {
+        match self {
+            State::Blocked => match process {
+                Process::Running(running) => {
+                    Ok(call_next(alloc, running)?.is_some_and(|call| must_wait(kernel, pid, &call)))
+                }
+                Process::Waiting(_, call) => Ok(must_wait(kernel, pid, call)),
+                Process::Ended(_) => Ok(false),
+            },
+            State::Ended => Ok(matches!(process, Process::Ended(_))),
+            State::Crashed => Ok(
+                matches!(process, Process::Ended(ended) if !matches!(ended.how(), How::Halt)),
+            ),
+            State::At { first, last } => {
+                let pc = process.machine().pc();
+                Ok(first <= pc && pc <= last && call_of(alloc, process)?.is_some())
+            }
+        }
+    }
+}
+
+fn messages_at(kernel: &Kernel, place: u8) -> usize
+    ensures count { result ≡ messages_at (place_at kernel.now.places place) }
+    ensures few { result < 2 ^ 16 }
+{
+    match kernel.queue_at(place) {
+        Some((_, queue)) => usize::from(queue.attr().2),
+        None => 0,
+    }
+}
+
+/// How many messages are in all queues of a kernel, with and without names.
+#[tactic(auto, using(crate::proofs::MessageCounts::messages_more))]
+pub fn messages_in(kernel: &Kernel) -> usize
+    ensures count { result ≡ messages kernel.now }
+{
+    let mut count = 0;
+    for place in 0..OBJECT_PLACES as u8 {
+        count += messages_at(kernel, place);
+    }
+    count
+}
+
+/// Whether a process is about to receive a message, or waits for one. An error is want of memory.
+pub fn is_receiving(alloc: Global, process: &Process) -> Result<bool, AllocError>
+    ensures value { IfOk result
+        (λ receiving. receiving ≡ is_receiving (process_view process.now)) }
+{
+    match process {
+        Process::Running(running) => Ok(matches!(
+            call_next(alloc, running)?,
+            Some(Call::MqReceive { .. })
+        )),
+        Process::Waiting(_, call) => Ok(matches!(call, Call::MqReceive { .. })),
+        Process::Ended(_) => Ok(false),
     }
 }

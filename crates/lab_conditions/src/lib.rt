@@ -4,16 +4,10 @@
 
 mod condition;
 mod judging;
-mod losses;
 mod never;
-mod places;
 mod reading;
-mod refusals;
-mod standing;
 
 pub use condition::{Condition, Part, Relation, State};
-pub use losses::{is_receiving, messages_in};
-pub use never::Never;
+pub use judging::{call_of, is_receiving, messages_in};
+pub use never::{Never, Refusal};
 pub use reading::ReadFault;
-pub use refusals::Refusal;
-pub use standing::call_of;

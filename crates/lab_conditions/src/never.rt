@@ -1,11 +1,15 @@
 //! What must never be so.
-ghost use Rattle.std.specs.Prelude.{◌≡◌, ◌↔◌, None, Err, false, map, IfOk, IsTrue};
+ghost use Rattle.std.specs.Prelude.{◌≡◌, ◌↔◌, None, Err, false, map, IfOk, IsTrue, Some};
 ghost use Rattle.lab_conditions.specs.declared.reading.ReadFault.TheVariants.{NoCondition};
-ghost use Rattle.lab_conditions.specs.Written.{words, condition_in, are_lost, refusal_in, Writes, never_text, NamesOnlyIn};
+ghost use Rattle.lab_conditions.specs.Written.{words, condition_in, are_lost, refusal_in, Writes, never_text, NamesOnlyIn, refused_in};
+ghost use Rattle.lab_conditions.specs.Refusals.{error_told, is_process, is_refused};
 
-use crate::reading::refusal::refusal_in;
-use crate::reading::words::{is_word, spaced, words_of};
-use crate::{Condition, ReadFault, Refusal};
+use crate::reading::{is_word, process_in, spaced, words_of};
+use crate::{Condition, ReadFault};
+use ipc_errors::error_named;
+use ipc_kernel::Reply;
+use ipc_names::Errno;
+use lab_sched::Stepped;
 use std::alloc::Global;
 use std::fmt;
 
@@ -27,8 +31,7 @@ impl fmt::Display for Never {
     ghost output = { λ n. Some (never_text n) };
 
     fn fmt<W: fmt::Write>(&self, f: &mut fmt::Formatter<W>) -> fmt::Result {
-        let text = self.text();
-        write!(f, "{text}")
+        write!(f, "{}", self.text())
     }
 }
 
@@ -60,13 +63,7 @@ impl Never {
         match self {
             Never::Holds(condition) => condition.names_only(count),
             Never::Lost => true,
-            Never::Refused(
-                Refusal {
-                    process: Some(process),
-                    ..
-                },
-            ) => *process < count,
-            Never::Refused(Refusal { process: None, .. }) => true,
+            Never::Refused(refusal) => refusal.process.is_none_or(|process| process < count),
         }
     }
 
@@ -83,14 +80,74 @@ impl Never {
             return Ok(Never::Lost);
         }
         if let Some((process, error)) = refusal_in(&words) {
-            let text = spaced(alloc, &words)?;
             return Ok(Never::Refused(Refusal {
-                text,
+                text: spaced(alloc, &words)?,
                 process,
                 error,
             }));
         }
-        let condition = Condition::read(alloc, text)?;
-        Ok(Never::Holds(condition))
+        Ok(Never::Holds(Condition::read(alloc, text)?))
+    }
+}
+
+/// `refused`, or behind it the name of an error
+fn refused_in(words: &[&str]) -> Option<Option<Errno>>
+    ensures value { result ≡ refused_in (map (λ word. word.now) words.now) }
+{
+    match words {
+        [word] if is_word("refused", word) => Some(None),
+        [word, name] if is_word("refused", word) => Some(Some(error_named(name)?)),
+        _ => None,
+    }
+}
+
+/// The process whose call is refused and the error, where they are named.
+#[tactic(auto, unfolding(crate::specs::Written::refusal_in))]
+fn refusal_in(words: &[&str]) -> Option<(Option<usize>, Option<Errno>)>
+    ensures value { result ≡ refusal_in (map (λ word. word.now) words.now) }
+{
+    let (word, rest) = words.split_first()?;
+    match process_in(word) {
+        Some(process) => Some((Some(process), refused_in(rest)?)),
+        None => Some((None, refused_in(words)?)),
+    }
+}
+
+/// A call that is refused: of one process or of any, with one error or with any but EAGAIN, which a
+/// call that tries is there for. It is shown as it was written, with one blank between its words.
+#[derive(Drop)]
+pub struct Refusal {
+    pub text: String,
+    pub process: Option<usize>,
+    pub error: Option<Errno>,
+}
+
+fn error_told(stepped: &Stepped) -> Option<u16>
+    ensures number { result ≡ error_told stepped.now }
+{
+    match stepped {
+        Stepped::Refused(error) => Some(error.number()),
+        Stepped::Called(Reply::Plain(word)) if *word >= 0x8000 => Some(word.wrapping_neg()),
+        Stepped::Called(_) | Stepped::Moved | Stepped::Waits | Stepped::Same => None,
+    }
+}
+
+impl Refusal {
+    /// Whether the calls of process `pid` are meant.
+    pub fn is_process(&self, pid: usize) -> bool
+        ensures value { result ≡ is_process self.now.process pid }
+    {
+        self.process.is_none_or(|process| pid == process)
+    }
+
+    /// Whether a step of which this is told is a call that is refused so.
+    pub fn is_refused(&self, stepped: &Stepped) -> bool
+        ensures value { result ≡ is_refused self.now stepped.now }
+    {
+        match (error_told(stepped), self.error) {
+            (Some(number), Some(error)) => number == error.number(),
+            (Some(number), None) => number != Errno::Again.number(),
+            (None, _) => false,
+        }
     }
 }

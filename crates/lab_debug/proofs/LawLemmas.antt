@@ -10,7 +10,7 @@ use Rattle.lab_debug.specs.declared.command.Command.{Command}
 use Rattle.lab_debug.specs.declared.command.Command.TheVariants.{Step, Run, Play, Until, Back, Regs, Mem, Dis, Procs, Mqs, Sems, Fds, Out, Raw, Where, Code, Labels, Go, Set, Unset, Marks, Steps, Taken, Profile, Help, Quit}
 use Rattle.lab_debug.specs.declared.command.Refusal.{Refusal}
 use Rattle.lab_debug.specs.declared.command.Refusal.TheVariants.{NoMark}
-use Rattle.lab_debug.specs.declared.fault.SessionFault.TheVariants.{TooManyLines, LineTooLong}
+use Rattle.lab_debug.specs.declared.script.SessionFault.TheVariants.{TooManyLines, LineTooLong}
 use Rattle.lab_debug.specs.Commands.{words_of}
 use Rattle.lab_debug.specs.Lines.{lines, line_limit}
 use Rattle.lab_session.specs.Marks.{has_mark}

@@ -8,8 +8,8 @@ use Rattle.std.specs.Io.KnownBytes.{Appends, Keeps, prepend_known}
 use Rattle.std.proofs.KnownBytes.{Appends-trans}
 use Rattle.lab_io.specs.Device.{AppendsPrefix}
 use Rattle.lab_io.proofs.Prefixes.{AppendsPrefix-after}
-use Rattle.lab_debug.specs.declared.fault.SessionFault.{SessionFault}
-use Rattle.lab_debug.specs.declared.fault.SessionFault.TheVariants.{TooManyLines}
+use Rattle.lab_debug.specs.declared.script.SessionFault.{SessionFault}
+use Rattle.lab_debug.specs.declared.script.SessionFault.TheVariants.{TooManyLines}
 use Rattle.lab_debug.specs.Lines.{lines, line_limit}
 use Rattle.lab_debug.specs.Private.Reading.{TakesLine}
 use Rattle.lab_debug.specs.Script.{Effect, Script, before, script_of, script, line_count_limit}

@@ -6,8 +6,8 @@ use Rattle.std.proofs.KnownBytes.{Appends-nil}
 use Rattle.lab_io.specs.Device.{AppendsPrefix}
 use Rattle.lab_sched.specs.Worlds.{WorldState}
 use Rattle.lab_session.specs.Sessions.{SessionState, session_from}
-use Rattle.lab_debug.specs.declared.fault.SessionFault.{SessionFault}
-use Rattle.lab_debug.specs.declared.fault.SessionFault.TheVariants.{Read, Write, TooManyLines, LineTooLong, NoMemory}
+use Rattle.lab_debug.specs.declared.script.SessionFault.{SessionFault}
+use Rattle.lab_debug.specs.declared.script.SessionFault.TheVariants.{Read, Write, TooManyLines, LineTooLong, NoMemory}
 use Rattle.lab_debug.specs.Script.{Explains, seen_end}
 use Rattle.lab_debug.specs.Effects.{session, world_session}
 

@@ -5,7 +5,7 @@ use Rattle.lc3_word.specs.Numbers.{number, unsigned_number}
 use Rattle.lc3_table.specs.Words.{is_label}
 use Rattle.lab_sched.specs.ScheduleTexts.{in_range}
 use Rattle.lab_sources.specs.Labels.{address_of}
-use Rattle.lab_sources.specs.declared.listing.Listing.{Listing}
+use Rattle.lab_sources.specs.declared.source.Listing.{Listing}
 use Rattle.lab_debug.specs.declared.command.Command.{Command}
 use Rattle.lab_debug.specs.declared.command.Command.TheVariants.{Step, Until, Regs, Mem, Dis, Fds, Out, Raw, Where, Code, Labels, Go, Set, Unset}
 use Rattle.lab_debug.specs.Commands.{range_from}

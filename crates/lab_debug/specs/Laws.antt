@@ -1,6 +1,6 @@
 -- What is true of every session of the debugger.
 use Rattle.std.specs.Prelude.{◌≡◌, ◌≤◌, ℕ, List, [], Option, IfOk, length}
-use Rattle.lab_sources.specs.declared.listing.Listing.{Listing}
+use Rattle.lab_sources.specs.declared.source.Listing.{Listing}
 use Rattle.lab_sched.specs.Worlds.{WorldState, run}
 use Rattle.lab_session.specs.Sessions.{SessionState, session_from, with_steps, after_steps, effective, back}
 use Rattle.lab_debug.specs.Effects.{session}

@@ -4,21 +4,13 @@
 mod accepting;
 mod command;
 mod effect;
-mod fault;
-mod label;
 pub mod laws;
-mod lines;
-mod marking;
-mod operands;
 mod reading;
-mod reply;
 mod script;
-mod showing;
 
-pub use fault::SessionFault;
 pub use lab_session::Session;
 pub use lab_texts::{dis_text, mem_text, mqs_text, procs_text, regs_text, sems_text, status_text};
-pub use script::{session, session_over};
+pub use script::{SessionFault, session, session_over};
 
 /// The most bytes of a line, without its line feed.
 pub const LINE_LIMIT: usize = 65_536;

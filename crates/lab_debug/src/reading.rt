@@ -1,13 +1,15 @@
 //! The commands of a script, as they are written.
-ghost use Rattle.std.specs.Prelude.{◌≡◌, ◌≤◌, ◌+◌, IfOk, IfSome, map};
+ghost use Rattle.std.specs.Prelude.{◌≡◌, ◌≤◌, ◌+◌, IfOk, IfSome, map, ◌<◌};
 ghost use Rattle.lab_sched.specs.ScheduleTexts.{reading_of_words};
 ghost use Rattle.lab_debug.specs.Private.Ranges.{IsCommand};
-ghost use Rattle.lab_debug.specs.Commands.{process_operand, step_of, until_of, go_of, back_of, bare_of, out_of, range_of, mark_of, read_schedule, is_named, marking_command, showing_command, plain_command, command_of};
+ghost use Rattle.lab_debug.specs.Commands.{process_operand, step_of, until_of, go_of, bare_of, out_of, range_of, mark_of, read_schedule, is_named, marking_command, showing_command, plain_command, command_of, number_within, process_of, address_of, count_of, step_count_max};
+ghost use Rattle.ipc_kernel.specs.Limits.{process_max};
 
 use crate::command::{Command, Refusal, range_at};
-use crate::operands::{STEP_COUNT_MAX, address_in, count_in, number_in, process_in};
+use ipc_kernel::PROCESS_MAX;
 use lab_sched::{MOST_STEPS, SchedFault, Schedule};
 use lab_session::{Mark, MarkKind, Range};
+use lc3_word::number_of;
 use std::alloc::{AllocError, Global};
 
 /// `P`
@@ -60,29 +62,6 @@ fn read_go(operands: &[&[u8]]) -> Option<Command>
     Some(Command::Go { pid, count })
 }
 
-/// `N`, to go back; one where it isn't given
-fn read_back(operands: &[&[u8]]) -> Option<Command>
-    ensures value { result ≡ back_of (map (λ word. word.now) operands.now) }
-    ensures ranges { IfSome result (λ command. IsCommand command) }
-{
-    match operands {
-        [] => Some(Command::Back(1)),
-        [count] => number_in(1, MOST_STEPS, *count).map(Command::Back),
-        _ => None,
-    }
-}
-
-/// `P`, of its output, or `--raw P`, of the same as it is
-fn read_out(operands: &[&[u8]]) -> Option<Command>
-    ensures value { result ≡ out_of (map (λ word. word.now) operands.now) }
-    ensures ranges { IfSome result (λ command. IsCommand command) }
-{
-    match operands {
-        [flag, pid] if is_name("--raw", *flag) => process_in(*pid).map(Command::Raw),
-        _ => read_process(operands).map(Command::Out),
-    }
-}
-
 /// `P ADDR N`, a range of its memory
 fn read_range(operands: &[&[u8]]) -> Option<Range>
     ensures value { result ≡ range_of (map (λ word. word.now) operands.now) }
@@ -109,7 +88,6 @@ fn read_mark(kind: MarkKind, operands: &[&[u8]]) -> Option<Mark>
     Some(Mark { kind, pid, address })
 }
 
-/// A command without operands
 fn read_bare(command: Command, operands: &[&[u8]]) -> Option<Command>
     requires ranges { IsCommand command }
     ensures value { result ≡ bare_of command (map (λ word. word.now) operands.now) }
@@ -118,7 +96,6 @@ fn read_bare(command: Command, operands: &[&[u8]]) -> Option<Command>
     operands.is_empty().then_some(command)
 }
 
-/// Whether a word is this name.
 #[tactic(auto, unfolding(crate::specs::Commands::is_named))]
 fn is_name(name: &str, word: &[u8]) -> bool
     ensures value { result ≡ is_named name.now word.now }
@@ -132,28 +109,30 @@ fn read_marking(name: &[u8], operands: &[&[u8]]) -> Result<Command, Refusal>
     ensures value { result ≡ marking_command name.now (map (λ word. word.now) operands.now) }
     ensures ranges { IfOk result (λ command. IsCommand command) }
 {
-    let command = if is_name("break", name) {
-        read_mark(MarkKind::Break, operands).map(Command::Set)
-    } else if is_name("clear", name) {
-        read_mark(MarkKind::Break, operands).map(Command::Unset)
-    } else if is_name("breaks", name) {
-        read_bare(Command::Marks(MarkKind::Break), operands)
-    } else if is_name("watch", name) {
-        read_mark(MarkKind::Watch, operands).map(Command::Set)
-    } else if is_name("unwatch", name) {
-        read_mark(MarkKind::Watch, operands).map(Command::Unset)
-    } else if is_name("watches", name) {
-        read_bare(Command::Marks(MarkKind::Watch), operands)
-    } else if is_name("go", name) {
-        read_go(operands)
-    } else if is_name("steps", name) {
-        read_bare(Command::Steps, operands)
-    } else if is_name("schedule", name) {
-        read_bare(Command::Taken, operands)
-    } else {
-        return Err(Refusal::UnknownCommand);
+    let command = match name {
+        _ if is_name("break", name) => read_mark(MarkKind::Break, operands).map(Command::Set),
+        _ if is_name("clear", name) => read_mark(MarkKind::Break, operands).map(Command::Unset),
+        _ if is_name("breaks", name) => read_bare(Command::Marks(MarkKind::Break), operands),
+        _ if is_name("watch", name) => read_mark(MarkKind::Watch, operands).map(Command::Set),
+        _ if is_name("unwatch", name) => read_mark(MarkKind::Watch, operands).map(Command::Unset),
+        _ if is_name("watches", name) => read_bare(Command::Marks(MarkKind::Watch), operands),
+        _ if is_name("go", name) => read_go(operands),
+        _ if is_name("steps", name) => read_bare(Command::Steps, operands),
+        _ if is_name("schedule", name) => read_bare(Command::Taken, operands),
+        _ => return Err(Refusal::UnknownCommand),
     };
     command.ok_or(Refusal::BadOperands)
+}
+
+/// `P`, of its output, or `--raw P`, of the same as it is
+fn read_out(operands: &[&[u8]]) -> Option<Command>
+    ensures value { result ≡ out_of (map (λ word. word.now) operands.now) }
+    ensures ranges { IfSome result (λ command. IsCommand command) }
+{
+    match operands {
+        [flag, pid] if is_name("--raw", *flag) => process_in(*pid).map(Command::Raw),
+        _ => read_process(operands).map(Command::Out),
+    }
 }
 
 /// A command that only shows something, by its name and its operands.
@@ -162,28 +141,18 @@ fn read_showing(name: &[u8], operands: &[&[u8]]) -> Result<Command, Refusal>
     ensures value { result ≡ showing_command name.now (map (λ word. word.now) operands.now) }
     ensures ranges { IfOk result (λ command. IsCommand command) }
 {
-    let command = if is_name("regs", name) {
-        read_process(operands).map(Command::Regs)
-    } else if is_name("mem", name) {
-        read_range(operands).map(Command::Mem)
-    } else if is_name("dis", name) {
-        read_range(operands).map(Command::Dis)
-    } else if is_name("procs", name) {
-        read_bare(Command::Procs, operands)
-    } else if is_name("mqs", name) {
-        read_bare(Command::Mqs, operands)
-    } else if is_name("sems", name) {
-        read_bare(Command::Sems, operands)
-    } else if is_name("fds", name) {
-        read_process(operands).map(Command::Fds)
-    } else if is_name("out", name) {
-        read_out(operands)
-    } else if is_name("profile", name) {
-        read_bare(Command::Profile, operands)
-    } else if is_name("help", name) {
-        read_bare(Command::Help, operands)
-    } else {
-        return read_marking(name, operands);
+    let command = match name {
+        _ if is_name("regs", name) => read_process(operands).map(Command::Regs),
+        _ if is_name("mem", name) => read_range(operands).map(Command::Mem),
+        _ if is_name("dis", name) => read_range(operands).map(Command::Dis),
+        _ if is_name("procs", name) => read_bare(Command::Procs, operands),
+        _ if is_name("mqs", name) => read_bare(Command::Mqs, operands),
+        _ if is_name("sems", name) => read_bare(Command::Sems, operands),
+        _ if is_name("fds", name) => read_process(operands).map(Command::Fds),
+        _ if is_name("out", name) => read_out(operands),
+        _ if is_name("profile", name) => read_bare(Command::Profile, operands),
+        _ if is_name("help", name) => read_bare(Command::Help, operands),
+        _ => return read_marking(name, operands),
     };
     command.ok_or(Refusal::BadOperands)
 }
@@ -194,22 +163,19 @@ fn read_plain(name: &[u8], operands: &[&[u8]]) -> Result<Command, Refusal>
     ensures value { result ≡ plain_command name.now (map (λ word. word.now) operands.now) }
     ensures ranges { IfOk result (λ command. IsCommand command) }
 {
-    let command = if is_name("step", name) {
-        read_step(operands)
-    } else if is_name("until", name) {
-        read_until(operands)
-    } else if is_name("back", name) {
-        read_back(operands)
-    } else if is_name("quit", name) {
-        read_bare(Command::Quit, operands)
-    } else if is_name("where", name) {
-        read_process(operands).map(Command::Where)
-    } else if is_name("code", name) {
-        read_range(operands).map(Command::Code)
-    } else if is_name("labels", name) {
-        read_process(operands).map(Command::Labels)
-    } else {
-        return read_showing(name, operands);
+    let command = match name {
+        _ if is_name("step", name) => read_step(operands),
+        _ if is_name("until", name) => read_until(operands),
+        _ if is_name("back", name) => match operands {
+            [] => Some(Command::Back(1)),
+            [count] => number_in(1, MOST_STEPS, *count).map(Command::Back),
+            _ => None,
+        },
+        _ if is_name("quit", name) => read_bare(Command::Quit, operands),
+        _ if is_name("where", name) => read_process(operands).map(Command::Where),
+        _ if is_name("code", name) => read_range(operands).map(Command::Code),
+        _ if is_name("labels", name) => read_process(operands).map(Command::Labels),
+        _ => return read_showing(name, operands),
     };
     command.ok_or(Refusal::BadOperands)
 }
@@ -237,12 +203,54 @@ pub fn read_command(
         read ≡ command_of name.now (map (λ word. word.now) operands.now)) }
     ensures ranges { IfOk result (λ read. IfOk read (λ command. IsCommand command)) }
 {
-    let command = if is_name("run", name) {
-        read_schedule(alloc, operands)?.map(Command::Run)
-    } else if is_name("play", name) {
-        read_schedule(alloc, operands)?.map(Command::Play)
-    } else {
-        return Ok(read_plain(name, operands));
+    let command = match name {
+        _ if is_name("run", name) => read_schedule(alloc, operands)?.map(Command::Run),
+        _ if is_name("play", name) => read_schedule(alloc, operands)?.map(Command::Play),
+        _ => return Ok(read_plain(name, operands)),
     };
     Ok(command.ok_or(Refusal::BadOperands))
+}
+
+/// Blank, tab, carriage return: what is between the words of a line.
+pub const BLANKS: &[u8] = b" \t\r";
+
+/// The number that a word writes, from `low` to `high`.
+#[tactic(auto, using(crate::proofs::NumberLemmas::number_within_capped))]
+pub fn number_in(low: u32, high: u32, word: &[u8]) -> Option<u32>
+    requires small { high < 1_000_000_000 }
+    ensures value { result ≡ number_within low high word.now }
+    ensures range { IfSome result (λ n. (low ≤ n) × (n ≤ high)) }
+{
+    let number = number_of(word)?;
+    if i64::from(low) <= number && number <= i64::from(high) {
+        Some(number as u32)
+    } else {
+        None
+    }
+}
+
+/// A process, below [`PROCESS_MAX`].
+pub fn process_in(word: &[u8]) -> Option<usize>
+    ensures value { result ≡ process_of word.now }
+    ensures range { IfSome result (λ pid. pid < process_max) }
+{
+    Some(number_in(0, PROCESS_MAX as u32 - 1, word)? as usize)
+}
+
+/// An address, 0 to 65,535.
+pub fn address_in(word: &[u8]) -> Option<u16>
+    ensures value { result ≡ address_of word.now }
+{
+    Some(number_in(0, 65_535, word)? as u16)
+}
+
+/// The most steps that a command asks for.
+pub const STEP_COUNT_MAX: u32 = 1_000_000;
+
+/// A number of steps, from 1 to [`STEP_COUNT_MAX`].
+pub fn count_in(word: &[u8]) -> Option<u32>
+    ensures value { result ≡ count_of word.now }
+    ensures range { IfSome result (λ n. (1 ≤ n) × (n ≤ step_count_max)) }
+{
+    number_in(1, STEP_COUNT_MAX, word)
 }

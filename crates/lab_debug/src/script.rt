@@ -1,23 +1,26 @@
 //! A session: lines in, texts out.
-ghost use Rattle.std.specs.Prelude.{◌≡◌, Ok, IfOk, IfErr, OnOk, OnErr, IfSome};
+ghost use Rattle.std.specs.Prelude.{◌≡◌, Ok, IfOk, IfErr, OnOk, OnErr, IfSome, ℕ, List, ◌≤◌, [], ◌↔◌, None, Some, length, drop, take, IsTrue};
 ghost use Rattle.std.specs.Option.{option_map};
-ghost use Rattle.std.specs.Io.KnownBytes.{Appends};
+ghost use Rattle.std.specs.Io.KnownBytes.{Appends, Keeps, IsAtEnd, prepend_known};
 ghost use Rattle.lab_io.specs.Device.{AppendsPrefix};
 ghost use Rattle.lab_debug.specs.Effects.{session, world_session};
 ghost use Rattle.lab_session.specs.Sessions.{state_of};
 ghost use Rattle.lab_debug.specs.Script.{Explains};
+ghost use Rattle.lab_debug.specs.declared.script.TheConstants.{CHUNK};
+ghost use Rattle.lab_debug.specs.Lines.{line_limit};
+ghost use Rattle.lab_debug.specs.Private.Reading.{TakesLine, TakesByte, Stops};
+ghost use Rattle.lab_debug.specs.declared.script.SessionFault.TheVariants.{NoMemory};
 
-use crate::LINE_COUNT_LIMIT;
 use crate::effect::perform;
-use crate::fault::SessionFault;
-use crate::lines::Pending;
-use lab_io::{Input, Output};
+use crate::{LINE_COUNT_LIMIT, LINE_LIMIT};
+use lab_io::{Failed, Input, Output};
 use lab_sched::World;
 use lab_session::Session;
-use std::alloc::Global;
+use std::alloc::{AllocError, AllocFailed, Global};
 use std::io::{Read, Write};
+use std::marker::Model;
+use thiserror::Error;
 
-/// Carries out the lines of a script on the state of a session.
 fn perform_lines<R: Read, W: Write>(
     alloc: Global,
     state: &mut Session,
@@ -107,4 +110,141 @@ pub fn session<R: Read, W: Write>(
     let start = Session::of_world(alloc, world, "")?;
     let last = session_over(alloc, start, input, output)?;
     Ok(last.into_world())
+}
+
+/// How many bytes are read at once, at most.
+const CHUNK: usize = 4096;
+
+/// Bytes that were read and not yet taken.
+#[derive(Drop)]
+pub struct Pending {
+    bytes: [u8; CHUNK],
+    start: usize,
+    end: usize,
+}
+
+impl Model for Pending {
+    ghost Value = { List ℕ };
+
+    ghost view = { λ p. drop p.start (take p.end p.bytes) };
+
+    ghost invariant = { λ p. (p.start ≤ p.end) × (p.end ≤ CHUNK) };
+}
+
+impl Pending {
+    /// No bytes.
+    pub fn new() -> Pending
+        ensures empty { result ≡ [] }
+    {
+        Pending {
+            bytes: [0; CHUNK],
+            start: 0,
+            end: 0,
+        }
+    }
+
+    /// Whether nothing more comes. It reads where nothing is left.
+    pub fn is_at_end<R: Read>(&mut self, input: &mut Input<R>) -> Result<bool, Failed>
+        ensures same { OnOk result (Keeps
+            (prepend_known self.old (R.remaining input.old.device))
+            (prepend_known self.new (R.remaining input.new.device))) }
+        ensures end { IfOk result (λ end. IsTrue end ↔ (self.new ≡ [])) }
+        ensures known { IfOk result (λ end. IsTrue end → IsAtEnd (R.remaining input.new.device)) }
+        ensures err { OnErr result (IsTrue input.new.failed) }
+    {
+        if self.start < self.end {
+            return Ok(false);
+        }
+        self.start = 0;
+        self.end = 0;
+        self.end = input.read(&mut self.bytes)?;
+        Ok(self.end == 0)
+    }
+
+    /// The next byte, or none at the end.
+    fn next_byte<R: Read>(&mut self, input: &mut Input<R>) -> Result<Option<u8>, Failed>
+        ensures byte { IfOk result (λ next. TakesByte
+            (prepend_known self.old (R.remaining input.old.device))
+            (prepend_known self.new (R.remaining input.new.device)) next) }
+        ensures err { OnErr result (IsTrue input.new.failed) }
+    {
+        if self.is_at_end(input)? {
+            return Ok(None);
+        }
+        let byte = self.bytes[self.start];
+        self.start += 1;
+        Ok(Some(byte))
+    }
+
+    /// The next line without its line feed, or none at the end.
+    pub fn read_line<R: Read>(
+        &mut self,
+        alloc: Global,
+        input: &mut Input<R>,
+    ) -> Result<Option<Vec<u8>>, SessionFault>
+        ensures line { IfOk result (λ found. TakesLine
+            (prepend_known self.old (R.remaining input.old.device))
+            (prepend_known self.new (R.remaining input.new.device))
+            (option_map (λ line. line.items) found)) }
+        ensures limit { IfOk result (λ found.
+            IfSome found (λ line. length line.items ≤ line_limit)) }
+        ensures err { IfErr result (λ e.
+            Stops e (prepend_known self.old (R.remaining input.old.device)) input.new.failed) }
+    {
+        let mut line = Vec::new(alloc);
+        loop {
+            let Ok(next) = self.next_byte(input) else {
+                return Err(SessionFault::Read);
+            };
+            let Some(byte) = next else {
+                if line.is_empty() {
+                    return Ok(None);
+                }
+                return Ok(Some(line));
+            };
+            if byte == b'\n' {
+                return Ok(Some(line));
+            }
+            if line.len() == LINE_LIMIT {
+                return Err(SessionFault::LineTooLong);
+            }
+            line.push(byte)?;
+        }
+    }
+}
+
+/// Why a session broke off. Its world is given up, and a beginning of its text was written.
+#[derive(Clone, Copy, Debug, PartialEq, Eq, Error)]
+pub enum SessionFault {
+    /// The input failed.
+    #[error("cannot read")]
+    Read,
+    /// The output failed.
+    #[error("cannot write")]
+    Write,
+    /// There is a line past the 1,000,000th.
+    #[error("TooManyLines")]
+    TooManyLines,
+    /// A line has more than 65,536 bytes before its line feed.
+    #[error("LineTooLong")]
+    LineTooLong,
+    /// Memory was refused.
+    #[error("out of memory")]
+    NoMemory,
+}
+
+impl From<AllocError> for SessionFault {
+    ghost from_gives = { λ _ e. e ≡ NoMemory };
+
+    fn from(_refused: AllocError) -> SessionFault {
+        SessionFault::NoMemory
+    }
+}
+
+impl<T: Drop> From<AllocFailed<T>> for SessionFault {
+    ghost from_gives = { λ _ e. e ≡ NoMemory };
+
+    fn from(_refused: AllocFailed<T>) -> SessionFault {
+        SessionFault::NoMemory
+    }
 }

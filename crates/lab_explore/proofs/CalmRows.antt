@@ -7,13 +7,13 @@ use Rattle.lab_sched.specs.Worlds.{Process, WorldState}
 use Rattle.lab_sched.specs.Held.{process_view}
 use Rattle.lab_sched.specs.Starts.{initial_world}
 use Rattle.lab_sched.proofs.ListPlaces.{get_past}
-use Rattle.lab_conditions.specs.declared.refusals.Refusal.{Refusal}
+use Rattle.lab_conditions.specs.declared.never.Refusal.{Refusal}
 use Rattle.lab_states.specs.Rows.{Row}
 use Rattle.lab_search.specs.declared.store.Store.{Store}
 use Rattle.lab_search.specs.Stored.{IsState, IsAt}
 use Rattle.lab_worlds.specs.Calls.{Both}
 use Rattle.lab_worlds.proofs.AfterLocalSteps.{same_some}
-use Rattle.lab_explore.specs.declared.alone.Alone.{Alone}
+use Rattle.lab_explore.specs.declared.refusals.Alone.{Alone}
 use Rattle.lab_explore.specs.Private.Judged.{IsQuiet, IsCalm, IsCalmAt, BeginsQuietly}
 use Rattle.lab_explore.proofs.MetWorlds.{state_at}
 

@@ -7,7 +7,7 @@ use Rattle.lab_sched.specs.Execution.{AreEffective}
 use Rattle.lab_sched.specs.Schedules.{steps_of}
 use Rattle.lab_sched.proofs.Executions.{effective-append}
 use Rattle.lab_worlds.specs.declared.walking.Walk.{Walk}
-use Rattle.lab_worlds.specs.declared.lassos.Lasso.{Lasso}
+use Rattle.lab_worlds.specs.declared.exploration.Lasso.{Lasso}
 use Rattle.lab_search.specs.declared.store.Store.{Store}
 use Rattle.lab_search.specs.Stored.{IsLike}
 use Rattle.ipc_kernel.specs.Alike.{IsConsistent}

@@ -10,7 +10,7 @@ use Rattle.lab_sched.specs.Held.{asked_by, local_told, stepped_of}
 use Rattle.lab_sched.specs.LocalRun.{IsLocalStep}
 use Rattle.lab_sched.proofs.ListPlaces.{get-set_same, get_past}
 use Rattle.lab_sched.proofs.Commutes.{after_other}
-use Rattle.lab_conditions.specs.declared.refusals.Refusal.{Refusal}
+use Rattle.lab_conditions.specs.declared.never.Refusal.{Refusal}
 use Rattle.lab_conditions.specs.declared.never.Never.TheVariants as never
 use Rattle.lab_conditions.specs.Refusals.{is_process, is_refused, Refuses}
 use Rattle.lab_search.specs.declared.store.Store.{Store}

@@ -7,7 +7,7 @@ use Rattle.lab_sched.specs.declared.stepped.Stepped.{Stepped}
 use Rattle.lab_sched.specs.Worlds.{Process, Running, local_step, step_effect, first_try}
 use Rattle.lab_sched.specs.Held.{asked_by, local_told, StepResult, step_result, HasStepped}
 use Rattle.lab_sched.specs.LocalRun.{IsLocalStep, AreLocal}
-use Rattle.lab_conditions.specs.declared.refusals.Refusal.{Refusal}
+use Rattle.lab_conditions.specs.declared.never.Refusal.{Refusal}
 use Rattle.lab_conditions.specs.Refusals.{is_refused}
 use Rattle.lab_explore.specs.Private.Judged.{IsQuiet, IsCalm}
 

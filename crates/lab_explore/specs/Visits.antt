@@ -4,7 +4,7 @@ use Rattle.lab_sched.specs.Worlds.{WorldState}
 use Rattle.lab_sched.specs.Starts.{AreStarts, initial_world}
 use Rattle.lab_search.specs.Reduced.{IsSearchedIn}
 use Rattle.lab_search.specs.Stored.{IsStore, IsSearched}
-use Rattle.lab_explore.specs.declared.visited.Visited.{Visited}
+use Rattle.lab_explore.specs.declared.reached.Visited.{Visited}
 
 -- the world from which the search began
 abbrev pub start_of : Visited → WorldState

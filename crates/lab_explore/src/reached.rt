@@ -1,15 +1,21 @@
 //! Counterexamples of safety: what must never be so and is found by a search, each with steps from the start.
-ghost use Rattle.std.specs.Prelude.{◌≡◌, ◌<◌, None, IfOk, IfSome, IsTrue, length};
+ghost use Rattle.std.specs.Prelude.{◌≡◌, ◌<◌, None, IfOk, IfSome, IsTrue, length, false, map};
 ghost use Rattle.lab_worlds.specs.Walked.{IsWalk};
 ghost use Rattle.lab_worlds.specs.Reached.{LeadsToStep, Violates, IsKept, AreReached, AreKept};
 ghost use Rattle.lab_explore.specs.Visits.{start_of, IsVisited, IsWhole};
+ghost use Rattle.lab_sched.specs.Worlds.{WorldState};
+ghost use Rattle.lab_sched.specs.Held.{process_view};
+ghost use Rattle.lab_conditions.specs.Losses.{messages, is_receiving};
+ghost use Rattle.lab_search.specs.Stored.{IsAt};
+ghost use Rattle.lab_explore.specs.Private.Judged.{IsLoss, NoEdgeLoses};
 
 use crate::judging::first_where;
-use crate::losses::first_loss;
-use crate::visited::Visited;
-use lab_conditions::Never;
-use lab_sched::Schedule;
-use lab_worlds::{ExploreFault, Walk, Workers};
+use ipc_kernel::Kernel;
+use lab_conditions::{Never, is_receiving, messages_in};
+use lab_sched::{Fresh, Process, Schedule};
+use lab_search::{Store, search_all};
+use lab_states::{Edge, place_of};
+use lab_worlds::{ExploreFault, Limits, Observer, Walk, Workers};
 use std::alloc::Global;
 use std::thread::Threads;
 
@@ -109,4 +115,146 @@ impl Visited {
         }
         Ok(found)
     }
+}
+
+/// How many messages are in the queues of each kernel.
+fn messages(store: &Store, alloc: Global) -> Result<Vec<usize>, ExploreFault>
+    ensures counts { IfOk result (λ counts.
+        counts.items ≡ map messages store.now.kernels.kernels) }
+{
+    let mut counts = Vec::new(alloc);
+    for number in 0..store.kernels.len() {
+        let found = store.kernels.get(alloc, place_of(number)?)?;
+        let Some(kernel) = found else {
+            return Err(ExploreFault::Unvouched);
+        };
+        counts.push(messages_in(&kernel))?;
+    }
+    Ok(counts)
+}
+
+/// Whether the process of each state is about to receive a message.
+fn receiving(store: &Store, alloc: Global) -> Result<Vec<bool>, ExploreFault>
+    ensures receiving { IfOk result (λ receiving. receiving.items
+        ≡ map (λ s. is_receiving (process_view s)) store.now.states.processes) }
+{
+    let mut receiving = Vec::with_capacity(alloc, store.states.len())?;
+    for number in 0..store.states.len() {
+        let Some(process) = store.states.collapsed(number) else {
+            return Err(ExploreFault::Unvouched);
+        };
+        receiving.push(is_receiving(alloc, process)?)?;
+    }
+    Ok(receiving)
+}
+
+/// How many messages are in the queues of the world of a row.
+#[tactic(auto, using(crate::proofs::LossesOfRows::counted_at))]
+fn messages_at(store: &Store, counts: &[usize], at: u32) -> Result<usize, ExploreFault>
+    requires counts { counts.now ≡ map messages store.now.kernels.kernels }
+    ensures count { IfOk result (λ count. (w : WorldState) → IsAt store.now at w
+        → count ≡ messages w.kernel) }
+{
+    let Some((kernel, _)) = store.rows.get(at as usize) else {
+        return Err(ExploreFault::Unvouched);
+    };
+    let Some(count) = counts.get(kernel as usize) else {
+        return Err(ExploreFault::Unvouched);
+    };
+    Ok(*count)
+}
+
+fn is_loss(
+    store: &Store,
+    counts: &[usize],
+    receiving: &[bool],
+    edge: &Edge,
+) -> Result<bool, ExploreFault>
+    requires counts { counts.now ≡ map messages store.now.kernels.kernels }
+    requires receiving { receiving.now
+        ≡ map (λ s. is_receiving (process_view s)) store.now.states.processes }
+    ensures no { IfOk result (λ loses. loses ≡ false → IsLoss store.now edge.now → ⊥) }
+{
+    let before = messages_at(store, counts, edge.from)?;
+    let after = messages_at(store, counts, edge.to)?;
+    if after >= before {
+        return Ok(false);
+    }
+    let Some((_, state)) = store.places(edge.from as usize, edge.pid as u32) else {
+        return Err(ExploreFault::Unvouched);
+    };
+    let Some(receives) = receiving.get(state as usize) else {
+        return Err(ExploreFault::Unvouched);
+    };
+    Ok(!*receives)
+}
+
+fn first_loss(store: &Store, alloc: Global) -> Result<Option<Turn>, ExploreFault>
+    ensures none { IfOk result (λ first. first ≡ None → NoEdgeLoses store.now) }
+{
+    let counts = messages(store, alloc)?;
+    let receiving = receiving(store, alloc)?;
+    let mut row = 0;
+    for at in 0..store.edges.len() {
+        let Some(edge) = store.edges.get_after(at, row) else {
+            return Err(ExploreFault::Unvouched);
+        };
+        if is_loss(store, counts.as_slice(), receiving.as_slice(), &edge)? {
+            return Ok(Some(Turn {
+                row: Some(edge.from as usize),
+                pid: edge.pid as usize,
+                before: 0,
+            }));
+        }
+        row = edge.from as usize;
+    }
+    Ok(None)
+}
+
+/// What a search from the start of a laboratory found, of which is told what it shows: the processes
+/// at their starts, the worlds and the moves between them, the local steps of each process before
+/// them, and whether these are all, or in a reduced search as many as show every end. If they aren't,
+/// memory may have been refused.
+#[derive(Drop)]
+pub struct Visited {
+    pub processes: Vec<Process>,
+    pub store: Store,
+    pub firsts: Vec<u32>,
+    pub reduced: bool,
+    pub complete: bool,
+    pub refused: bool,
+}
+
+/// What a search of the worlds that a laboratory can come to visits, as far as the limits allow: every
+/// one of them, or, if that may be and none of them takes a name away, as many as show every end.
+pub fn visit<O: Observer>(
+    alloc: Global,
+    fresh: Fresh,
+    limits: Limits,
+    observer: &mut O,
+    reduced: bool,
+) -> Result<Visited, ExploreFault>
+    ensures start { IfOk result (λ s. start_of s ≡ fresh) }
+    ensures reduced { IfOk result (λ s. reduced ≡ false → s.reduced ≡ false) }
+    ensures visited { IfOk result (λ s. IsVisited s) }
+    ensures whole { IfOk result (λ s. reduced ≡ false → IsWhole s) }
+{
+    let processes = fresh.processes();
+    let kernel = Kernel::new(alloc, processes.len())?;
+    let search = search_all(
+        alloc,
+        processes.as_slice(),
+        &kernel,
+        limits,
+        observer,
+        reduced,
+    )?;
+    Ok(Visited {
+        processes,
+        store: search.store,
+        firsts: search.firsts,
+        reduced: search.reduced,
+        complete: search.complete,
+        refused: search.refused,
+    })
 }

@@ -4,7 +4,7 @@ ghost use Rattle.lab_worlds.specs.Walked.{IsWalk, KeepsStart};
 ghost use Rattle.lab_search.specs.Stored.{IsLike};
 ghost use Rattle.lab_explore.specs.Visits.{start_of, IsVisited};
 
-use crate::visited::Visited;
+use crate::reached::Visited;
 use lab_worlds::{ExploreFault, Walk, WayCall};
 use std::alloc::Global;
 

@@ -12,7 +12,7 @@ use Rattle.std.proofs.lemmas.List.{take_more}
 use Rattle.std.proofs.lemmas.List.Elements.{filter_map-append}
 use Rattle.std.proofs.lemmas.List.Sums.{position_or_len_is}
 use Rattle.lab_hex.specs.Hex.{is_bad, number_of, numbers_of}
-use Rattle.lab_hex.specs.declared.fault.CliFault.TheVariants.{BadWord}
+use Rattle.lab_hex.specs.declared.run.CliFault.TheVariants.{BadWord}
 
 -- a bad word after good ones is the fault
 pub numbers_of-bad : (words : List (List ℕ)) (i : ℕ) → i < length words → ((k : ℕ) → k < i → is_bad (get_or words k []) ≡ false)

@@ -4,16 +4,16 @@ use Rattle.std.specs.Prelude.{IfSome, position, nat_lt, length, ◌+◌}
 use Rattle.std.specs.List.{filter_map}
 use Rattle.lab_hex.specs.Fault.{Explains}
 use Rattle.lab_hex.specs.Hex.{is_bad, number_of, segment_of, image_of}
-use Rattle.lab_hex.specs.declared.fault.CliFault.{CliFault}
-use Rattle.lab_hex.specs.declared.fault.CliFault.TheVariants.{Empty, BadWord, TooLong, TooLarge, Read, Write, NoMemory}
+use Rattle.lab_hex.specs.declared.run.CliFault.{CliFault}
+use Rattle.lab_hex.specs.declared.run.CliFault.TheVariants.{Empty, BadWord, TooLong, TooLarge, Read, Write, NoMemory}
 use Rattle.lc3_word.specs.Segment.{Segment, first_device}
 use Rattle.lc3_table.specs.declared.profile.Profile.TheVariants.{A}
 use Rattle.lab_sched.specs.Worlds.{WorldState, run}
 use Rattle.lab_sched.specs.Schedules.{steps_of}
 use Rattle.lab_sched.specs.ScheduleTexts.{words}
 use Rattle.lab_sched.specs.Starts.{fresh}
-use Rattle.lab_sched.specs.declared.fresh.Program.{Program}
-use Rattle.lab_sched.specs.declared.schedule.block.Block.{Block}
+use Rattle.lab_sched.specs.declared.process.Program.{Program}
+use Rattle.lab_sched.specs.declared.schedule.Block.{Block}
 use Rattle.lab_hex.specs.Run.{world_after}
 
 -- the one program of a laboratory, run by a schedule of n steps

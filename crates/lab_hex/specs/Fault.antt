@@ -1,8 +1,8 @@
 -- When a fault of a run over hexadecimal words comes.
 use Rattle.std.specs.Prelude.{◌≡◌, ℕ, ◌<◌, Bool, List, length, Option, IfSome, Err, IsTrue, ⊤}
 use Rattle.lab_hex.specs.Hex.{image_of}
-use Rattle.lab_hex.specs.declared.fault.CliFault.{CliFault}
-use Rattle.lab_hex.specs.declared.fault.CliFault.TheVariants.{TooLarge, Read, Write, NoMemory}
+use Rattle.lab_hex.specs.declared.run.CliFault.{CliFault}
+use Rattle.lab_hex.specs.declared.run.CliFault.TheVariants.{TooLarge, Read, Write, NoMemory}
 
 -- the fault fits the text that came, where it is known, and whether the input and the output failed
 abbrev pub Explains : CliFault → Option (List ℕ) → Bool → Bool → Type 0

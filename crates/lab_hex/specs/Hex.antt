@@ -4,8 +4,8 @@ use Rattle.std.specs.List.{filter_map}
 use Rattle.lc3_word.specs.Numbers.{unsigned_number, is_x}
 use Rattle.lc3_word.specs.Segment.{Segment, first_device}
 use Rattle.lab_sched.specs.ScheduleTexts.{words}
-use Rattle.lab_hex.specs.declared.fault.CliFault.{CliFault}
-use Rattle.lab_hex.specs.declared.fault.CliFault.TheVariants.{BadWord, Empty, TooLong}
+use Rattle.lab_hex.specs.declared.run.CliFault.{CliFault}
+use Rattle.lab_hex.specs.declared.run.CliFault.TheVariants.{BadWord, Empty, TooLong}
 
 -- what stands after an optional `x`
 abbrev pub digits_of : List ℕ → List ℕ

@@ -4,7 +4,7 @@ use Rattle.std.proofs.lemmas.Bool.{cases_lt}
 use Rattle.std.proofs.lemmas.List.{set-set, set_past, get_or-set_same}
 use Rattle.lab_told.specs.declared.told.Told.TheVariants.{Nothing}
 use Rattle.lab_moments.specs.Between.{no_steps, count_of, with_steps, idle_of, between_after, between_data}
-use Rattle.lab_moments.specs.declared.between.StepCount.{StepCount}
+use Rattle.lab_moments.specs.declared.past.StepCount.{StepCount}
 use Rattle.lab_moments.proofs.PlainLemmas.{IsPlain, plain}
 
 pub between-plain : (b : List StepCount) → IsPlain (between_data b)

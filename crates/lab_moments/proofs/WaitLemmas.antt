@@ -6,7 +6,7 @@ use Rattle.lab_sched.specs.Worlds.{WorldState}
 use Rattle.lab_told.specs.Tallies.{TallyState}
 use Rattle.lab_moments.specs.Waits.{other_at, wait_in, waits_data, blocker, behind, circle_up_to, circles_data}
 use Rattle.lab_moments.specs.declared.holds.Hold.{Hold}
-use Rattle.lab_moments.specs.declared.known.Known.{Known}
+use Rattle.lab_moments.specs.declared.holds.Known.{Known}
 use Rattle.lab_moments.proofs.PlainLemmas.{IsPlain, ArePlain, plain}
 use Rattle.lab_moments.proofs.ValueLemmas.{below}
 

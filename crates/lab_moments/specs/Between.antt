@@ -4,7 +4,7 @@ use Rattle.serde_json.specs.Data.{Data}
 use Rattle.lab_told.specs.declared.told.Told.{Told}
 use Rattle.lab_told.specs.declared.told.Told.TheVariants.{Nothing, Counted, Shown}
 use Rattle.lab_moments.specs.Values.{list, natural, all_below}
-use Rattle.lab_moments.specs.declared.between.StepCount.{StepCount}
+use Rattle.lab_moments.specs.declared.past.StepCount.{StepCount}
 
 -- no step of a process
 abbrev pub no_steps : StepCount

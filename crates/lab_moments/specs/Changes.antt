@@ -15,7 +15,7 @@ use Rattle.lab_told.specs.declared.told.Act.{Act}
 use Rattle.lab_told.specs.declared.told.Act.TheVariants.{Calls, Writes, Ends}
 use Rattle.lab_moments.specs.Objects.{object_data}
 use Rattle.lab_moments.specs.Values.{list, all_below}
-use Rattle.lab_moments.specs.declared.known.Known.{Known}
+use Rattle.lab_moments.specs.declared.holds.Known.{Known}
 
 -- nothing is known of any object
 abbrev pub none_known : List (Option Known)

@@ -13,7 +13,7 @@ use Rattle.lab_told.specs.Units.{units_of, balance}
 use Rattle.lab_told.specs.declared.told.Act.{Act}
 use Rattle.lab_moments.specs.Changes.{known_at, made_with}
 use Rattle.lab_moments.specs.Values.{list, natural}
-use Rattle.lab_moments.specs.declared.known.Known.{Known}
+use Rattle.lab_moments.specs.declared.holds.Known.{Known}
 use Rattle.lab_moments.specs.declared.holds.Hold.{Hold}
 
 -- whether a unit is of the semaphore in a place, and process p has taken it

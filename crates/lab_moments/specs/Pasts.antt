@@ -16,8 +16,8 @@ use Rattle.lab_moments.specs.Changes.{none_known, known_after}
 use Rattle.lab_moments.specs.Holds.{holds_after}
 use Rattle.lab_moments.specs.States.{shown_in}
 use Rattle.lab_moments.specs.Words.{first_seen, seen_with}
-use Rattle.lab_moments.specs.declared.between.StepCount.{StepCount}
-use Rattle.lab_moments.specs.declared.known.Known.{Known}
+use Rattle.lab_moments.specs.declared.past.StepCount.{StepCount}
+use Rattle.lab_moments.specs.declared.holds.Known.{Known}
 use Rattle.lab_moments.specs.declared.holds.Hold.{Hold}
 
 -- the steps since the last line, what was last told of the objects, the units that are taken, the steps that sent the messages

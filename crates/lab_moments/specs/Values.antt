@@ -2,7 +2,7 @@
 use Rattle.std.specs.Prelude.{ℕ, zero, suc, Option, Some, None, List, [], ◌∷◌, ◌++◌, map}
 use Rattle.serde_json.specs.Data.{Data, null, number, unsigned, array}
 use Rattle.serde_json.specs.View.{items_of}
-use Rattle.lab_sched.specs.declared.schedule.block.Block.{Block}
+use Rattle.lab_sched.specs.declared.schedule.Block.{Block}
 
 -- a list of values
 abbrev pub list : List Data → Data

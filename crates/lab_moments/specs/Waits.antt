@@ -13,7 +13,7 @@ use Rattle.lab_moments.specs.Changes.{known_at, made_with}
 use Rattle.lab_moments.specs.Objects.{awaited_at, takers}
 use Rattle.lab_moments.specs.Values.{list, natural, naturals, all_below}
 use Rattle.lab_moments.specs.declared.holds.Hold.{Hold}
-use Rattle.lab_moments.specs.declared.known.Known.{Known}
+use Rattle.lab_moments.specs.declared.holds.Known.{Known}
 
 -- process q, where it is another than process p and could serve its call on the object in a place
 unfoldable pub other_at : KernelState → ℕ → ℕ → Service → ℕ → List Data

@@ -6,8 +6,7 @@ ghost use Rattle.serde_json.specs.View.{view};
 ghost use Rattle.lab_moments.specs.Objects.{awaited_at};
 ghost use Rattle.lab_moments.specs.Waits.{blocker, blocker_in, blockers, circle_from, circles_data, followed, is_blocking, others, wait_in, waits_data};
 
-use crate::holds::Hold;
-use crate::known::{Known, made_with};
+use crate::holds::{Hold, Known, made_with};
 use crate::objects::{awaited_at, takers};
 use crate::values::{list_value, made_below};
 use ipc_traps::Service;
@@ -167,18 +166,6 @@ fn circle_from(alloc: Global, pid: usize, behind: &[usize]) -> Result<Option<Val
     Ok(Some(list_value(alloc, &circle)?))
 }
 
-/// The circle of which process `pid` is the least, where there is one.
-fn circle_of(
-    alloc: Global,
-    blockers: &[Option<usize>],
-    pid: usize,
-) -> Result<Option<Value>, AllocError>
-    ensures circle { IfOk result (λ v. option_to_list (option_map view v) ≡ circle_from pid
-        (followed blockers.now (length blockers.now) (blocker blockers.now pid))) }
-{
-    circle_from(alloc, pid, &followed(alloc, blockers, pid)?)
-}
-
 /// The circles of processes in a world, each by its least one, by the units that are taken.
 #[tactic(auto, unfolding(crate::specs::Waits::circles_data))]
 pub fn circles_value(alloc: Global, world: &World, holds: &[Hold]) -> Result<Value, AllocError>
@@ -186,7 +173,7 @@ pub fn circles_value(alloc: Global, world: &World, holds: &[Hold]) -> Result<Val
 {
     let blockers = blockers(alloc, world, holds)?;
     let circles = made_below(alloc, blockers.len(), |pid| {
-        circle_of(alloc, &blockers, pid)
+        circle_from(alloc, pid, &followed(alloc, &blockers, pid)?)
     })?;
     Ok(Value::Array(circles))
 }

@@ -5,7 +5,6 @@
 mod noting;
 mod rows;
 mod text;
-mod why;
 
 pub use noting::noted;
 pub use rows::{Noted, Refusal, Registers};

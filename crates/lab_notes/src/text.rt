@@ -1,10 +1,15 @@
 //! A note in words.
 ghost use Rattle.std.specs.Prelude.{◌≡◌, ◌++◌, OnOk, string_bytes};
 ghost use Rattle.lab_notes.specs.Texts.{more_text};
+ghost use Rattle.ipc_names.specs.declared.errno.Errno.TheVariants.{Invalid};
+ghost use Rattle.lab_notes.specs.Private.Why.{range_text, long_name_text, has_attributes, fault_text, size_fault, why_text};
 
-use crate::rows::Refusal;
-use crate::why::push_why;
+use crate::rows::{Refusal, Registers};
 use ipc_errors::error_name;
+use ipc_names::{Errno, Flags, O_CREAT};
+use ipc_objects::{MQ_PRIO_MAX, SEM_VALUE_MAX};
+use ipc_traps::{Service, is_in_memory};
+use lc3_word::Hex;
 use std::alloc::AllocError;
 
 /// Adds how many more were refused, where there are more.
@@ -32,4 +37,152 @@ pub fn push_note(
     )?;
     push_why(text, refusal)?;
     text.push_str(")")
+}
+
+const GREATEST_PRIORITY: u16 = MQ_PRIO_MAX - 1;
+
+/// How many words attributes are.
+const ATTRIBUTES: u16 = 4;
+
+/// Adds why a call was refused.
+pub fn push_why(text: &mut String, refusal: &Refusal) -> Result<(), AllocError>
+    ensures text { (refusal.now.error ≡ Invalid → ⊥) → OnOk result
+        (string_bytes text.new ≡ string_bytes text.old ++ why_text refusal.now) }
+{
+    let object = refusal.object.as_str();
+    let is_on_queues = refusal.service.is_on_queues();
+    let kind = if is_on_queues { "queue" } else { "semaphore" };
+    match refusal.error {
+        Errno::NoEntry => write!(text, "no {kind} is called {object}"),
+        Errno::BadDescriptor => {
+            let fault = match refusal.service {
+                Service::MqSend if refusal.is_open => "is not open to send",
+                Service::MqReceive if refusal.is_open => "is not open to receive",
+                _ => "is no descriptor",
+            };
+            write!(text, "{object} {fault}")
+        }
+        Errno::Again => text.push_str("it would have to wait"),
+        Errno::Fault => push_fault(text, refusal.service, refusal.registers, object),
+        Errno::Exists => write!(text, "a {kind} is called {object}"),
+        Errno::Invalid => push_invalid(text, refusal),
+        Errno::TooManyOpen if is_on_queues => text.push_str("no descriptor is free"),
+        Errno::TooManyOpen => text.push_str("no slot, or no open of it, is free"),
+        Errno::NoSpace => text.push_str("no place for objects is free"),
+        Errno::NameTooLong => write!(text, "the name at {object} has more than 255 characters"),
+        Errno::Overflow => write!(text, "{object} has its greatest value"),
+        Errno::MessageSize => {
+            let (length, fault) = (refusal.registers.r2, size_fault(refusal.service));
+            write!(text, "length {length}: {fault}")
+        }
+    }
+}
+
+/// What is wrong with a length.
+fn size_fault(service: Service) -> &'static str
+    ensures text { result.now ≡ size_fault service }
+{
+    match service {
+        Service::MqReceive => "the buffer is too short",
+        _ => "the message is too long",
+    }
+}
+
+/// Adds a range of memory that reaches the devices; a word is none of memory.
+fn push_range(text: &mut String, at: u16, count: u16) -> Result<(), AllocError>
+    ensures text { OnOk result (string_bytes text.new ≡ string_bytes text.old
+        ++ range_text at count) }
+{
+    let at = Hex(at);
+    if count == 1 {
+        write!(text, "{at} is no address of memory")
+    } else {
+        write!(text, "{count} words from {at} on reach xFE00")
+    }
+}
+
+/// Adds that a name, which is shown so, reaches the devices.
+fn push_long_name(text: &mut String, object: &str) -> Result<(), AllocError>
+    ensures text { OnOk result (string_bytes text.new ≡ string_bytes text.old
+        ++ long_name_text object.now) }
+{
+    write!(text, "the name at {object} reaches xFE00")
+}
+
+/// Whether mq_open is given attributes.
+fn has_attributes(registers: Registers) -> bool
+    ensures value { result ≡ has_attributes registers }
+{
+    registers.r1 & O_CREAT != 0 && registers.r2 != 0
+}
+
+/// Adds which range of memory reaches the devices.
+fn push_fault(
+    text: &mut String,
+    service: Service,
+    registers: Registers,
+    object: &str,
+) -> Result<(), AllocError>
+    ensures text { OnOk result (string_bytes text.new ≡ string_bytes text.old
+        ++ fault_text service registers object.now) }
+{
+    let Registers { r1, r2, r3 } = registers;
+    match service {
+        Service::MqOpen if has_attributes(registers) && !is_in_memory(r2, ATTRIBUTES) => {
+            push_range(text, r2, ATTRIBUTES)
+        }
+        Service::MqSend => push_range(text, r1, r2),
+        Service::MqReceive if is_in_memory(r1, r2) => push_range(text, r3, 1),
+        Service::MqReceive => push_range(text, r1, r2),
+        Service::MqGetattr => push_range(text, r1, ATTRIBUTES),
+        Service::MqSetattr if is_in_memory(r1, ATTRIBUTES) => push_range(text, r2, ATTRIBUTES),
+        Service::MqSetattr => push_range(text, r1, ATTRIBUTES),
+        Service::SemGetvalue => push_range(text, r1, 1),
+        _ => push_long_name(text, object),
+    }
+}
+
+/// Adds which argument is none that the call takes.
+fn push_invalid(text: &mut String, refusal: &Refusal) -> Result<(), AllocError> {
+    let object = refusal.object.as_str();
+    let Registers { r1, r2, r3 } = refusal.registers;
+    match refusal.service {
+        Service::MqOpen => push_invalid_open(text, refusal),
+        Service::SemOpen if r1 & O_CREAT != 0 && r2 > SEM_VALUE_MAX => {
+            write!(text, "the value {r2} is above {SEM_VALUE_MAX}")
+        }
+        Service::SemOpen | Service::MqUnlink | Service::SemUnlink => push_no_name(text, object),
+        Service::MqSend => write!(text, "the priority {r3} is above {GREATEST_PRIORITY}"),
+        Service::MqSetattr => {
+            let at = Hex(r1);
+            write!(text, "the flags at {at}")
+        }
+        _ => write!(text, "{object} is no slot"),
+    }
+}
+
+/// Adds which argument of mq_open is none that it takes.
+fn push_invalid_open(text: &mut String, refusal: &Refusal) -> Result<(), AllocError> {
+    let object = refusal.object.as_str();
+    let Registers { r1, r2, .. } = refusal.registers;
+    if Flags::read(r1).is_err() {
+        let flags = Hex(r1);
+        return write!(text, "{flags} are no flags");
+    }
+    // a name that is shown has its slash and no other one, and no blank
+    let rest = object.strip_prefix('/').unwrap_or("");
+    let may_be_name = !rest.is_empty() && !rest.contains('/') && !rest.contains(' ');
+    if !has_attributes(refusal.registers) || !may_be_name {
+        return push_no_name(text, object);
+    }
+    let at = Hex(r2);
+    if object.contains('\\') {
+        write!(text, "the form of the name, or an attribute at {at}")
+    } else {
+        write!(text, "an attribute at {at}")
+    }
+}
+
+fn push_no_name(text: &mut String, shown: &str) -> Result<(), AllocError> {
+    write!(text, "\"{shown}\" is no name")
 }

@@ -2,9 +2,9 @@
 use Rattle.std.proofs.Common.{Bool, List, refl}
 use Rattle.lab_moments.proofs.PlainLemmas.{IsPlain, plain}
 use Rattle.lab_page.specs.Asked.{asked_data, asked_list, shown_data}
-use Rattle.lab_page.specs.declared.asked.Asked.{Asked}
-use Rattle.lab_page.specs.declared.asked.ShownRun.{ShownRun}
-use Rattle.lab_page.specs.declared.asked.ShownRun.TheVariants.{End, Other}
+use Rattle.lab_page.specs.declared.ends.Asked.{Asked}
+use Rattle.lab_page.specs.declared.ends.ShownRun.{ShownRun}
+use Rattle.lab_page.specs.declared.ends.ShownRun.TheVariants.{End, Other}
 
 shown-plain : (r : ShownRun) → IsPlain (shown_data r)
 shown-plain (End n) = refl

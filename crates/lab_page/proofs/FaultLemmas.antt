@@ -2,11 +2,11 @@
 use Rattle.std.proofs.Common.{◌≡◌, ℕ, List, ◌++◌, sym, ap, ◌∙◌, append_assoc, arith, length-append}
 use Rattle.serde_json.specs.Data.{Data}
 use Rattle.lab_sched.specs.Worlds.{WorldState}
-use Rattle.lab_sched.specs.declared.schedule.block.Block.{Block}
+use Rattle.lab_sched.specs.declared.schedule.Block.{Block}
 use Rattle.lab_page.specs.Private.Json.{more_json}
 use Rattle.lab_page.specs.Faults.{Explains, IsFault}
-use Rattle.lab_page.specs.declared.fault.PageFault.{PageFault}
-use Rattle.lab_page.specs.declared.fault.PageFault.TheVariants.{NoProcess, TooLarge, NoMemory}
+use Rattle.lab_page.specs.declared.paging.PageFault.{PageFault}
+use Rattle.lab_page.specs.declared.paging.PageFault.TheVariants.{NoProcess, TooLarge, NoMemory}
 use Rattle.lab_page.proofs.JsonLemmas.{more-append}
 
 -- JSON that is too long is so with more behind it

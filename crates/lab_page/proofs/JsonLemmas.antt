@@ -8,7 +8,7 @@ use Rattle.serde_json.proofs.OnLiterals.{serde_json_on_literals}
 use Rattle.lab_page.specs.Ends.{end_data}
 use Rattle.lab_page.specs.Private.Json.{more_json, run_end, end_json, page_json}
 use Rattle.lab_page.specs.Runs.{run_with, page_data}
-use Rattle.lab_page.specs.declared.stores.Stored.{Stored}
+use Rattle.lab_page.specs.declared.run.Stored.{Stored}
 
 pub more-append : (xs ys : List Data) → more_json (xs ++ ys) ≡ more_json xs ++ more_json ys
 more-append xs ys = flat_map-append (λ (d : Data). 44 ∷ compact_text d) xs ys

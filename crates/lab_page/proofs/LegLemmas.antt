@@ -4,7 +4,7 @@ use Rattle.std.specs.Prelude.{OnOk}
 use Rattle.serde_json.specs.Data.{Data}
 use Rattle.serde_json.specs.Written.{has_float}
 use Rattle.lab_sched.specs.Worlds.{WorldState, nothing, step_effect_in}
-use Rattle.lab_sched.specs.declared.schedule.block.Block.{Block}
+use Rattle.lab_sched.specs.declared.schedule.Block.{Block}
 use Rattle.lab_told.specs.Scenes.{Scene, told, next}
 use Rattle.lab_told.specs.Tellings.{AreThere, IsNext, TellsAll}
 use Rattle.lab_told.specs.declared.telling.Taken.{Taken}

@@ -11,7 +11,7 @@ use Rattle.lab_trace.specs.Forms.{Form}
 use Rattle.lab_moments.specs.Between.{between_after}
 use Rattle.lab_moments.specs.Moments.{moment_by}
 use Rattle.lab_moments.specs.Pasts.{Past, past_after}
-use Rattle.lab_moments.specs.declared.between.StepCount.{StepCount}
+use Rattle.lab_moments.specs.declared.past.StepCount.{StepCount}
 use Rattle.lab_moments.proofs.BetweenLemmas.{after-more}
 use Rattle.lab_page.specs.Moments.{moment, moments, past_by, next_past, past_then}
 

@@ -4,7 +4,7 @@ use Rattle.std.specs.Option.{option_map}
 use Rattle.serde_json.specs.Written.{compact_text}
 use Rattle.lab_sched.specs.Schedules.{steps_of}
 use Rattle.lab_sched.specs.Worlds.{Process, WorldState}
-use Rattle.lab_sched.specs.declared.schedule.block.Block.{Block}
+use Rattle.lab_sched.specs.declared.schedule.Block.{Block}
 use Rattle.lab_sources.specs.declared.source.Source.{Source}
 use Rattle.lab_told.specs.Scenes.{Scene, first_scene, scene_after}
 use Rattle.lab_trace.specs.Lines.{events}
@@ -19,7 +19,7 @@ use Rattle.lab_page.specs.Moments.{moments, past_then}
 use Rattle.lab_page.specs.Private.Json.{more_json, run_end}
 use Rattle.lab_page.specs.Runs.{schedule_data, output_of, outcome_at, is_whole, run_from, run_data}
 use Rattle.lab_page.specs.declared.ends.Endless.{Endless}
-use Rattle.lab_page.specs.declared.fault.PageFault.{PageFault}
+use Rattle.lab_page.specs.declared.paging.PageFault.{PageFault}
 use Rattle.lab_moments.proofs.PlainLemmas.{IsPlain, plain}
 use Rattle.lab_moments.proofs.BetweenLemmas.{between-plain}
 use Rattle.lab_moments.proofs.WaitLemmas.{waits-plain, circles-plain}

@@ -4,7 +4,7 @@ use Rattle.std.specs.Prelude.{min, slice_index}
 use Rattle.std.proofs.lemmas.Bool.{cases_lt, cases_eq, eq-eqb}
 use Rattle.std.proofs.lemmas.List.{ext_get_or, length-set, length_push, set_past, get_or_past, get_or_push, get_or-map, get_or_append_left, get_or-set_same, get_or-set_other}
 use Rattle.lab_sched.specs.Schedules.{steps_of}
-use Rattle.lab_sched.specs.declared.schedule.block.Block.{Block}
+use Rattle.lab_sched.specs.declared.schedule.Block.{Block}
 use Rattle.lab_sched.specs.Worlds.{WorldState, nothing, step_effect_in, after, step}
 use Rattle.lab_sched.proofs.Commutes.{after_other}
 use Rattle.lab_told.specs.Scenes.{Scene, told, next}
@@ -20,7 +20,7 @@ use Rattle.lab_page.specs.Runs.{is_whole}
 use Rattle.lab_page.specs.Private.Stores.{Stores, all_held, stores_after, AddsStores}
 use Rattle.lab_page.specs.Stores.{source_in, origin_at, held_words, held_at, changed, changed_words, stored_by, stores_data, stores_from, stores_of}
 use Rattle.lab_page.specs.declared.source.Source.{Source}
-use Rattle.lab_page.specs.declared.stores.Stored.{Stored}
+use Rattle.lab_page.specs.declared.run.Stored.{Stored}
 
 abbrev kept : List (Option Source) → List (List ℕ) → List Stored → Stores
 kept ss held stored = record { sources = ss; held = held; stored = stored }

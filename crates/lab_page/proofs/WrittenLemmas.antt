@@ -18,7 +18,7 @@ use Rattle.lab_page.specs.Moments.{moment, moments, past_by, next_past, past_the
 use Rattle.lab_page.specs.Private.Json.{more_json}
 use Rattle.lab_page.specs.Private.Stores.{Stores, AddsStores}
 use Rattle.lab_page.specs.Private.Written.{Written, AddsStep, TellsStep, BreaksStep}
-use Rattle.lab_page.specs.declared.fault.PageFault.{PageFault}
+use Rattle.lab_page.specs.declared.paging.PageFault.{PageFault}
 use Rattle.lab_page.specs.declared.run.Look.{Look}
 use Rattle.lab_page.proofs.FaultLemmas.{fault-longer, regrouped}
 use Rattle.lab_page.proofs.JsonLemmas.{more-append}

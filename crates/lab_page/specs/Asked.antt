@@ -2,9 +2,9 @@
 use Rattle.std.specs.Prelude.{Bool, if◌then◌else◌, List, [], ◌∷◌, ℕ, map, codes, string_bytes}
 use Rattle.serde_json.specs.Data.{Data, string}
 use Rattle.lab_moments.specs.Values.{list, natural}
-use Rattle.lab_page.specs.declared.asked.Asked.{Asked}
-use Rattle.lab_page.specs.declared.asked.ShownRun.{ShownRun}
-use Rattle.lab_page.specs.declared.asked.ShownRun.TheVariants.{End, Other}
+use Rattle.lab_page.specs.declared.ends.Asked.{Asked}
+use Rattle.lab_page.specs.declared.ends.ShownRun.{ShownRun}
+use Rattle.lab_page.specs.declared.ends.ShownRun.TheVariants.{End, Other}
 
 -- how it is answered by an exploration that is complete or isn't: what isn't so was found; else all is so, or it isn't known
 abbrev pub answer_text : Bool → Bool → List ℕ

@@ -3,15 +3,15 @@ use Rattle.std.specs.Prelude.{ℕ, ◌+◌, nat_le, nat_lt, ◌&&◌, not, Bool,
 use Rattle.std.specs.Option.{option_map}
 use Rattle.serde_json.specs.Data.{Data, boolean}
 use Rattle.serde_json.specs.Written.{compact_text, comma_if}
-use Rattle.lab_sched.specs.declared.schedule.block.Block.{Block}
+use Rattle.lab_sched.specs.declared.schedule.Block.{Block}
 use Rattle.lab_template.specs.Limits.{most_ends, most_end_bytes}
 use Rattle.lab_page.specs.Runs.{schedule_data}
 use Rattle.lab_moments.specs.Values.{list, natural, or_null}
 use Rattle.lab_page.specs.declared.ends.Endless.{Endless as HeldEndless}
 use Rattle.lab_page.specs.Asked.{asked_list}
 use Rattle.lab_page.specs.Stores.{stores_data}
-use Rattle.lab_page.specs.declared.asked.Asked.{Asked}
-use Rattle.lab_page.specs.declared.stores.Stored.{Stored}
+use Rattle.lab_page.specs.declared.ends.Asked.{Asked}
+use Rattle.lab_page.specs.declared.run.Stored.{Stored}
 use Rattle.lab_page.specs.Worlds.{Worlds, worlds_json}
 use Rattle.lab_page.specs.declared.ends.Extent.{Extent}
 

@@ -2,11 +2,11 @@
 use Rattle.std.specs.Prelude.{◌≡◌, ◌<◌, ℕ, Some, List, length, ⊤}
 use Rattle.lab_sched.specs.Schedules.{steps_of}
 use Rattle.lab_sched.specs.Worlds.{WorldState}
-use Rattle.lab_sched.specs.declared.schedule.block.Block.{Block}
+use Rattle.lab_sched.specs.declared.schedule.Block.{Block}
 use Rattle.lab_trace.specs.Traces.{missing_after}
 use Rattle.lab_template.specs.Limits.{most_bytes}
-use Rattle.lab_page.specs.declared.fault.PageFault.{PageFault}
-use Rattle.lab_page.specs.declared.fault.PageFault.TheVariants.{NoProcess, TooLarge, NoMemory}
+use Rattle.lab_page.specs.declared.paging.PageFault.{PageFault}
+use Rattle.lab_page.specs.declared.paging.PageFault.TheVariants.{NoProcess, TooLarge, NoMemory}
 
 -- why there is no JSON of a run by a schedule: the schedule names a process that isn't there, the JSON has too many bytes, or
 -- memory was refused

@@ -5,7 +5,7 @@ use Rattle.serde_json.specs.Written.{compact_text}
 use Rattle.lab_sched.specs.Schedules.{steps_of}
 use Rattle.lab_sched.specs.Verdicts.{verdict_of, verdict_word}
 use Rattle.lab_sched.specs.Worlds.{Process, WorldState, machine_of}
-use Rattle.lab_sched.specs.declared.schedule.block.Block.{Block}
+use Rattle.lab_sched.specs.declared.schedule.Block.{Block}
 use Rattle.lab_texts.specs.Reports.{report_text}
 use Rattle.lab_trace.specs.Ends.{end_lines}
 use Rattle.lab_trace.specs.Forms.{Form, form_for}
@@ -18,7 +18,7 @@ use Rattle.lab_moments.specs.Pasts.{Past, first_past}
 use Rattle.lab_page.specs.Moments.{moments, past_then}
 use Rattle.lab_page.specs.Sources.{Source, programs}
 use Rattle.lab_page.specs.Stores.{stores_data}
-use Rattle.lab_page.specs.declared.stores.Stored.{Stored}
+use Rattle.lab_page.specs.declared.run.Stored.{Stored}
 use Rattle.lab_moments.specs.States.{states}
 use Rattle.lab_moments.specs.Values.{block_data, list, naturals, all_below}
 use Rattle.lab_moments.specs.Waits.{waits_data, circles_data}

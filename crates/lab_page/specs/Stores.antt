@@ -4,12 +4,12 @@ use Rattle.std.specs.Option.{option_and_then, option_map_or}
 use Rattle.serde_json.specs.Data.{Data}
 use Rattle.lab_sched.specs.Schedules.{steps_of}
 use Rattle.lab_sched.specs.Worlds.{Process, WorldState, machine_of, step}
-use Rattle.lab_sched.specs.declared.schedule.block.Block.{Block}
+use Rattle.lab_sched.specs.declared.schedule.Block.{Block}
 use Rattle.lab_template.specs.Limits.{most_whole}
 use Rattle.lab_moments.specs.States.{memory_from}
 use Rattle.lab_moments.specs.Values.{list, natural, all_below}
 use Rattle.lab_page.specs.declared.source.Source.{Source}
-use Rattle.lab_page.specs.declared.stores.Stored.{Stored}
+use Rattle.lab_page.specs.declared.run.Stored.{Stored}
 
 -- the source of process p, where there is one
 abbrev pub source_in : List (Option Source) → ℕ → Option Source

@@ -10,16 +10,15 @@ ghost use Rattle.lab_page.specs.Private.Json.{end_json};
 ghost use Rattle.lab_page.specs.Runs.{run_data};
 ghost use Rattle.lab_page.specs.Stores.{stores_of};
 ghost use Rattle.lab_moments.specs.Values.{or_null};
-ghost use Rattle.lab_page.specs.declared.fault.PageFault.TheVariants.{TooLarge};
+ghost use Rattle.lab_page.specs.declared.paging.PageFault.TheVariants.{TooLarge};
+ghost use Rattle.lab_page.specs.Asked.{asked_data, asked_list};
 
-use crate::asked::{Asked, asked_value};
-use crate::fault::PageFault;
-use crate::json::{push_behind, push_parts};
-use crate::outcome::schedule_value;
+use crate::moments::{push_behind, push_parts, schedule_value};
+use crate::paging::PageFault;
 use crate::run::{WrittenRun, written_run};
 use crate::source::Source;
 use crate::worlds::{Worlds, push_worlds};
-use lab_moments::list_value;
+use lab_moments::{AsData, list_value};
 use lab_sched::{Schedule, World};
 use lab_template::{MOST_END_BYTES, MOST_ENDS};
 use serde_json::{Value, json};
@@ -253,4 +252,60 @@ pub fn ends_json(alloc: Global, processes: &Value, found: &Found<'_>) -> Result<
     push_worlds(&mut json, found.worlds)?;
     json.extend_from_slice(b"}")?;
     Ok(json)
+}
+
+/// A run on a page of ends, by its number, counted from 0.
+#[derive(Clone, Copy, Debug, PartialEq, Eq)]
+pub enum ShownRun {
+    /// The run to an end.
+    End(usize),
+    /// A run beside those.
+    Other(usize),
+}
+
+/// Something that was asked, and what was found.
+#[derive(Drop)]
+pub struct Asked {
+    /// The words that ask it.
+    pub text: String,
+    /// Whether something isn't as it was asked.
+    pub failed: bool,
+    /// The runs on the page that show that.
+    pub runs: Vec<ShownRun>,
+}
+
+impl AsData for ShownRun {
+    ghost use Rattle.lab_page.specs.Asked.{shown_data};
+
+    ghost form = { shown_data };
+
+    fn value(&self, alloc: Global) -> Result<Value, AllocError> {
+        match *self {
+            ShownRun::End(number) => json!(in alloc; ["end", number]),
+            ShownRun::Other(number) => json!(in alloc; ["run", number]),
+        }
+    }
+}
+
+#[tactic(auto, unfolding(crate::specs::Asked::asked_data))]
+fn one_value(alloc: Global, asked: &Asked, complete: bool) -> Result<Value, AllocError>
+    ensures value { IfOk result (λ v. view v ≡ asked_data complete asked.now) }
+{
+    let answer = match (asked.failed, complete) {
+        (true, _) => "not met",
+        (false, true) => "met",
+        (false, false) => "not known",
+    };
+    json!(in alloc; [&asked.text, answer, list_value(alloc, &asked.runs)?])
+}
+
+/// What was asked of an exploration that is complete or isn't, with the answers.
+pub fn asked_value(alloc: Global, asked: &[Asked], complete: bool) -> Result<Value, AllocError>
+    ensures value { IfOk result (λ v. view v ≡ asked_list complete asked.now) }
+{
+    let mut values = Vec::new(alloc);
+    for one in asked {
+        values.push(one_value(alloc, one, complete)?)?;
+    }
+    Ok(Value::Array(values))
 }

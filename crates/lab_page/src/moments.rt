@@ -1,5 +1,5 @@
-//! The moments of a run.
-ghost use Rattle.std.specs.Prelude.{◌≡◌, ◌<◌, ◌++◌, [], ℕ, false, OnOk, IfOk, IfErr, IfSome, length, codes};
+//! The moments of a run, and its end.
+ghost use Rattle.std.specs.Prelude.{◌≡◌, ◌<◌, ◌++◌, [], ℕ, false, OnOk, IfOk, IfErr, IfSome, length, codes, map, slice_get, flat_map};
 ghost use Rattle.std.specs.Option.{option_map, option_to_list};
 ghost use Rattle.serde_json.specs.View.{view};
 ghost use Rattle.serde_json.specs.Written.{compact_text, has_float};
@@ -11,17 +11,17 @@ ghost use Rattle.lab_moments.specs.Moments.{moment_by};
 ghost use Rattle.lab_moments.specs.Pasts.{first_past, past_after};
 ghost use Rattle.lab_moments.specs.States.{states};
 ghost use Rattle.lab_page.specs.Private.Json.{more_json, run_end};
-ghost use Rattle.lab_page.specs.Runs.{outcome_at, schedule_data};
+ghost use Rattle.lab_page.specs.Runs.{outcome_at, schedule_data, output_of, outputs, ended, left};
+ghost use Rattle.lab_page.specs.Worlds.{listed};
 
-use crate::fault::PageFault;
-use crate::json::push_behind;
-use crate::outcome::{outcome_value, push_run_end};
+use crate::paging::PageFault;
 use crate::run::Look;
-use lab_moments::{Past, moment_by, states};
+use lab_moments::{Past, between_value, circles_value, list_value, moment_by, states, waits_value};
 use lab_sched::{Schedule, World};
 use lab_template::MOST_BYTES;
+use lab_texts::report_text;
 use lab_told::{Taken, Tally};
-use lab_trace::{ending, step_line};
+use lab_trace::{Form, ending, stands, step_line};
 use serde_json::Value;
 use std::alloc::{AllocError, Global};
 use std::marker::Model;
@@ -137,4 +137,128 @@ impl Moments {
         let ending = ending(alloc, world, tally, &look.trace)?;
         self.lines.extend_from_slice(ending.as_bytes())
     }
+}
+
+/// The blocks of a schedule.
+pub fn schedule_value(alloc: Global, schedule: &Schedule) -> Result<Value, AllocError>
+    ensures value { IfOk result (λ v. view v ≡ schedule_data schedule.now) }
+{
+    list_value(alloc, schedule.blocks())
+}
+
+fn output_value(alloc: Global, world: &World, pid: usize) -> Result<Value, AllocError>
+    ensures value { IfOk result (λ v. view v ≡ output_of (slice_get world.now.processes pid)) }
+{
+    match world.process(pid) {
+        Some(process) => list_value(alloc, process.machine().output()),
+        None => Ok(Value::Null),
+    }
+}
+
+#[tactic(auto, using(lab_moments::proofs::ValueLemmas::below))]
+pub(crate) fn outputs(alloc: Global, world: &World) -> Result<Value, AllocError>
+    ensures value { IfOk result (λ v. view v ≡ outputs world.now) }
+{
+    let mut outputs = Vec::new(alloc);
+    for pid in 0..world.count() {
+        outputs.push(output_value(alloc, world, pid)?)?;
+    }
+    Ok(Value::Array(outputs))
+}
+
+/// How a run ended: the verdict, where the processes stand, the report, and what each has written.
+fn ended(
+    alloc: Global,
+    world: &World,
+    tally: &Tally,
+    form: &Form<'_>,
+) -> Result<Vec<Value>, AllocError>
+    ensures values { IfOk result (λ v. map view v.items ≡ ended form.now world.now tally.now) }
+{
+    let mut values = Vec::new(alloc);
+    values.push(Value::try_from_str(alloc, world.verdict().word())?)?;
+    values.push(Value::String(stands(alloc, world, tally, form)?))?;
+    values.push(Value::String(report_text(alloc, world)?))?;
+    values.push(outputs(alloc, world)?)?;
+    Ok(values)
+}
+
+/// What a run left, by what was kept of its steps.
+fn left(alloc: Global, world: &World, tally: &Tally, past: &Past) -> Result<Vec<Value>, AllocError>
+    ensures values { IfOk result (λ v. map view v.items ≡ left world.now tally.now past.now) }
+{
+    let mut values = Vec::new(alloc);
+    values.push(between_value(alloc, &past.between)?)?;
+    values.push(list_value(alloc, &past.holds)?)?;
+    values.push(list_value(alloc, &past.unreceived)?)?;
+    values.push(waits_value(alloc, world, tally, &past.objects)?)?;
+    values.push(circles_value(alloc, world, &past.holds)?)?;
+    values.push(past.words.value(alloc)?)?;
+    Ok(values)
+}
+
+#[tactic(auto, unfolding(crate::specs::Runs::outcome_at))]
+fn outcome_value(
+    alloc: Global,
+    world: &World,
+    tally: &Tally,
+    past: &Past,
+    form: &Form<'_>,
+) -> Result<Value, AllocError>
+    ensures value { (number : ℕ) → IfOk result (λ v. view v
+        ≡ outcome_at form.now (scene_at number world.now tally.now) past.now) }
+{
+    let mut values = ended(alloc, world, tally, form)?;
+    values.append(&mut left(alloc, world, tally, past)?)?;
+    Ok(Value::Array(values))
+}
+
+/// Adds what stands behind the moments of a run: its end and its schedule.
+#[tactic(auto, using(crate::proofs::RunLemmas::schedule_plain), unfolding(crate::specs::Private::Json::run_end))]
+fn push_run_end(
+    json: &mut Vec<u8>,
+    outcome: &Value,
+    schedule: &Schedule,
+    whole: bool,
+) -> Result<(), AllocError>
+    requires plain { has_float (view outcome.now) ≡ false }
+    ensures added { OnOk result (json.new.items ≡ json.old.items
+        ++ run_end (view outcome.now) (schedule_data schedule.now) whole) }
+{
+    let alloc = *json.allocator();
+    push_behind(json, "],\"outcome\":", outcome)?;
+    push_behind(json, ",\"schedule\":", &schedule_value(alloc, schedule)?)?;
+    push_behind(json, ",\"whole\":", &Value::Bool(whole))?;
+    Ok(json.push(b'}')?)
+}
+
+/// Adds a text and the JSON of a value.
+pub fn push_behind(json: &mut Vec<u8>, text: &str, value: &Value) -> Result<(), AllocError>
+    requires plain { has_float (view value.now) ≡ false }
+    ensures added { OnOk result (json.new.items
+        ≡ json.old.items ++ (text.now ++ compact_text (view value.now))) }
+{
+    let value = value.to_vec(*json.allocator())?;
+    json.extend_from_slice(text.as_bytes())?;
+    json.extend_from_slice(&value)
+}
+
+/// Adds the JSON of a value to that of a list, with a comma between them.
+pub fn push_listed(list: &mut Vec<u8>, value: &Value) -> Result<(), AllocError>
+    requires plain { has_float (view value.now) ≡ false }
+    ensures added { OnOk result (list.new.items ≡ listed list.old.items (view value.now)) }
+{
+    let comma = if list.is_empty() { "" } else { "," };
+    push_behind(list, comma, value)
+}
+
+/// Adds parts of JSON.
+pub fn push_parts(json: &mut Vec<u8>, parts: &[&[u8]]) -> Result<(), AllocError>
+    ensures added { OnOk result (json.new.items
+        ≡ json.old.items ++ flat_map (λ part. part.now) parts.now) }
+{
+    for part in parts {
+        json.extend_from_slice(part)?;
+    }
+    Ok(())
 }

@@ -5,16 +5,14 @@ ghost use Rattle.lab_sched.specs.Worlds.{run};
 ghost use Rattle.lab_trace.specs.Traces.{missing_after, trace_text};
 ghost use Rattle.lab_template.specs.Pages.{around, page_text, safe, HasNoTag};
 ghost use Rattle.lab_page.specs.Paged.{found_json, paged_json};
-ghost use Rattle.lab_page.specs.Faults.{Explains};
+ghost use Rattle.lab_page.specs.Faults.{Explains, IsFault};
 ghost use Rattle.lab_template.specs.Limits.{most_bytes};
-ghost use Rattle.lab_page.specs.Faults.{IsFault};
 ghost use Rattle.lab_page.specs.Private.Json.{page_json};
 ghost use Rattle.lab_page.specs.Sources.{programs, sources_shown};
-ghost use Rattle.lab_page.specs.declared.fault.PageFault.TheVariants.{NoProcess};
+ghost use Rattle.lab_page.specs.declared.paging.PageFault.TheVariants.{NoProcess, NoMemory};
 
 use crate::ends::{Found, ends_json};
-use crate::fault::PageFault;
-use crate::json::{push_behind, push_parts};
+use crate::moments::{push_behind, push_parts};
 use crate::run::{WrittenRun, written_run};
 use crate::source::{Source, programs};
 use lab_moments::list_value;
@@ -22,6 +20,7 @@ use lab_sched::{Schedule, World};
 use lab_sources::Source as Given;
 use lab_template::{MOST_BYTES, Template, page_with};
 use std::alloc::{AllocError, Global};
+use thiserror::Error;
 
 /// The page with these data as JSON, where they aren't too large.
 fn page_of(alloc: Global, template: &Template<'_>, json: &[u8]) -> Result<Vec<u8>, PageFault>
@@ -140,4 +139,26 @@ pub fn ends_page(
 {
     let processes = programs(alloc, count, roster.names, roster.sources)?;
     page_of(alloc, template, &ends_json(alloc, &processes, found)?)
+}
+
+/// Why there is no page of a trace.
+#[derive(Clone, Copy, Debug, PartialEq, Eq, Error)]
+pub enum PageFault {
+    /// After so many steps the schedule names a process that isn't there. No step was taken.
+    #[error("after {done} steps: NoProcess")]
+    NoProcess { done: u64 },
+    /// The data are longer than a page may hold.
+    #[error("too large")]
+    TooLarge,
+    /// Memory was refused.
+    #[error("out of memory")]
+    NoMemory,
+}
+
+impl From<AllocError> for PageFault {
+    ghost from_gives = { λ _ e. e ≡ NoMemory };
+
+    fn from(_refused: AllocError) -> PageFault {
+        PageFault::NoMemory
+    }
 }

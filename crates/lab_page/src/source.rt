@@ -140,14 +140,10 @@ fn source_behind(
     source_told(alloc, process, source, first)
 }
 
-/// The source of a process, where it has one.
 pub(crate) fn source_in(sources: &[Option<Source>], process: usize) -> Option<&Source>
     ensures source { option_map (λ s. s.now) result ≡ source_in sources.now process }
 {
-    match sources.get(process) {
-        Some(Some(source)) => Some(source),
-        _ => None,
-    }
+    sources.get(process)?.as_ref()
 }
 
 #[tactic(auto, using(crate::proofs::SourceLemmas::source_at_shown))]

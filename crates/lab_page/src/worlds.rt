@@ -1,5 +1,5 @@
 //! Worlds that an exploration visited, as a page holds them.
-ghost use Rattle.std.specs.Prelude.{◌≡◌, ◌<◌, ◌≤◌, ◌++◌, [], IfOk, OnOk, length, map, string_bytes};
+ghost use Rattle.std.specs.Prelude.{◌≡◌, ◌<◌, ◌≤◌, ◌++◌, [], IfOk, OnOk, length, map, string_bytes, ⊤, replicate};
 ghost use Rattle.std.specs.Option.{option_map, option_to_list};
 ghost use Rattle.serde_json.specs.View.{view};
 ghost use Rattle.serde_json.specs.Data.{string};
@@ -9,16 +9,16 @@ ghost use Rattle.lab_sched.specs.Verdicts.{verdict_word};
 ghost use Rattle.lab_sched.specs.Schedules.{most_steps};
 ghost use Rattle.lab_moments.specs.Values.{list, or_null};
 ghost use Rattle.lab_page.specs.Worlds.{node_data, objects, place_before, stand_text, standing_at, standing_data, standings, with_leg, with_node, worlds_json};
+ghost use Rattle.lab_told.specs.Scenes.{first_scene, told};
+ghost use Rattle.lab_page.specs.Legs.{leg_data, leg_events, told_data};
 
-use crate::json::{push_listed, push_parts};
-use crate::legs::leg_value;
-use crate::outcome::outputs;
+use crate::moments::{outputs, push_listed, push_parts};
 use ipc_kernel::{Kernel, OBJECT_PLACES};
-use lab_moments::{AsData, list_value, object_value, push_some};
-use lab_sched::{Process, Verdict, World};
+use lab_moments::{AsData, act_value, list_value, object_value, push_some};
+use lab_sched::{Block, Process, Verdict, World};
 use lab_texts::{Standing, how_name};
-use lab_told::{Tally, arguments_of, held_place, service_at};
-use lab_trace::push_call;
+use lab_told::{Taken, Tally, Telling, Told, arguments_of, held_place, service_at, tell_run};
+use lab_trace::{event_text, push_call};
 use lc3_word::Reg;
 use serde_json::{Value, json};
 use std::alloc::{AllocError, Global};
@@ -252,4 +252,76 @@ pub fn push_worlds(json: &mut Vec<u8>, worlds: &Option<Worlds>) -> Result<(), Al
     let edges = list_value(*json.allocator(), &worlds.edges)?.to_vec(*json.allocator())?;
     let (nodes, legs) = (worlds.json.as_slice(), worlds.legs.as_slice());
     push_parts(json, &[b"[[", nodes, b"],", &edges, b",[", legs, b"]]"])
+}
+
+/// Adds what happened in step `number` of a leg, where it has a line in a trace.
+#[tactic(auto, unfolding(crate::specs::Legs::event_data))]
+fn push_told(events: &mut Vec<Value>, number: u32, told: &Told) -> Result<(), AllocError>
+    ensures added { OnOk result (map view events.new.items ≡ map view events.old.items
+        ++ told_data number told.now) }
+{
+    let Told::Shown(event) = told else {
+        return Ok(());
+    };
+    let alloc = *events.allocator();
+    let text = event_text(alloc, event)?;
+    let act = act_value(alloc, &event.act)?;
+    Ok(events.push(json!(in alloc; [number, event.pc, text, act])?)?)
+}
+
+/// How a leg is told.
+struct ToldLeg;
+
+impl Telling<Vec<Value>> for ToldLeg {
+    type Fault = AllocError;
+
+    ghost tells = { λ _ s p old new. map view new.items
+        ≡ map view old.items ++ told_data s.number (told s p) };
+
+    ghost fails = { λ _ _ _ _ _ _. ⊤ };
+
+    ghost refused = { λ _ _ _ _ _ _. tt };
+
+    fn tell_step(
+        &self,
+        _alloc: Global,
+        events: &mut Vec<Value>,
+        taken: &Taken<'_>,
+    ) -> Result<(), AllocError> {
+        push_told(events, taken.number, taken.told)
+    }
+}
+
+/// Takes so many steps of a process, and tells what happened in them, as if no step had been before.
+fn leg_events(
+    alloc: Global,
+    world: &mut World,
+    pid: usize,
+    steps: u32,
+) -> Result<Vec<Value>, AllocError>
+    requires process { pid < length world.old.processes }
+    requires room { steps ≤ most_steps }
+    ensures events { IfOk result (λ v. map view v.items
+        ≡ leg_events (first_scene world.old) (replicate steps pid)) }
+{
+    let mut tally = Tally::new(alloc, world.count())?;
+    let mut events = Vec::new(alloc);
+    let block = Block { pid, count: steps };
+    tell_run(&ToldLeg, &mut events, world, &mut tally, &[block])?;
+    Ok(events)
+}
+
+/// Takes so many steps of a process: how many these are, and what happened in them.
+#[tactic(auto, unfolding(crate::specs::Legs::leg_data))]
+pub fn leg_value(
+    alloc: Global,
+    world: &mut World,
+    pid: usize,
+    steps: u32,
+) -> Result<Value, AllocError>
+    requires process { pid < length world.old.processes }
+    requires room { steps ≤ most_steps }
+    ensures value { IfOk result (λ v. view v ≡ leg_data world.old pid steps) }
+{
+    json!(in alloc; [steps, leg_events(alloc, world, pid, steps)?])
 }

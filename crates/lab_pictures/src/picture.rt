@@ -1,10 +1,13 @@
 //! Pictures of all worlds at calls.
-ghost use Rattle.std.specs.Prelude.{◌≤◌, All, IfOk, IfSome, length};
+ghost use Rattle.std.specs.Prelude.{◌≤◌, All, IfOk, IfSome, length, ◌≡◌, map};
 ghost use Rattle.lab_pictures.specs.Pictures.{IsNode, IsEndOfNode, HasEndAtRest, IsStep, HaveAllSteps, BeginsAt, HaveFewestNodeCalls};
+ghost use Rattle.lab_search.specs.Stored.{IsStore};
+ghost use Rattle.lab_explore.specs.Visits.{start_of, IsVisited, IsWhole};
+ghost use Rattle.lab_pictures.specs.Private.Drawn.{IsNodeOfRow, AreNodesOfRows, arrow_of, IsPictureOf};
 
-use crate::drawing::picture_of;
-use lab_explore::visit;
+use lab_explore::{Visited, depths_of, visit};
 use lab_sched::{Fresh, Schedule, World};
+use lab_states::depth_of;
 use lab_worlds::{End, ExploreFault, Limits, Observer, discard};
 use std::alloc::Global;
 
@@ -66,9 +69,80 @@ pub fn draw(alloc: Global, fresh: Fresh, limits: Limits) -> Result<Option<Pictur
         worlds: limits.worlds.min(MOST_DRAWN),
         ..limits
     };
-    let mut nobody = Nobody;
-    let visited = visit(alloc, fresh, limits, &mut nobody, false)?;
+    let visited = visit(alloc, fresh, limits, &mut Nobody, false)?;
     let picture = picture_of(&visited, alloc);
     discard(visited);
     Ok(picture?)
+}
+
+/// The node of a row of this depth.
+fn node_at(visited: &Visited, alloc: Global, at: usize, depth: u32) -> Result<Node, ExploreFault>
+    requires visited { IsVisited visited.now }
+    requires store { IsStore visited.now.store }
+    ensures node { IfOk result (λ n.
+        IsNodeOfRow (start_of visited.now) visited.now.store depth at n) }
+{
+    let walk = visited.walk_to(alloc, at)?;
+    if !walk.has_calls(depth) {
+        return Err(ExploreFault::Unvouched);
+    }
+    let end = if visited.may_rest(at) {
+        Some(visited.row_end(alloc, at, depth)?)
+    } else {
+        None
+    };
+    Ok(Node {
+        world: walk.world,
+        schedule: walk.schedule,
+        calls: walk.calls,
+        end,
+    })
+}
+
+fn nodes(visited: &Visited, alloc: Global, depths: &[u32]) -> Result<Vec<Node>, ExploreFault>
+    requires visited { IsVisited visited.now }
+    requires store { IsStore visited.now.store }
+    ensures nodes { IfOk result (λ nodes.
+        AreNodesOfRows (start_of visited.now) visited.now.store depths.now nodes.items) }
+{
+    let mut nodes = Vec::new(alloc);
+    for at in 0..visited.store.rows.len() {
+        let node = node_at(visited, alloc, at, depth_of(depths, at))?;
+        nodes.push(node)?;
+    }
+    Ok(nodes)
+}
+
+fn arrows(visited: &Visited, alloc: Global) -> Result<Vec<Arrow>, ExploreFault>
+    ensures arrows { IfOk result (λ arrows.
+        arrows.items ≡ map arrow_of visited.now.store.edges) }
+{
+    let mut arrows = Vec::with_capacity(alloc, visited.store.edges.len())?;
+    let mut row = 0;
+    for at in 0..visited.store.edges.len() {
+        let Some(edge) = visited.store.edges.get_after(at, row) else {
+            return Err(ExploreFault::Unvouched);
+        };
+        arrows.push(Arrow {
+            from: edge.from,
+            to: edge.to,
+            process: edge.pid as u32,
+        })?;
+        row = edge.from as usize;
+    }
+    Ok(arrows)
+}
+
+/// The picture of all rows, if they are all worlds, and no more than are drawn.
+fn picture_of(visited: &Visited, alloc: Global) -> Result<Option<Picture>, ExploreFault>
+    requires whole { IsWhole visited.now }
+    ensures picture { IfOk result (λ d. IfSome d (IsPictureOf (start_of visited.now))) }
+{
+    if !visited.complete || visited.store.rows.len() > MOST_DRAWN as usize {
+        return Ok(None);
+    }
+    let depths = depths_of(&visited.store, alloc)?;
+    let nodes = nodes(visited, alloc, depths.as_slice())?;
+    let arrows = arrows(visited, alloc)?;
+    Ok(Some(Picture { nodes, arrows }))
 }

@@ -11,7 +11,7 @@ use Rattle.lc3_asm.specs.declared.assembled.Row.{Row}
 use Rattle.lab_sources.specs.Labels.{word_at, nearest, label_text}
 use Rattle.lab_sources.specs.Rows.{row_at}
 use Rattle.lab_sources.specs.Places.{line_or_nothing}
-use Rattle.lab_sources.specs.declared.listing.Listing.{Listing}
+use Rattle.lab_sources.specs.declared.source.Listing.{Listing}
 use Rattle.lab_places.specs.Statuses.{StandingSeen, is_word, standing_in}
 
 -- a source: what it is assembled to, and its lines as they are shown

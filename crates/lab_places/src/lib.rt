@@ -2,10 +2,8 @@
 #![tactic(auto)]
 
 mod labels;
-mod numbered;
 mod placing;
 mod status;
 
 pub use labels::{address_in, has_label};
-pub use numbered::{Numbered, listed};
-pub use placing::{placed, placed_by};
+pub use placing::{Numbered, listed, placed, placed_by};

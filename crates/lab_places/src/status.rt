@@ -53,11 +53,10 @@ fn place_in(word: &[u8]) -> Option<u16>
     ensures value { result ≡ place_in word.now }
 {
     let (first, digits) = word.split_first()?;
-    if *first == b'x' {
-        in_memory(unsigned(16, digits)?)
-    } else {
-        None
+    if *first != b'x' {
+        return None;
     }
+    in_memory(unsigned(16, digits)?)
 }
 
 /// Where a line says that a process stands, if it is a status line and the process didn't end by HALT.

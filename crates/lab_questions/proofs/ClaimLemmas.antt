@@ -3,7 +3,7 @@ use Rattle.std.proofs.Common.{ℕ, ◌≡◌, ◌+◌, Bool, true, false, List, 
 use Rattle.std.specs.List.Sorted.{IsNonDecreasingBy}
 use Rattle.std.proofs.lemmas.Option.{slice_get-get_or}
 use Rattle.ipc_kernel.specs.Kernel.{KernelState}
-use Rattle.lab_sched.specs.declared.schedule.block.Block.{Block}
+use Rattle.lab_sched.specs.declared.schedule.Block.{Block}
 use Rattle.lab_sched.specs.declared.verdict.Verdict.TheVariants.{Stuck}
 use Rattle.lab_sched.specs.ScheduleTexts.{schedule_text}
 use Rattle.lab_sched.specs.Worlds.{WorldState, run}
@@ -11,7 +11,7 @@ use Rattle.lab_sched.specs.Verdicts.{IsVerdict, verdict_of}
 use Rattle.lab_sched.proofs.VerdictLemmas.{verdict_from}
 use Rattle.lab_texts.specs.Verdicts.{verdict_line, verdict_text}
 use Rattle.lab_texts.specs.Reports.{report_text, process_reports}
-use Rattle.lab_worlds.specs.declared.lassos.Lasso.{Lasso}
+use Rattle.lab_worlds.specs.declared.exploration.Lasso.{Lasso}
 use Rattle.lab_worlds.specs.declared.exploration.Exploration.{Exploration}
 use Rattle.lab_worlds.specs.Closed.{AreAtRest}
 use Rattle.lab_worlds.proofs.Pushes.{all_at}

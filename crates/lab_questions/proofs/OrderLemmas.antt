@@ -6,8 +6,8 @@ use Rattle.std.proofs.lemmas.List.Elements.{All-cons, All-contains, All-head, Al
 use Rattle.std.proofs.lemmas.List.Kept.{AllPairs-cons}
 use Rattle.std.proofs.lemmas.List.Quantifiers.{all_pairs_push}
 use Rattle.std.proofs.lemmas.Option.{get_or_from_slice_get, slice_get-get_or}
-use Rattle.lab_sched.specs.declared.schedule.block.Block.{Block}
-use Rattle.lab_questions.specs.declared.object.Object.{Object}
+use Rattle.lab_sched.specs.declared.schedule.Block.{Block}
+use Rattle.lab_questions.specs.declared.asking.Object.{Object}
 use Rattle.lab_questions.specs.Objects.{StandsBefore}
 use Rattle.lab_questions.specs.Private.Presences.{AddsNew, AreNamed, IsUnseen, unseen}
 

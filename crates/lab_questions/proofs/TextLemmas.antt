@@ -1,9 +1,9 @@
 -- The text of an exploration, and what stands in it.
 use Rattle.std.proofs.Common.{ℕ, zero, suc, ◌≡◌, ◌+◌, Bool, true, false, List, [], ◌∷◌, ◌++◌, Option, Some, None, slice_get, get_or, length, refl, sym, ap, subst, ◌∙◌, append-nil, append_assoc, codes, decimal, arith}
-use Rattle.lab_sched.specs.declared.schedule.block.Block.{Block}
+use Rattle.lab_sched.specs.declared.schedule.Block.{Block}
 use Rattle.lab_sched.specs.ScheduleTexts.{schedule_text}
 use Rattle.lab_worlds.specs.declared.ends.End.{End}
-use Rattle.lab_worlds.specs.declared.lassos.Lasso.{Lasso}
+use Rattle.lab_worlds.specs.declared.exploration.Lasso.{Lasso}
 use Rattle.lab_questions.specs.declared.asked.Show.{Show}
 use Rattle.lab_questions.specs.Lines.{AreLines, StandIn}
 use Rattle.lab_questions.specs.EndTexts.{text_of, schedule_line, end_lines, ends_text, endless_line, lasso_line, lasso_text, extent_text, extent_line}

@@ -5,9 +5,9 @@ use Rattle.std.specs.List.{cons_option}
 use Rattle.std.specs.Option.{option_and_then}
 use Rattle.std.proofs.lemmas.List.{length-map}
 use Rattle.std.proofs.lemmas.Slice.Zip.{length-zip}
-use Rattle.lab_questions.specs.declared.unmet.Judged.{Judged}
-use Rattle.lab_questions.specs.declared.unmet.Kind.{Kind}
-use Rattle.lab_questions.specs.declared.unmet.Kind.TheVariants.{Words, Outputs, Calls, Conditions}
+use Rattle.lab_questions.specs.declared.called.Judged.{Judged}
+use Rattle.lab_questions.specs.declared.called.Kind.{Kind}
+use Rattle.lab_questions.specs.declared.called.Kind.TheVariants.{Words, Outputs, Calls, Conditions}
 use Rattle.lab_questions.specs.Findings.{told_of}
 use Rattle.lab_questions.specs.Texts.{Unmet, unmet_lines}
 use Rattle.lab_questions.specs.Private.Rows.{rows, row_count, of_both, row_at, all_unmet, row_lines, told_row}

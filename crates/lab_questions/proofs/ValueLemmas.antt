@@ -10,10 +10,15 @@ use Rattle.lc3_word.specs.Words.{hexadecimal_text}
 use Rattle.lab_sched.specs.Worlds.{machine_of, Process}
 use Rattle.lab_worlds.specs.declared.ends.End.{End}
 use Rattle.lab_questions.specs.declared.asked.Show.{Show}
-use Rattle.lab_questions.specs.Findings.{end_or_null, ends_told}
+use Rattle.std.specs.Fmt.{decimal}
+use Rattle.ipc_kernel.specs.Kernel.{KernelState}
+use Rattle.lab_sched.specs.declared.schedule.Block.{Block}
+use Rattle.lab_sched.specs.Verdicts.{verdict_word}
+use Rattle.lab_questions.specs.Findings.{end_json, end_or_null, ends_told}
+use Rattle.lab_questions.specs.LeftMembers.{left_member}
 use Rattle.lab_questions.specs.Private.Rows.{comma_before}
-use Rattle.lab_questions.specs.ProcessMembers.{process_json, status_word, stop_member}
-use Rattle.lab_questions.specs.Values.{array_json, character_json, further_json, text_json, values_json}
+use Rattle.lab_questions.specs.ProcessMembers.{process_json, processes_json, status_word, stop_member}
+use Rattle.lab_questions.specs.Values.{array_json, character_json, further_json, schedule_json, text_json, values_json}
 use Rattle.lab_questions.proofs.ListLemmas.{flat_map-next}
 
 -- the value in a place
@@ -56,6 +61,17 @@ unfolding ends_told
 end_at show ends numbers k n within is =
     let same : 0 + k ≡ k = omega arith in
     numbered show ends 0 numbers k n (omega (arith, within, ends_count show ends numbers)) is ∙ ap (λ j. end_or_null show (j + 1) (slice_get ends n)) same
+
+-- the members of an end
+pub end_written : (show : Show) (n : ℕ) (e : End) (word : List ℕ) (kernel : KernelState) (blocks : List Block) → word ≡ verdict_word e.verdict → kernel ≡ e.world.kernel → blocks ≡ e.schedule
+    → codes "{\"end\":" ++ (decimal n ++ (codes ",\"processes\":" ++ (processes_json show.out e.world ++ (codes ",\"verdict\":\"" ++ (word ++ (codes "\"" ++ (left_member show.left kernel
+    ++ (codes ",\"schedule\":" ++ (schedule_json blocks ++ codes "}"))))))))) ≡ end_json show n e
+unfolding end_json
+end_written show n e word kernel blocks verdict held steps =
+    let rest = left_member show.left e.world.kernel ++ (codes ",\"schedule\":" ++ (schedule_json e.schedule ++ codes "}")) in
+    rw (verdict, held, steps)
+    (ap (λ t. codes "{\"end\":" ++ (decimal n ++ (codes ",\"processes\":" ++ (processes_json show.out e.world ++ (codes ",\"verdict\":\"" ++ t)))))
+    (sym (append_assoc (verdict_word e.verdict) (codes "\"") rest)))
 
 -- arrays of one value and of two
 pub one_listed : (a : List ℕ) → array_json (a ∷ []) ≡ codes "[" ++ (a ++ codes "]")

@@ -3,7 +3,7 @@ use Rattle.std.proofs.Common.{ℕ, zero, suc, ◌≡◌, ◌<◌, ◌≤◌, ◌
 use Rattle.std.proofs.lemmas.List.{take_more}
 use Rattle.std.proofs.lemmas.List.Elements.{All-contains, All-push}
 use Rattle.std.proofs.lemmas.Option.{slice_get-get_or}
-use Rattle.lab_sched.specs.declared.schedule.block.Block.{Block}
+use Rattle.lab_sched.specs.declared.schedule.Block.{Block}
 use Rattle.lab_sched.specs.Schedules.{steps_of}
 use Rattle.lab_sched.specs.Worlds.{WorldState, run}
 use Rattle.lab_conditions.specs.declared.never.Never.{Never}
@@ -12,7 +12,7 @@ use Rattle.lab_conditions.specs.Conditions.{PartHolds}
 use Rattle.lab_worlds.specs.Calls.{Both, Alongside}
 use Rattle.lab_worlds.proofs.Pushes.{all_at, alongside_push}
 use Rattle.lab_worlds.specs.Reached.{Violates, IsKept, ViolatesIfSome, KeptIfNone}
-use Rattle.lab_questions.specs.declared.object.Object.{Object}
+use Rattle.lab_questions.specs.declared.asking.Object.{Object}
 use Rattle.lab_questions.specs.Objects.{named, presence, IsOpened, IsNeverOpened, AreUnopened}
 use Rattle.lab_questions.specs.Private.Presences.{AsksFor, unseen}
 use Rattle.lab_questions.proofs.OrderLemmas.{unseen_all, unseen_each}

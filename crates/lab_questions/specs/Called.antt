@@ -1,7 +1,7 @@
 -- What is asked of calls on every way, and what is told of a way on which it isn't so.
 use Rattle.std.specs.Prelude.{ℕ, ◌≡◌, ◌⊎◌, Bool, Option, Some, List, All, slice_get}
 use Rattle.lab_sched.specs.ScheduleTexts.{schedule_text}
-use Rattle.lab_sched.specs.declared.schedule.block.Block.{Block}
+use Rattle.lab_sched.specs.declared.schedule.Block.{Block}
 use Rattle.lab_ways.specs.declared.ways.Ways.{Ways}
 use Rattle.lab_ways.specs.declared.ways.Ways.TheVariants.{Always, Without}
 use Rattle.lab_worlds.specs.declared.exploration.Exploration.{Exploration}

@@ -2,10 +2,10 @@
 use Rattle.std.specs.Prelude.{ℕ, ◌+◌, ◌≡◌, Bool, true, false, not, Option, Some, None, List, [], ◌∷◌, ◌++◌, codes, filter, bytes_eq, slice_get}
 use Rattle.std.specs.Fmt.{decimal}
 use Rattle.std.specs.Option.{option_and_then}
-use Rattle.lab_sched.specs.declared.schedule.block.Block.{Block}
+use Rattle.lab_sched.specs.declared.schedule.Block.{Block}
 use Rattle.lab_sched.specs.ScheduleTexts.{schedule_text}
 use Rattle.lab_worlds.specs.declared.ends.End.{End}
-use Rattle.lab_worlds.specs.declared.lassos.Lasso.{Lasso}
+use Rattle.lab_worlds.specs.declared.exploration.Lasso.{Lasso}
 use Rattle.lab_worlds.specs.Calls.{Alongside}
 use Rattle.lab_questions.specs.declared.asked.Show.{Show}
 use Rattle.lab_questions.specs.Shown.{shown_text}

@@ -3,11 +3,11 @@ use Rattle.std.specs.Prelude.{ℕ, ◌+◌, ◌&&◌, Bool, true, false, not, na
 use Rattle.std.specs.Fmt.{decimal}
 use Rattle.std.specs.Bool.{beq}
 use Rattle.std.specs.List.{enumerate_from}
-use Rattle.lab_sched.specs.declared.schedule.block.Block.{Block}
+use Rattle.lab_sched.specs.declared.schedule.Block.{Block}
 use Rattle.lab_sched.specs.Verdicts.{verdict_word}
 use Rattle.lab_worlds.specs.declared.ends.End.{End}
 use Rattle.lab_worlds.specs.declared.exploration.Exploration.{Exploration}
-use Rattle.lab_worlds.specs.declared.limits.Limits.{Limits}
+use Rattle.lab_worlds.specs.declared.exploration.Limits.{Limits}
 use Rattle.lab_worlds.specs.declared.random.Walks.{Walks}
 use Rattle.lab_questions.specs.declared.answers.Answers.{Answers}
 use Rattle.lab_questions.specs.declared.asked.Reach.{Reach}

@@ -1,9 +1,9 @@
 -- The values of the last members of the answers.
 use Rattle.std.specs.Prelude.{ℕ, Bool, true, false, List, [], ◌∷◌, Option, Some, None, codes, map}
-use Rattle.lab_worlds.specs.declared.lassos.Lasso.{Lasso}
+use Rattle.lab_worlds.specs.declared.exploration.Lasso.{Lasso}
 use Rattle.lab_questions.specs.declared.failure.Failure.{Failure}
 use Rattle.lab_questions.specs.declared.failure.Failure.TheVariants.{Incomplete}
-use Rattle.lab_questions.specs.declared.object.Object.{Object}
+use Rattle.lab_questions.specs.declared.asking.Object.{Object}
 use Rattle.lab_questions.specs.Objects.{object_text}
 use Rattle.lab_questions.specs.Values.{text_json, schedule_json, member, object_json}
 

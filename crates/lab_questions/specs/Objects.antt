@@ -1,6 +1,6 @@
 -- The semaphores and queues that conditions name, and whether any steps lead to a world that has them.
 use Rattle.std.specs.Prelude.{ℕ, ◌≡◌, ◌<◌, ◌⊎◌, Some, List, [], ◌∷◌, ◌++◌, All, Contains, codes, flat_map, slice_get}
-use Rattle.lab_sched.specs.declared.schedule.block.Block.{Block}
+use Rattle.lab_sched.specs.declared.schedule.Block.{Block}
 use Rattle.lab_sched.specs.Execution.{AreEffective}
 use Rattle.lab_sched.specs.Schedules.{steps_of}
 use Rattle.lab_sched.specs.Worlds.{WorldState, run}
@@ -10,8 +10,8 @@ use Rattle.lab_conditions.specs.declared.condition.Relation.TheVariants.{Less}
 use Rattle.lab_conditions.specs.declared.never.Never.{Never}
 use Rattle.lab_conditions.specs.declared.never.Never.TheVariants.{Holds, Lost, Refused}
 use Rattle.lab_conditions.specs.Conditions.{PartHolds}
-use Rattle.lab_questions.specs.declared.object.Object.{Object}
-use Rattle.lab_questions.specs.declared.object.Object.TheVariants as object
+use Rattle.lab_questions.specs.declared.asking.Object.{Object}
+use Rattle.lab_questions.specs.declared.asking.Object.TheVariants as object
 
 -- the object that a part of a condition names, if it names one
 abbrev pub objects_in : Part → List Object

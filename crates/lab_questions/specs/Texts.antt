@@ -4,8 +4,8 @@ use Rattle.std.specs.Fmt.{decimal}
 use Rattle.lab_sched.specs.ScheduleTexts.{schedule_text, reading}
 use Rattle.lab_conditions.specs.declared.never.Never.{Never}
 use Rattle.lab_conditions.specs.Written.{never_text}
-use Rattle.lab_worlds.specs.declared.lassos.Lasso.{Lasso}
-use Rattle.lab_sched.specs.declared.schedule.block.Block.{Block}
+use Rattle.lab_worlds.specs.declared.exploration.Lasso.{Lasso}
+use Rattle.lab_sched.specs.declared.schedule.Block.{Block}
 use Rattle.lab_worlds.specs.declared.ends.End.{End}
 use Rattle.lab_worlds.specs.declared.exploration.Exploration.{Exploration}
 use Rattle.lab_questions.specs.declared.asked.Asked.{Asked}

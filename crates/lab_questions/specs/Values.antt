@@ -1,7 +1,7 @@
 -- Values of JSON.
 use Rattle.std.specs.Prelude.{ℕ, ◌/◌, ◌%◌, ◌==◌, ◌&&◌, nat_le, if◌then◌else◌, Bool, false, List, [], ◌∷◌, ◌++◌, codes, flat_map}
 use Rattle.std.specs.Fmt.{digit_glyph}
-use Rattle.lab_sched.specs.declared.schedule.block.Block.{Block}
+use Rattle.lab_sched.specs.declared.schedule.Block.{Block}
 use Rattle.lab_sched.specs.ScheduleTexts.{schedule_text}
 
 -- a character by its number, as `\u00` and two hexadecimal digits

@@ -1,26 +1,26 @@
 //! Answers on what was found.
-ghost use Rattle.std.specs.Prelude.{◌≡◌, false, None, map, position, string_bytes, bytes_eq, All, IfOk, IfSome};
+ghost use Rattle.std.specs.Prelude.{◌≡◌, false, None, map, position, string_bytes, bytes_eq, All, IfOk, IfSome, ◌↔◌, IsTrue, Some, true, []};
 ghost use Rattle.std.specs.Option.{option_copied};
 ghost use Rattle.lab_questions.specs.EndTexts.{text_of, told_ends, AreTold, told_end};
 ghost use Rattle.lab_worlds.specs.Calls.{Alongside};
-ghost use Rattle.lab_questions.specs.Judgments.{IsAnswer};
-ghost use Rattle.lab_questions.specs.Outputs.{IsOutputAnswer};
+ghost use Rattle.lab_questions.specs.Judgments.{IsAnswer, Meets, IsFaultIn};
+ghost use Rattle.lab_questions.specs.Outputs.{IsOutputAnswer, IsOutputRefuted};
 ghost use Rattle.lab_questions.specs.Called.{AreAlways, IsFailureOfAll};
 ghost use Rattle.lab_questions.specs.Private.Says.{Says};
-ghost use Rattle.lab_questions.specs.Programs.{Passes};
+ghost use Rattle.lab_questions.specs.Programs.{Passes, IsRefuted};
 ghost use Rattle.lab_questions.specs.Shown.{shown_text};
-ghost use Rattle.lab_questions.specs.Texts.{answers_text};
+ghost use Rattle.lab_questions.specs.Texts.{answers_text, schedule_at};
+ghost use Rattle.lab_worlds.specs.Ends.{AreEnds};
 
+use crate::called::Judged;
 use crate::failure::whole_failure;
-use crate::judging::fault_in;
-use crate::output::faults_in;
-use crate::shown::shown_text;
-use crate::texts::tell;
-use crate::unmet::Judged;
+use crate::output::{faults_in, have_same_outputs, have_settled};
+use crate::texts::{shown_text, tell};
 use crate::{Asked, Failure, Object, Waiter, Word};
-use lab_sched::World;
+use lab_conditions::messages_in;
+use lab_sched::{Fresh, Verdict, World};
 use lab_ways::Ways;
-use lab_worlds::{End, Exploration};
+use lab_worlds::{End, Exploration, ExploreFault, Limits, Observer, Walks, walk_randomly};
 use std::alloc::{AllocError, Global};
 
 /// The answer on a word: the number of the first end, counted from 0, that isn't as the word
@@ -155,5 +155,84 @@ pub(crate) fn said_of(
         told: told.numbers,
         texts: told.texts,
         failure,
+    })
+}
+
+fn is_met(word: Word, waiters: &[Waiter], other: &World, world: &World) -> bool
+    ensures met { IsTrue result ↔ Meets word waiters.now other.now world.now }
+{
+    match word {
+        Word::Ended => have_settled(false, waiters, world),
+        Word::Stuck => matches!(world.verdict(), Verdict::Stuck),
+        Word::Halted => have_settled(true, waiters, world),
+        Word::Empty => messages_in(world.kernel()) == 0,
+        Word::Same => have_same_outputs(world, other),
+    }
+}
+
+/// The number of the first end, counted from 0, that isn't as a word requires, if there is one.
+pub(crate) fn fault_in(word: Word, waiters: &[Waiter], ends: &[End]) -> Option<usize>
+    ensures fault { IsFaultIn word waiters.now ends.now result }
+{
+    for number in 0..ends.len() {
+        if !is_met(word, waiters, &ends[0].world, &ends[number].world) {
+            return Some(number);
+        }
+    }
+    None
+}
+
+/// Takes walks through the interleavings of the programs of a laboratory, and judges each end to which
+/// one comes by each word and output. Where one isn't so, the schedules that are told with it lead to
+/// ends which show that. Walks never show that there is no other end, and meet no condition.
+pub fn ask_walks<O: Observer>(
+    alloc: Global,
+    fresh: Fresh,
+    limits: Limits,
+    walks: Walks,
+    asked: Asked,
+    observer: &mut O,
+) -> Result<Answers, ExploreFault>
+    ensures asked { IfOk result (λ a. a.asked ≡ asked) }
+    ensures text { IfOk result (λ a. string_bytes a.text
+        ≡ answers_text true asked a.exploration a.answers.items a.output_faults.items []) }
+    ensures numbers { IfOk result (λ a.
+        AreTold asked.show a.exploration.ends.items a.told.items) }
+    ensures texts { IfOk result (λ a. map string_bytes a.texts.items
+        ≡ map (text_of asked.show) (told_ends asked.show a.exploration.ends.items)) }
+    ensures words { IfOk result (λ a. map (λ x. x.word) a.answers.items ≡ asked.words.items) }
+    ensures answers { IfOk result (λ a.
+        All (IsAnswer asked.waiters.items a.exploration.ends.items) a.answers.items) }
+    ensures outputs { IfOk result (λ a. Alongside (IsOutputAnswer a.exploration.ends.items)
+        asked.outputs.items a.output_faults.items) }
+    ensures sound { IfOk result (λ a. AreEnds fresh a.exploration.ends.items) }
+    ensures refuted { IfOk result (λ a. All (λ x. IfSome x.fault (λ i.
+        IsRefuted x.word asked.waiters.items fresh (schedule_at a.exploration.ends.items 0)
+        (schedule_at a.exploration.ends.items i))) a.answers.items) }
+    ensures unwritten { IfOk result (λ a. Alongside (λ need fault. IfSome fault (λ i.
+        IsOutputRefuted need fresh (schedule_at a.exploration.ends.items i)))
+        asked.outputs.items a.output_faults.items) }
+    ensures ways { IfOk result (λ a. a.ways.items ≡ []) }
+    ensures unopened { IfOk result (λ a. a.unopened.items ≡ []) }
+    ensures open { IfOk result (λ a. a.exploration.complete ≡ false) }
+    ensures lasso { IfOk result (λ a. a.exploration.lasso ≡ None) }
+    ensures fails { IfOk result (λ a. a.failure ≡ None → ⊥) }
+    ensures failure { IfOk result (λ a.
+        IfSome a.failure (λ f. IsFailureOfAll asked.plain a.exploration a.answers.items
+        a.output_faults.items [] f)) }
+{
+    let exploration = walk_randomly(alloc, fresh, limits, walks, observer)?;
+    let said = said_of(alloc, &asked, &exploration, &[], true)?;
+    Ok(Answers {
+        asked,
+        exploration,
+        answers: said.answers,
+        output_faults: said.output_faults,
+        ways: Vec::new(alloc),
+        unopened: Vec::new(alloc),
+        text: said.text,
+        told: said.told,
+        texts: said.texts,
+        failure: said.failure,
     })
 }

@@ -1,5 +1,5 @@
 //! Explorations with what is required of their ends.
-ghost use Rattle.std.specs.Prelude.{◌≡◌, ◌↔◌, None, false, [], map, string_bytes, All, AllPairs, IfOk, IfSome, IsTrue};
+ghost use Rattle.std.specs.Prelude.{◌≡◌, ◌↔◌, None, false, [], map, string_bytes, All, AllPairs, IfOk, IfSome, IsTrue, ◌≤◌, ◌++◌, List, OnOk, drop, length, take, flat_map};
 ghost use Rattle.std.specs.List.Sorted.{IsNonDecreasingBy};
 ghost use Rattle.lab_ways.specs.Ways.{AreAllWays};
 ghost use Rattle.lab_worlds.specs.Calls.{Alongside};
@@ -10,20 +10,24 @@ ghost use Rattle.lab_worlds.specs.Fairness.{IsFairLasso, AreFairlyEndless, AreFa
 ghost use Rattle.lab_questions.specs.Claims.{SaysComplete, SaysEndless, SaysStuck, TellsEveryEnd};
 ghost use Rattle.lab_questions.specs.EndTexts.{text_of, told_ends, AreTold};
 ghost use Rattle.lab_questions.specs.Judgments.{IsAnswer, HasOtherVerdict, verdict_asked};
-ghost use Rattle.lab_questions.specs.Objects.{named, AreUnopened, StandsBefore};
+ghost use Rattle.lab_questions.specs.Objects.{named, AreUnopened, StandsBefore, presence, objects_in};
 ghost use Rattle.lab_questions.specs.Outputs.{IsOutputAnswer, IsOutputRefuted, AlwaysWritten};
 ghost use Rattle.lab_questions.specs.Programs.{TellEveryEnd, AlwaysMeet, ComeTo, IsRefuted, Passes};
 ghost use Rattle.lab_questions.specs.Called.{AreAlways, IsFailureOfAll};
 ghost use Rattle.lab_questions.specs.Texts.{schedule_at, answers_text};
+ghost use Rattle.lab_conditions.specs.declared.never.Never.{Never as Asking};
+ghost use Rattle.lab_questions.specs.Private.Presences.{AreNamed, AsksFor, unseen};
 
 use crate::answers::said_of;
 use crate::called::ways_in;
-use crate::presence::{unopened_in, watch};
 use crate::{Answers, Asked};
+use ipc_names::Name;
+use lab_conditions::{Condition, Never, Part, Relation};
 use lab_explore::explore;
-use lab_sched::Fresh;
+use lab_sched::{Fresh, Schedule};
 use lab_worlds::{ExploreFault, Limits, Observer, Workers};
-use std::alloc::Global;
+use std::alloc::{AllocError, Global};
+use std::fmt;
 use std::thread::Threads;
 
 /// Explores the programs of a laboratory, as far as the limits allow, and judges each end by each
@@ -155,4 +159,148 @@ pub fn ask<O: Observer, R: Threads + Sync>(
         texts: said.texts,
         failure: said.failure,
     })
+}
+
+/// Greater than each value of a semaphore, and than each number of messages in a queue.
+const MORE_THAN_ANY: u16 = 65_535;
+
+/// The part of a condition that holds of each world which has an object.
+fn part_of(object: &Object) -> Result<Part, AllocError>
+    ensures part { IfOk result (λ part. part ≡ presence object.now) }
+{
+    match object {
+        Object::Semaphore(name) => Ok(Part::Semaphore {
+            name: name.clone()?,
+            relation: Relation::Less,
+            value: MORE_THAN_ANY,
+        }),
+        Object::Queue(name) => Ok(Part::Queue {
+            name: name.clone()?,
+            relation: Relation::Less,
+            value: MORE_THAN_ANY,
+        }),
+    }
+}
+
+/// Adds, behind conditions, one for each object that they name, which holds of each world that has it; the objects, each once, in
+/// the order in which the conditions first name them.
+fn watch(alloc: Global, conditions: &mut Vec<Never>) -> Result<Vec<Object>, AllocError>
+    ensures asks { IfOk result (λ objects. (presences : List Asking)
+        × (conditions.new.items ≡ conditions.old.items ++ presences)
+        × Alongside AsksFor objects.items presences) }
+    ensures named { IfOk result (λ objects.
+        AreNamed (named conditions.old.items) (named conditions.old.items) objects.items) }
+{
+    let objects = named_in(alloc, conditions)?;
+    for object in &objects {
+        let part = part_of(object)?;
+        let parts = vec![in alloc; part]?;
+        let text = String::new(alloc);
+        conditions.push(Never::Holds(Condition { text, parts }))?;
+    }
+    Ok(objects)
+}
+
+fn unseen(
+    alloc: Global,
+    objects: &[Object],
+    seen: &[Option<Schedule>],
+) -> Result<Vec<Object>, AllocError>
+    ensures unseen { IfOk result (λ found. found.items ≡ unseen objects.now seen.now) }
+{
+    let mut unseen = Vec::new(alloc);
+    for number in 0..objects.len().min(seen.len()) {
+        let object = &objects[number];
+        match &seen[number] {
+            Some(_) => {}
+            None => unseen.push(object.clone()?)?,
+        }
+    }
+    Ok(unseen)
+}
+
+/// Takes the schedules behind the first ones, which are those of objects; the objects without one, if everything was visited.
+fn unopened_in(
+    alloc: Global,
+    complete: bool,
+    objects: Vec<Object>,
+    reached: &mut Vec<Option<Schedule>>,
+    asked: usize,
+) -> Result<Vec<Object>, AllocError>
+    requires there { asked ≤ length reached.old.items }
+    ensures first { OnOk result (reached.new.items ≡ take asked reached.old.items) }
+    ensures whole { IfOk result (λ unopened. IsTrue complete
+        → unopened.items ≡ unseen objects.items (drop asked reached.old.items)) }
+    ensures unknown { IfOk result (λ unopened. complete ≡ false → unopened.items ≡ []) }
+{
+    let seen = reached.split_off(asked)?;
+    if complete {
+        unseen(alloc, &objects, &seen)
+    } else {
+        Ok(Vec::new(alloc))
+    }
+}
+
+/// A semaphore or a queue, by its name. It is shown as a condition names it.
+#[derive(Clone, PartialEq, Eq, Drop)]
+pub enum Object {
+    Semaphore(Name),
+    Queue(Name),
+}
+
+impl fmt::Display for Object {
+    ghost use Rattle.std.specs.Prelude.{Some};
+    ghost use Rattle.lab_questions.specs.Objects.{object_text};
+
+    ghost output = { λ o. Some (object_text o) };
+
+    fn fmt<W: fmt::Write>(&self, f: &mut fmt::Formatter<W>) -> fmt::Result {
+        match self {
+            Object::Semaphore(name) => write!(f, "sem {}", name.text()),
+            Object::Queue(name) => write!(f, "mq {}", name.text()),
+        }
+    }
+}
+
+fn push_objects(objects: &mut Vec<Object>, parts: &[Part]) -> Result<(), AllocError>
+    ensures objects { OnOk result
+        (objects.new.items ≡ objects.old.items ++ flat_map objects_in parts.now) }
+{
+    for part in parts {
+        match part {
+            Part::Semaphore { name, .. } => objects.push(Object::Semaphore(name.clone()?))?,
+            Part::Queue { name, .. } => objects.push(Object::Queue(name.clone()?))?,
+            Part::Of { .. } | Part::MoreThan { .. } => {}
+        }
+    }
+    Ok(())
+}
+
+/// The objects that conditions name, as often as they do.
+fn all_named(alloc: Global, conditions: &[Never]) -> Result<Vec<Object>, AllocError>
+    ensures objects { IfOk result (λ objects. objects.items ≡ named conditions.now) }
+{
+    let mut objects = Vec::new(alloc);
+    for condition in conditions {
+        if let Never::Holds(condition) = condition {
+            push_objects(&mut objects, &condition.parts)?;
+        }
+    }
+    Ok(objects)
+}
+
+/// The objects that conditions name, each once, in the order in which they first do.
+fn named_in(alloc: Global, conditions: &[Never]) -> Result<Vec<Object>, AllocError>
+    ensures named { IfOk result (λ objects.
+        AreNamed (named conditions.now) (named conditions.now) objects.items) }
+{
+    let repeated = all_named(alloc, conditions)?;
+    let mut objects = Vec::new(alloc);
+    for object in &repeated {
+        if objects.contains(object) {
+            continue;
+        }
+        objects.push(object.clone()?)?;
+    }
+    Ok(objects)
 }

@@ -129,18 +129,19 @@ fn count_behind<'a, 'b>(words: &'a [&'b [u8]]) -> Option<(&'a [&'b [u8]], &'b [u
     }
 }
 
-/// What must be so.
-fn required_in(alloc: Global, words: &[&[u8]]) -> Result<Option<Pattern>, AllocError>
+/// What must be so, or what must never be, as what must be so on every way.
+fn pattern_in(alloc: Global, words: &[&[u8]], never: bool) -> Result<Option<Pattern>, AllocError>
     ensures pattern { IfOk result (λ read. IfSome read (λ pattern.
         Say (map (λ word. word.now) words.now) pattern)) }
-    ensures forbids { IfOk result (λ read. IfSome read (λ pattern. forbids pattern ≡ false)) }
+    ensures forbids { IfOk result (λ read. IfSome read (λ pattern. forbids pattern ≡ never)) }
 {
     match words {
         [calls, first, second, kinds @ ..]
-            if is_word("calls", calls) && is_word("in", first) && is_word("order", second) => {
-            Ok(kinds_in(alloc, kinds)?.map(Pattern::InOrder))
-        }
-        [calls, rest @ ..] if is_word("calls", calls) => {
+            if !never
+                && is_word("calls", calls)
+                && is_word("in", first)
+                && is_word("order", second) => { Ok(kinds_in(alloc, kinds)?.map(Pattern::InOrder)) }
+        [calls, rest @ ..] if !never && is_word("calls", calls) => {
             let Some((call, number)) = count_behind(rest) else {
                 return Ok(kind_in(alloc, rest)?.map(|kind| Pattern::AtLeast(kind, 1)));
             };
@@ -149,29 +150,19 @@ fn required_in(alloc: Global, words: &[&[u8]]) -> Result<Option<Pattern>, AllocE
             };
             Ok(call_count(number).map(|count| Pattern::AtLeast(kind, count)))
         }
-        [holds, names @ ..] if is_word("holds", holds) => {
+        [holds, names @ ..] if !never && is_word("holds", holds) => {
             let names = without(alloc, "and", names)?;
             if names.is_empty() || names.len() > MOST_NAMES {
                 return Ok(None);
             }
             Ok(names_in(alloc, &names)?.map(Pattern::Together))
         }
-        _ => Ok(None),
-    }
-}
-
-/// What must never be so, as what must be so on every way.
-fn forbidden_in(alloc: Global, words: &[&[u8]]) -> Result<Option<Pattern>, AllocError>
-    ensures pattern { IfOk result (λ read. IfSome read (λ pattern.
-        Say (map (λ word. word.now) words.now) pattern)) }
-    ensures forbids { IfOk result (λ read. IfSome read (λ pattern. forbids pattern ≡ true)) }
-{
-    match words {
         [calls, first, second, kinds @ ..]
-            if is_word("calls", calls) && is_word("other", first) && is_word("than", second) => {
-            Ok(kinds_in(alloc, kinds)?.map(Pattern::NoneBut))
-        }
-        [calls, kinds @ ..] if is_word("calls", calls) => {
+            if never
+                && is_word("calls", calls)
+                && is_word("other", first)
+                && is_word("than", second) => { Ok(kinds_in(alloc, kinds)?.map(Pattern::NoneBut)) }
+        [calls, kinds @ ..] if never && is_word("calls", calls) => {
             let kinds = without(alloc, "or", kinds)?;
             Ok(kinds_in(alloc, &kinds)?.map(Pattern::NoneOf))
         }
@@ -203,10 +194,6 @@ pub fn read_calls(alloc: Global, text: &str, never: bool) -> Result<Option<Wante
 {
     let words = words_between(alloc, b" ,", text.as_bytes())?;
     let (process, rest) = process_of(&words);
-    let pattern = if never {
-        forbidden_in(alloc, rest)
-    } else {
-        required_in(alloc, rest)
-    };
-    Ok(pattern?.map(|pattern| Wanted { process, pattern }))
+    let pattern = pattern_in(alloc, rest, never)?;
+    Ok(pattern.map(|pattern| Wanted { process, pattern }))
 }

@@ -1,13 +1,21 @@
 //! Why ends aren't as they are required to be.
-ghost use Rattle.std.specs.Prelude.{◌≡◌, false, Some, None, All, Any, IfSome, IsTrue, slice_get};
-ghost use Rattle.lab_questions.specs.Programs.{AsksRest, Passes, IsEndless, IsUnmet, IsFailure};
-ghost use Rattle.lab_questions.specs.Called.{AreAlways, IsFailureOfAll};
+ghost use Rattle.std.specs.Prelude.{◌≡◌, false, Some, None, All, Any, IfSome, slice_get, ◌⊎◌, ℕ, ◌≤◌, List, Ok, IfOk, length, string_bytes};
+ghost use Rattle.lab_questions.specs.Programs.{Passes, IsUnmet, IsFailure};
+ghost use Rattle.lab_questions.specs.Called.{AreAlways, IsFailureOfAll, ShowsWay};
 ghost use Rattle.lab_questions.specs.Private.CallFailures.{CallFails};
+ghost use Rattle.lab_sched.specs.ScheduleTexts.{reading, schedule_text};
+ghost use Rattle.lab_sched.specs.declared.schedule.Block.{Block};
+ghost use Rattle.lab_questions.specs.declared.failure.Failure.TheVariants.{Not, Output, Reached, Endless, Call, Incomplete};
+ghost use Rattle.lab_questions.specs.declared.asked.Word.{Word};
+ghost use Rattle.lab_ways.specs.declared.ways.Ways.TheVariants.{Without};
+ghost use Rattle.lab_questions.specs.Texts.{IsBeyond, IsTooLong, round_text, schedule_at, ShowsFault, ShowsOutput, ShowsReached, ShowsLasso};
 
-use crate::called::{are_always, first_against};
-use crate::{Answer, Word};
+use crate::called::first_against;
+use crate::{Answer, Answers, Word};
+use lab_sched::{SchedFault, Schedule};
 use lab_ways::Ways;
-use lab_worlds::Exploration;
+use lab_worlds::{End, Exploration, Lasso};
+use std::alloc::{AllocError, Global};
 
 /// Why an exploration doesn't show that all is as it is required.
 #[derive(Clone, Copy, Debug, PartialEq, Eq)]
@@ -27,7 +35,7 @@ pub enum Failure {
 }
 
 /// The first word that isn't so, and the number of the first end that shows it, counted from 0.
-pub(crate) fn first_unmet(answers: &[Answer]) -> Option<(Word, usize)>
+fn first_unmet(answers: &[Answer]) -> Option<(Word, usize)>
     ensures none { result ≡ None → All (λ a. a.fault ≡ None) answers.now }
     ensures word { IfSome result (λ unmet. IsUnmet answers.now unmet.0) }
     ensures fault { IfSome result (λ unmet. Any (λ a. a.fault ≡ Some unmet.1) answers.now) }
@@ -53,15 +61,6 @@ fn first_some<T>(all: &[Option<T>]) -> Option<usize>
     None
 }
 
-/// Whether some interleaving never ends, and a word asks that each run comes to rest.
-fn is_endless(found: &Exploration, answers: &[Answer]) -> bool
-    ensures yes { IsTrue result → IsEndless found.now answers.now }
-    ensures no { result ≡ false → Any (λ a. AsksRest a.word) answers.now
-        → found.now.lasso ≡ None }
-{
-    found.lasso.is_some() && answers.iter().any(|answer| answer.word.asks_rest())
-}
-
 /// What was found of ends, conditions and rounds, or else what wasn't visited, which counts first where no more is asked than a verdict.
 fn failure_of(
     found: &Exploration,
@@ -73,7 +72,7 @@ fn failure_of(
     ensures some { IfSome result (λ failure.
         IsFailure plain found.now answers.now faults.now failure) }
 {
-    let endless = is_endless(found, answers);
+    let endless = found.lasso.is_some() && answers.iter().any(|answer| answer.word.asks_rest());
     if plain && !found.complete {
         return Some(Failure::Incomplete);
     }
@@ -106,10 +105,7 @@ fn call_failure(ways: &[Ways], unknown: bool) -> Option<Failure>
     if let Some(number) = first_against(ways) {
         return Some(Failure::Call(number));
     }
-    if unknown {
-        return Some(Failure::Incomplete);
-    }
-    if !are_always(ways) {
+    if unknown || !ways.iter().all(|one| matches!(one, Ways::Always)) {
         return Some(Failure::Incomplete);
     }
     None
@@ -133,5 +129,99 @@ pub(crate) fn whole_failure(
         None => call_failure(ways, false),
         Some(Failure::Incomplete) => call_failure(ways, true),
         failure => failure,
+    }
+}
+
+/// The text of the schedule of end number `number`, counted from 0, if it is there.
+fn end_schedule(alloc: Global, ends: &[End], number: usize) -> Result<Option<String>, AllocError>
+    ensures some { IfOk result (λ shown. IfSome shown (λ text.
+        string_bytes text ≡ schedule_text (schedule_at ends.now number))) }
+    ensures none { IfOk result (λ shown. shown ≡ None → length ends.now ≤ number) }
+{
+    match ends.get(number) {
+        Some(end) => Ok(Some(end.schedule.text(alloc)?)),
+        None => Ok(None),
+    }
+}
+
+/// The schedule of a lasso with its steps behind it, as one schedule, unless they are too many for one.
+pub fn through_round(alloc: Global, lasso: &Lasso) -> Result<Option<Schedule>, AllocError>
+    ensures whole { IfOk result (λ read. IfSome read (λ whole.
+        reading (round_text lasso.now) ≡ Ok whole)) }
+    ensures none { IfOk result (λ read. read ≡ None → IsTooLong lasso.now) }
+{
+    let text = format!(in alloc; "{} {}", lasso.schedule, lasso.steps)?;
+    match Schedule::read(alloc, &text) {
+        Ok(whole) => Ok(Some(whole)),
+        Err(SchedFault::NoMemory) => Err(AllocError),
+        Err(SchedFault::BadBlock { .. }) | Err(SchedFault::TooLong { .. }) => Ok(None),
+    }
+}
+
+impl Answers {
+    /// The text of the schedule that shows the failure, if it has one: that of the first end that isn't as it is required,
+    /// that of the first condition that was reached, that of a lasso with its steps behind it, or that of a way.
+    pub fn bad_schedule(&self, alloc: Global) -> Result<Option<String>, AllocError>
+        ensures fault { IfOk result (λ shown. (word : Word) → self.now.failure ≡ Some (Not word)
+            → IfSome shown (λ text. ShowsFault self.now.exploration.ends.items
+            self.now.answers.items (string_bytes text))) }
+        ensures output { IfOk result (λ shown. (k : ℕ) → self.now.failure ≡ Some (Output k)
+            → IfSome shown (λ text. ShowsOutput self.now.exploration.ends.items
+            self.now.output_faults.items k (string_bytes text))) }
+        ensures reached { IfOk result (λ shown. (i : ℕ) → self.now.failure ≡ Some (Reached i)
+            → IfSome shown (λ text. ShowsReached self.now.exploration.reached.items i
+            (string_bytes text))) }
+        ensures lasso { IfOk result (λ shown. self.now.failure ≡ Some Endless
+            → IfSome shown (λ text. IfSome self.now.exploration.lasso (λ r.
+            ShowsLasso r (string_bytes text)))) }
+        ensures call { IfOk result (λ shown. (k : ℕ) → self.now.failure ≡ Some (Call k)
+            → IfSome shown (λ text. ShowsWay self.now.ways.items k (string_bytes text))) }
+        ensures no_fault { IfOk result (λ shown. (word : Word)
+            → self.now.failure ≡ Some (Not word) → shown ≡ None
+            → All (λ a. a.fault ≡ None) self.now.answers.items
+            ⊎ Any (IsBeyond (length self.now.exploration.ends.items)) self.now.answers.items) }
+        ensures no_output { IfOk result (λ shown. (k i : ℕ)
+            → self.now.failure ≡ Some (Output k) → shown ≡ None
+            → slice_get self.now.output_faults.items k ≡ Some (Some i)
+            → length self.now.exploration.ends.items ≤ i) }
+        ensures not_reached { IfOk result (λ shown. (i : ℕ)
+            → self.now.failure ≡ Some (Reached i) → shown ≡ None → (s : List Block)
+            → slice_get self.now.exploration.reached.items i ≡ Some (Some s) → ⊥) }
+        ensures too_long { IfOk result (λ shown. self.now.failure ≡ Some Endless
+            → shown ≡ None → IfSome self.now.exploration.lasso (λ r. IsTooLong r)) }
+        ensures no_call { IfOk result (λ shown. (k : ℕ)
+            → self.now.failure ≡ Some (Call k) → shown ≡ None → (s : List Block)
+            → slice_get self.now.ways.items k ≡ Some (Without s) → ⊥) }
+        ensures nothing { IfOk result (λ shown. self.now.failure ≡ None → shown ≡ None) }
+        ensures incomplete { IfOk result (λ shown.
+            self.now.failure ≡ Some Incomplete → shown ≡ None) }
+    {
+        let found = &self.exploration;
+        match self.failure {
+            Some(Failure::Not(_)) => match first_unmet(&self.answers) {
+                Some((_, number)) => end_schedule(alloc, &found.ends, number),
+                None => Ok(None),
+            },
+            Some(Failure::Output(number)) => match self.output_faults.get(number) {
+                Some(Some(at)) => end_schedule(alloc, &found.ends, *at),
+                _ => Ok(None),
+            },
+            Some(Failure::Reached(number)) => match found.reached.get(number) {
+                Some(Some(schedule)) => Ok(Some(schedule.text(alloc)?)),
+                _ => Ok(None),
+            },
+            Some(Failure::Endless) => match &found.lasso {
+                Some(lasso) => match through_round(alloc, lasso)? {
+                    Some(whole) => Ok(Some(whole.text(alloc)?)),
+                    None => Ok(None),
+                },
+                None => Ok(None),
+            },
+            Some(Failure::Call(number)) => match self.ways.get(number) {
+                Some(Ways::Without(schedule)) => Ok(Some(schedule.text(alloc)?)),
+                _ => Ok(None),
+            },
+            Some(Failure::Incomplete) | None => Ok(None),
+        }
     }
 }

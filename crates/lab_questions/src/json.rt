@@ -1,25 +1,22 @@
 //! The answers as one object.
-ghost use Rattle.std.specs.Prelude.{◌≡◌, Some, IfOk, map, string_bytes};
-ghost use Rattle.std.specs.Fmt.{decimal};
+ghost use Rattle.std.specs.Prelude.{◌≡◌, Some, IfOk, map, string_bytes, option_map};
 ghost use Rattle.std.specs.Option.{option_copied};
-ghost use Rattle.lab_questions.specs.Findings.{answers_line, found_part, last_part, limits_met, unit_text};
+ghost use Rattle.lab_questions.specs.Findings.{answers_line, found_part, last_part, limits_met, unit_text, schedules_json, unmet_json, unmet_told};
+ghost use Rattle.std.specs.Fmt.{decimal};
 ghost use Rattle.lab_questions.specs.Values.{array_json, member, name_json};
+ghost use Rattle.lab_questions.specs.Members.{objects_told, lasso_json, holds_json};
+ghost use Rattle.lab_questions.specs.Private.Rows.{unmet_of};
 
-mod closing;
 mod ends;
-mod faults;
-mod left;
-mod limit;
 mod values;
 
-use crate::json::closing::{Cycle, Objects, holds_name};
-use crate::json::ends::Ends;
-use crate::json::faults::UnmetArray;
-use crate::json::limit::Limit;
-use crate::json::values::{Array, Quoted};
+use crate::called::{Judged, Unmet, unmet_told};
+use crate::json::ends::{Ends, Limit};
+use crate::json::values::{Array, Characters, Quoted, StepsValue, Text, Values};
 use crate::texts::extent_of;
-use crate::{Answers, LimitMet, Reach};
-use lab_worlds::{Exploration, Walks};
+use crate::{Answers, Failure, LimitMet, Object, Reach};
+use lab_sched::Steps;
+use lab_worlds::{Exploration, Lasso, Walks};
 use std::alloc::{AllocError, Global};
 use std::fmt;
 
@@ -128,4 +125,119 @@ pub fn answers_json(
     let visited = Visited(reach.walks, found.worlds);
     let rest = Found { alloc, answers };
     format!(in alloc; "{{\"search\":{search},\"limits\":{limits},\"limit\":{limit},{visited}{rest}")
+}
+
+/// Objects, each as a condition names it.
+#[derive(Clone, Copy)]
+pub(crate) struct Objects<'a>(pub &'a [Object]);
+
+impl Values for Objects<'_> {
+    ghost values = { λ o. objects_told o.0.now };
+
+    fn count(&self) -> usize {
+        self.0.len()
+    }
+
+    #[tactic(auto, using(crate::proofs::ValueLemmas::value_at, crate::proofs::ValueLemmas::semaphore_told, crate::proofs::ValueLemmas::queue_told))]
+    fn write<W: fmt::Write>(&self, place: usize, f: &mut fmt::Formatter<W>) -> fmt::Result {
+        match &self.0[place] {
+            Object::Semaphore(name) => write!(f, "\"sem {}\"", Characters(name.text().as_bytes())),
+            Object::Queue(name) => write!(f, "\"mq {}\"", Characters(name.text().as_bytes())),
+        }
+    }
+}
+
+/// A lasso, or `null`.
+#[derive(Clone, Copy)]
+struct Cycle<'a>(pub &'a Option<Lasso>);
+
+impl fmt::Display for Cycle<'_> {
+    ghost output = { λ r. Some (lasso_json r.0.now) };
+
+    #[tactic(auto, unfolding(crate::specs::Members::cycle_json))]
+    fn fmt<W: fmt::Write>(&self, f: &mut fmt::Formatter<W>) -> fmt::Result {
+        let Some(lasso) = self.0 else {
+            return write!(f, "null");
+        };
+        let schedule = StepsValue(Steps(lasso.schedule.blocks()));
+        let round = StepsValue(Steps(lasso.steps.blocks()));
+        write!(f, "{{\"schedule\":{schedule},\"round\":{round}}}")
+    }
+}
+
+/// Whether all is as it has to be, where something has to be so and that is known.
+fn holds_name(judged: bool, failure: Option<Failure>) -> &'static str
+    ensures text { result.now ≡ holds_json judged failure }
+{
+    match failure {
+        _ if !judged => "null",
+        None => "true",
+        Some(Failure::Incomplete) => "null",
+        Some(_) => "false",
+    }
+}
+
+/// The schedules that show that something isn't so, as an array.
+#[derive(Clone, Copy)]
+struct Schedules<'a>(Option<Steps<'a>>, Steps<'a>);
+
+impl fmt::Display for Schedules<'_> {
+    ghost output = { λ s. Some (schedules_json (option_map (λ first. first.0.now) s.0) s.1.0.now) };
+
+    #[tactic(auto, using(crate::proofs::ValueLemmas::one_listed, crate::proofs::ValueLemmas::two_listed))]
+    fn fmt<W: fmt::Write>(&self, f: &mut fmt::Formatter<W>) -> fmt::Result {
+        let steps = StepsValue(self.1);
+        match self.0 {
+            Some(first) => {
+                let first = StepsValue(first);
+                write!(f, "[{first},{steps}]")
+            }
+            None => write!(f, "[{steps}]"),
+        }
+    }
+}
+
+#[derive(Clone, Copy)]
+struct Unmets<'a>(&'a [Unmet<'a>]);
+
+impl Values for Unmets<'_> {
+    ghost values = { λ u. map (λ unmet. unmet_json (unmet_of unmet)) u.0.now };
+
+    fn count(&self) -> usize {
+        self.0.len()
+    }
+
+    #[tactic(auto, using(crate::proofs::ValueLemmas::value_at), unfolding(crate::specs::Findings::unmet_json))]
+    fn write<W: fmt::Write>(&self, place: usize, f: &mut fmt::Formatter<W>) -> fmt::Result {
+        let unmet = self.0[place];
+        let asked = Text(unmet.asked.as_bytes());
+        if unmet.never {
+            let schedule = StepsValue(unmet.steps);
+            return write!(f, "{{\"never\":{asked},\"schedule\":{schedule}}}");
+        }
+        let schedules = Schedules(unmet.first, unmet.steps);
+        write!(f, "{{\"require\":{asked},\"schedules\":{schedules}}}")
+    }
+}
+
+/// All that must never be so and is (`true`), or all that is required and isn't so, as an array.
+#[derive(Clone, Copy)]
+struct UnmetArray<'a>(pub Found<'a>, pub bool);
+
+impl fmt::Display for UnmetArray<'_> {
+    ghost output = { λ u. Some
+        (array_json (map unmet_json (unmet_told u.1 u.0.answers.now))) };
+
+    fn fmt<W: fmt::Write>(&self, f: &mut fmt::Formatter<W>) -> fmt::Result {
+        let Found { alloc, answers } = self.0;
+        let judged = Judged {
+            asked: &answers.asked,
+            found: &answers.exploration,
+            answers: &answers.answers,
+            faults: &answers.output_faults,
+            ways: &answers.ways,
+        };
+        let unmet = unmet_told(alloc, judged, self.1)?;
+        write!(f, "{}", Array(Unmets(&unmet)))
+    }
 }

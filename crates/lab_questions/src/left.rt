@@ -1,9 +1,8 @@
 //! The messages that are left in queues.
-ghost use Rattle.std.specs.Prelude.{◌≡◌, ◌++◌, OnOk, IfOk, flat_map, length, position, string_bytes, unwrap_or};
+ghost use Rattle.std.specs.Prelude.{◌≡◌, ◌++◌, OnOk, IfOk, flat_map, string_bytes};
 ghost use Rattle.std.specs.Option.{option_copied};
 ghost use Rattle.ipc_kernel.specs.Limits.{object_places};
 ghost use Rattle.lab_questions.specs.Left.{left_line, left_text};
-ghost use Rattle.lab_questions.specs.Orders.{comes_before};
 ghost use Rattle.lab_questions.specs.Private.Lefts.{AreLeft};
 
 use ipc_kernel::{Kernel, OBJECT_PLACES};
@@ -24,8 +23,7 @@ fn left_lines(alloc: Global, name: Option<&Name>, queue: &Queue) -> Result<Strin
         let Some((priority, words)) = queue.entry(i as usize) else {
             return Ok(text);
         };
-        let name = NameText(name);
-        write!(text, "left {name}")?;
+        write!(text, "left {}", NameText(name))?;
         push_message(&mut text, priority, words)?;
     }
     Ok(text)
@@ -39,23 +37,11 @@ pub(crate) struct Left<'a> {
     pub queue: &'a Queue,
 }
 
-/// The number of those before the first whose lines these come before.
-fn index_for(lefts: &[Left<'_>], lines: &str) -> usize
-    ensures index { result
-        ≡ unwrap_or (position (λ l. comes_before lines.now (string_bytes l.lines)) lefts.now)
-        (length lefts.now) }
-{
-    lefts
-        .iter()
-        .position(|left| lines < left.lines.as_str())
-        .unwrap_or(lefts.len())
-}
-
 /// The queues in which messages are left, in the order of their lines.
 pub(crate) fn lefts_of(alloc: Global, kernel: &Kernel) -> Result<Vec<Left<'_>>, AllocError>
     ensures lefts { IfOk result (λ lefts. AreLeft kernel.now object_places lefts.items) }
 {
-    let mut lefts = Vec::new(alloc);
+    let mut lefts: Vec<Left<'_>> = Vec::new(alloc);
     for place in 0..OBJECT_PLACES as u8 {
         let Some((name, queue)) = kernel.queue_at(place) else {
             continue;
@@ -64,7 +50,10 @@ pub(crate) fn lefts_of(alloc: Global, kernel: &Kernel) -> Result<Vec<Left<'_>>, 
         if lines.is_empty() {
             continue;
         }
-        let at = index_for(&lefts, &lines);
+        let at = lefts
+            .iter()
+            .position(|left| lines.as_str() < left.lines.as_str())
+            .unwrap_or(lefts.len());
         lefts.insert(at, Left { lines, name, queue })?;
     }
     Ok(lefts)

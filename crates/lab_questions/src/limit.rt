@@ -45,13 +45,10 @@ impl fmt::Display for LimitMet {
     fn fmt<W: fmt::Write>(&self, f: &mut fmt::Formatter<W>) -> fmt::Result {
         match self {
             LimitMet::Worlds { visited, more } => {
-                let visited = Grouped(*visited);
+                write!(f, "{} worlds were visited", Grouped(*visited))?;
                 match more {
-                    Some(more) => write!(
-                        f,
-                        "{visited} worlds were visited (--worlds {more} visits more)"
-                    ),
-                    None => write!(f, "{visited} worlds were visited"),
+                    Some(more) => write!(f, " (--worlds {more} visits more)"),
+                    None => Ok(()),
                 }
             }
             LimitMet::Steps {

@@ -1,5 +1,5 @@
 //! Reading what is required of outputs.
-ghost use Rattle.std.specs.Prelude.{◌≡◌, ◌<◌, ◌++◌, ℕ, List, [], ◌∷◌, Some, None, false, IfNone, IfOk, IfSome, IsTrue, OnOk, bytes_eq, length, map, position, string_bytes};
+ghost use Rattle.std.specs.Prelude.{◌≡◌, ◌<◌, ◌++◌, ℕ, List, [], ◌∷◌, Some, None, false, IfNone, IfOk, IfSome, IsTrue, OnOk, bytes_eq, length, map, string_bytes};
 ghost use Rattle.std.specs.List.{before_first, after_first};
 ghost use Rattle.std.specs.Option.{option_map};
 ghost use Rattle.lab_questions.specs.Private.Readings.{ended, left};
@@ -26,18 +26,11 @@ fn first_character(text: &[u8]) -> Option<(u8, &[u8])>
     }
 }
 
-/// The characters of a string, and what stands behind it.
-#[derive(Drop)]
-struct Quoted<'a> {
-    bytes: Vec<u8>,
-    rest: &'a [u8],
-}
-
-/// A string, from what stands behind the quote that opens it.
-fn string_in<'a>(alloc: Global, text: &'a [u8]) -> Result<Option<Quoted<'a>>, AllocError>
+/// The characters of a string, from what stands behind the quote that opens it, and what stands behind it.
+fn string_in<'a>(alloc: Global, text: &'a [u8]) -> Result<Option<(Vec<u8>, &'a [u8])>, AllocError>
     ensures value { IfOk result (λ read.
-        option_map (λ s. (s.bytes.items, s.rest.now)) read ≡ string_in text.now) }
-    ensures shorter { IfOk result (λ read. IfSome read (λ s. length s.rest.now < length text.now)) }
+        option_map (λ s. (s.0.items, s.1.now)) read ≡ string_in text.now) }
+    ensures shorter { IfOk result (λ read. IfSome read (λ s. length s.1.now < length text.now)) }
 {
     let mut bytes = Vec::new(alloc);
     let mut rest = text;
@@ -48,8 +41,7 @@ fn string_in<'a>(alloc: Global, text: &'a [u8]) -> Result<Option<Quoted<'a>>, Al
         bytes.push(byte)?;
         rest = after;
     }
-    let rest = &rest[1..];
-    Ok(Some(Quoted { bytes, rest }))
+    Ok(Some((bytes, &rest[1..])))
 }
 
 #[tactic(auto, using(crate::proofs::ReadingLemmas::same_word, crate::proofs::ReadingLemmas::other_word))]
@@ -105,13 +97,6 @@ fn heading_in(first: bool, words: &[&[u8]]) -> Option<(bool, usize, OutputRelati
     Some((begins, process, relation))
 }
 
-fn quote_in(text: &[u8]) -> Option<usize>
-    ensures place { result ≡ position is_quote text.now }
-    ensures within { IfSome result (λ i. i < length text.now) }
-{
-    text.iter().position(|byte| *byte == b'"')
-}
-
 /// What stands before the first quote of a text, and what behind it.
 #[tactic(auto, using(crate::proofs::ReadingLemmas::behind_none, crate::proofs::ReadingLemmas::before_quote, crate::proofs::ReadingLemmas::behind_quote))]
 fn cut(text: &[u8]) -> Option<(&[u8], &[u8])>
@@ -120,9 +105,7 @@ fn cut(text: &[u8]) -> Option<(&[u8], &[u8])>
     ensures string { IfSome result (λ cut. cut.1.now ≡ after_first is_quote text.now) }
     ensures shorter { IfSome result (λ cut. length cut.1.now < length text.now) }
 {
-    let Some(place) = quote_in(text) else {
-        return None;
-    };
+    let place = text.iter().position(|byte| *byte == b'"')?;
     Some((&text[..place], &text[place + 1..]))
 }
 
@@ -149,7 +132,7 @@ fn front_in<'a>(alloc: Global, first: bool, text: &'a [u8]) -> Result<Option<Fro
     let Some((begins, process, relation)) = heading_in(first, &words) else {
         return Ok(None);
     };
-    let Some(Quoted { bytes, rest }) = string_in(alloc, string)? else {
+    let Some((bytes, rest)) = string_in(alloc, string)? else {
         return Ok(None);
     };
     let part = OutputPart {

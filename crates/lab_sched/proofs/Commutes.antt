@@ -9,7 +9,7 @@ use Rattle.ipc_kernel.specs.Kernel.{KernelState}
 use Rattle.lab_sched.specs.Worlds.{Process, Running, Waiting, Ended, WorldState, NextAction, moves, calls, next_action, StepEffect, nothing, local_step, kernel_step, step_effect, step_effect_in, process_after_answer, process_after, after, step, IsEffective, entry_of, run, entries}
 use Rattle.lab_sched.specs.Execution.{AreEffective, count, Commute}
 use Rattle.lab_sched.specs.History.{replay}
-use Rattle.lab_sched.specs.declared.entry.Entry.{Entry}
+use Rattle.lab_sched.specs.declared.stepped.Entry.{Entry}
 use Rattle.lab_sched.proofs.ListPlaces.{get-set_same, get-set_other, get_past, same_gets}
 use Rattle.lab_sched.proofs.Runs.{length-run}
 use Rattle.lab_sched.proofs.Executions.{kernel_run}

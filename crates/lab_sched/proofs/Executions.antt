@@ -12,7 +12,7 @@ use Rattle.lab_sched.specs.Worlds.{Process, Running, Waiting, Ended, WorldState,
 use Rattle.lab_sched.specs.Execution.{AreEffective, count, IsExecution}
 use Rattle.lab_sched.specs.LocalRun.{AreLocal, TakesAnswer}
 use Rattle.lab_sched.specs.History.{replay, IsLegal}
-use Rattle.lab_sched.specs.declared.entry.Entry.{Entry}
+use Rattle.lab_sched.specs.declared.stepped.Entry.{Entry}
 use Rattle.lab_sched.specs.declared.trace.TracedCall.{TracedCall}
 use Rattle.lab_sched.proofs.ListPlaces.{get-set_same, get_past, set_same}
 use Rattle.lab_sched.proofs.Runs.{run-append, run-none, run-one, length-run}

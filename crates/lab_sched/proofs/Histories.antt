@@ -3,7 +3,7 @@ use Rattle.std.proofs.Common.{ℕ, ◌≡◌, ◌==◌, ◌++◌, List, [], ◌�
 use Rattle.ipc_kernel.specs.declared.call.Call.{Call}
 use Rattle.ipc_kernel.specs.Kernel.{KernelState}
 use Rattle.ipc_kernel.specs.Answer.{answer}
-use Rattle.lab_sched.specs.declared.entry.Entry.{Entry}
+use Rattle.lab_sched.specs.declared.stepped.Entry.{Entry}
 use Rattle.lab_sched.specs.History.{replay, IsLegal, still, waits_after}
 
 pub replay-append : (k : KernelState) (xs ys : List Entry) → replay k (xs ++ ys) ≡ replay (replay k xs) ys

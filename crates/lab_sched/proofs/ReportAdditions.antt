@@ -11,9 +11,9 @@ use Rattle.ipc_kernel.specs.declared.call.Answer.{Answer}
 use Rattle.ipc_kernel.specs.Kernel.{KernelState}
 use Rattle.ipc_kernel.specs.Answer.{answer}
 use Rattle.lab_sched.specs.declared.process.Process.{Process as Kept}
-use Rattle.lab_sched.specs.declared.entry.Entry.{Entry}
-use Rattle.lab_sched.specs.declared.next.Next.{Next}
-use Rattle.lab_sched.specs.declared.next.Next.TheVariants as next
+use Rattle.lab_sched.specs.declared.stepped.Entry.{Entry}
+use Rattle.lab_sched.specs.declared.calling.Next.{Next}
+use Rattle.lab_sched.specs.declared.calling.Next.TheVariants as next
 use Rattle.lab_sched.specs.Worlds.{Process, WorldState, kernel_step, step_effect_in, step, run, IsEffective}
 use Rattle.ipc_traps.specs.Asked.{Request}
 use Rattle.lab_sched.specs.declared.stepped.Stepped.{Stepped}

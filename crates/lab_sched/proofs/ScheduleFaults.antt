@@ -4,9 +4,9 @@ use Rattle.std.specs.Prelude.{nat_lt, position, is_none, IfSome}
 use Rattle.std.specs.List.{AllByRecursion, filter_map, position_or_len}
 use Rattle.std.proofs.lemmas.List.Sums.{sum_by-cons, fails_before_first, passes_at_first}
 use Rattle.std.proofs.lemmas.Bool.Decides.{leb_tells, nat_tests}
-use Rattle.lab_sched.specs.declared.schedule.block.Block.{Block}
-use Rattle.lab_sched.specs.declared.schedule.fault.SchedFault.{SchedFault}
-use Rattle.lab_sched.specs.declared.schedule.fault.SchedFault.TheVariants.{BadBlock, TooLong, NoMemory}
+use Rattle.lab_sched.specs.declared.schedule.Block.{Block}
+use Rattle.lab_sched.specs.declared.schedule.SchedFault.{SchedFault}
+use Rattle.lab_sched.specs.declared.schedule.SchedFault.TheVariants.{BadBlock, TooLong, NoMemory}
 use Rattle.lab_sched.specs.Schedules.{total_of, steps_of, joined_blocks, IsBlock, IsSchedule, most_steps}
 use Rattle.lc3_word.specs.Numbers.{unsigned_number}
 use Rattle.lab_sched.specs.ScheduleTexts.{words, is_star, in_range, process_in, count_in, block_at, block_from, block_in, is_bad, blocks_of_words, too_long, schedule_of_blocks, within, reading_of_words, reading, Fails, ◌>>=◌}

@@ -6,7 +6,7 @@ use Rattle.std.proofs.lemmas.List.{replicate-append-replicate, take_all, take_mo
 use Rattle.std.proofs.lemmas.List.Concat.{flat_map-append, length-flat_map}
 use Rattle.std.proofs.lemmas.List.Sums.{sum_by-cons, sum_by_push}
 use Rattle.std.proofs.lemmas.Bool.Decides.{nat_tests, eqb_tells}
-use Rattle.lab_sched.specs.declared.schedule.block.Block.{Block}
+use Rattle.lab_sched.specs.declared.schedule.Block.{Block}
 use Rattle.lab_sched.specs.ScheduleLaws.{StepsTell}
 use Rattle.lab_sched.specs.Schedules.{block, steps_of, total_of, before, joined_blocks, IsBlock, AreApart, IsSchedule, most_steps}
 use Rattle.std.proofs.Math.Seq.{take-append_seam, get_or-append_seam}

@@ -4,7 +4,7 @@ use Rattle.std.proofs.Math.Seq.{take-append-add}
 use Rattle.std.proofs.lemmas.List.{take-append-drop, take-append-le, take-replicate, take_more, get_or-replicate, length-replicate, flat_map_more}
 use Rattle.std.proofs.lemmas.List.Concat.{get_or-flat_map}
 use Rattle.std.proofs.lemmas.List.Folds.{length-flat_map-take}
-use Rattle.lab_sched.specs.declared.schedule.block.Block.{Block}
+use Rattle.lab_sched.specs.declared.schedule.Block.{Block}
 use Rattle.lab_sched.specs.Schedules.{steps_of, IsSchedule, most_steps}
 use Rattle.lab_sched.proofs.ScheduleJoins.{length-steps, steps-append}
 use Rattle.lab_sched.specs.Worlds.{WorldState, run}

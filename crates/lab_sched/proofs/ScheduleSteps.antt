@@ -6,9 +6,9 @@ use Rattle.std.proofs.lemmas.List.Elements.{filter_map-append}
 use Rattle.std.proofs.lemmas.List.Sums.{position_or_len_is}
 use Rattle.std.proofs.lemmas.List.{drop_more, take_more, take_all, drop_all}
 use Rattle.std.proofs.lemmas.Bool.Decides.{nat_tests}
-use Rattle.lab_sched.specs.declared.schedule.block.Block.{Block}
-use Rattle.lab_sched.specs.declared.schedule.fault.SchedFault.{SchedFault}
-use Rattle.lab_sched.specs.declared.schedule.fault.SchedFault.TheVariants.{BadBlock, TooLong}
+use Rattle.lab_sched.specs.declared.schedule.Block.{Block}
+use Rattle.lab_sched.specs.declared.schedule.SchedFault.{SchedFault}
+use Rattle.lab_sched.specs.declared.schedule.SchedFault.TheVariants.{BadBlock, TooLong}
 use Rattle.lab_sched.specs.Schedules.{joined_blocks, most_steps}
 use Rattle.lab_sched.specs.ScheduleTexts.{blocks_of_words, block_in, is_bad, too_long, schedule_of_blocks, reading_of_words, Fails, ◌>>=◌}
 use Rattle.lab_sched.proofs.ScheduleJoins.{joined-joined}

@@ -12,7 +12,7 @@ use Rattle.lab_sched.specs.Starts.{Runs, start_of}
 use Rattle.lab_sched.specs.Private.Fresh.{IsFresh}
 use Rattle.lab_sched.specs.declared.stepped.Stepped.{Stepped}
 use Rattle.lc3_machine.specs.Process.{Held, start}
-use Rattle.lab_sched.specs.declared.fresh.Program.{Program}
+use Rattle.lab_sched.specs.declared.process.Program.{Program}
 use Rattle.lab_sched.specs.LocalRun.{AreLocal}
 use Rattle.lab_sched.proofs.Executions.{execution_local, with_process}
 use Rattle.lab_sched.proofs.Runs.{run-none, run-one, run_on}

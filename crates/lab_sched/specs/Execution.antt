@@ -1,7 +1,7 @@
 -- Executions of worlds: lists of effective steps, where they lead, and the entries along them.
 use Rattle.std.specs.Prelude.{ℕ, ◌≡◌, ◌==◌, ◌+◌, List, [], ◌∷◌, if◌then◌else◌}
 use Rattle.lab_sched.specs.Worlds.{WorldState, step_effect_in, IsEffective, step, run, entries}
-use Rattle.lab_sched.specs.declared.entry.Entry.{Entry}
+use Rattle.lab_sched.specs.declared.stepped.Entry.{Entry}
 
 -- every step of a list is effective
 abbrev pub AreEffective : WorldState → List ℕ → Type 0

@@ -1,7 +1,7 @@
 -- Laws of schedules and of their texts.
 use Rattle.std.specs.Prelude.{◌≡◌, ◌↔◌, ◌<◌, ◌≤◌, ◌-◌, ℕ, List, [], length, map, take, slice_index_or, Some, None, Ok, Err}
-use Rattle.lab_sched.specs.declared.schedule.block.Block.{Block}
-use Rattle.lab_sched.specs.declared.schedule.fault.SchedFault.TheVariants.{BadBlock, TooLong}
+use Rattle.lab_sched.specs.declared.schedule.Block.{Block}
+use Rattle.lab_sched.specs.declared.schedule.SchedFault.TheVariants.{BadBlock, TooLong}
 use Rattle.lab_sched.specs.Schedules.{IsSchedule, steps_of, total_of, most_steps}
 use Rattle.lab_sched.specs.ScheduleTexts.{reading, schedule_text, words, block_in}
 

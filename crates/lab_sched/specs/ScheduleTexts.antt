@@ -4,9 +4,9 @@ use Rattle.ipc_kernel.specs.Limits.{process_max}
 use Rattle.std.specs.List.{filter_map, flat_map, position_or_len}
 use Rattle.lc3_word.specs.Blanks.{words_between, white_space}
 use Rattle.lc3_word.specs.Numbers.{unsigned_number}
-use Rattle.lab_sched.specs.declared.schedule.block.Block.{Block}
-use Rattle.lab_sched.specs.declared.schedule.fault.SchedFault.{SchedFault}
-use Rattle.lab_sched.specs.declared.schedule.fault.SchedFault.TheVariants.{BadBlock, TooLong, NoMemory}
+use Rattle.lab_sched.specs.declared.schedule.Block.{Block}
+use Rattle.lab_sched.specs.declared.schedule.SchedFault.{SchedFault}
+use Rattle.lab_sched.specs.declared.schedule.SchedFault.TheVariants.{BadBlock, TooLong, NoMemory}
 use Rattle.lab_sched.specs.Schedules.{block, joined_blocks, most_steps}
 
 -- `P*N`

@@ -1,7 +1,7 @@
 -- Schedules, as lists of blocks, and the steps that they stand for.
 use Rattle.std.specs.Prelude.{ℕ, ◌+◌, ◌<◌, ◌≤◌, ◌==◌, ◌≢◌, if◌then◌else◌, List, [], ◌∷◌, replicate}
 use Rattle.std.specs.List.{AllByRecursion, flat_map, sum_by}
-use Rattle.lab_sched.specs.declared.schedule.block.Block.{Block}
+use Rattle.lab_sched.specs.declared.schedule.Block.{Block}
 use Rattle.ipc_kernel.specs.Limits.{process_max}
 
 -- the greatest number of steps of a schedule

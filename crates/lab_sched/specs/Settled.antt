@@ -4,7 +4,7 @@ use Rattle.std.specs.Int.{bit_at}
 use Rattle.lab_sched.specs.Worlds.{WorldState, nothing, step_effect_in}
 use Rattle.lab_sched.specs.Execution.{IsExecution, count}
 use Rattle.lab_sched.specs.Verdicts.{HasNotEndedIn}
-use Rattle.lab_sched.specs.declared.entry.Entry.{Entry}
+use Rattle.lab_sched.specs.declared.stepped.Entry.{Entry}
 
 -- a world, with the steps and the entries that led to it
 pub record Report : Type 0 where

@@ -3,8 +3,8 @@ use Rattle.std.specs.Prelude.{ℕ, ◌≡◌, ◌≤◌}
 use Rattle.ipc_kernel.specs.declared.call.Call.{Call}
 use Rattle.lab_sched.specs.Worlds.{Process, Running, Waiting, Ended, calls, next_action}
 use Rattle.lab_sched.specs.LocalRun.{AreLocal}
-use Rattle.lab_sched.specs.declared.next.Next.{Next}
-use Rattle.lab_sched.specs.declared.next.Next.TheVariants as next
+use Rattle.lab_sched.specs.declared.calling.Next.{Next}
+use Rattle.lab_sched.specs.declared.calling.Next.TheVariants as next
 use Rattle.lab_sched.specs.Verdicts.{HasEnded}
 
 -- a process asks for a call, or waits for it

@@ -4,7 +4,7 @@ use Rattle.ipc_kernel.specs.Limits.{process_max}
 use Rattle.lc3_table.specs.declared.profile.Profile.{Profile}
 use Rattle.lc3_machine.specs.Process.{start}
 use Rattle.ipc_kernel.specs.Kernel.{empty_kernel}
-use Rattle.lab_sched.specs.declared.fresh.Program.{Program}
+use Rattle.lab_sched.specs.declared.process.Program.{Program}
 use Rattle.lab_sched.specs.declared.process.Process.{Process as Kept}
 use Rattle.lab_sched.specs.Worlds.{HaveOneProfile, Process, Running, WorldState}
 use Rattle.lab_sched.specs.Held.{process_view}

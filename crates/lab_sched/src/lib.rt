@@ -2,10 +2,7 @@
 #![tactic(auto)]
 
 mod calling;
-mod entry;
-mod fresh;
 pub mod laws;
-mod next;
 mod process;
 mod schedule;
 mod stepped;
@@ -14,12 +11,10 @@ mod trace;
 mod verdict;
 mod world;
 
-pub use entry::Entry;
-pub use fresh::{Fresh, FreshFault, Program};
-pub use next::{Next, find_next};
-pub use process::Process;
+pub use calling::{Next, find_next};
+pub use process::{Fresh, FreshFault, Process, Program};
 pub use schedule::{Block, MOST_STEPS, SchedFault, Schedule, Steps};
-pub use stepped::Stepped;
+pub use stepped::{Entry, Stepped};
 pub use stepping::{answer_call, ask_call, begin_wait, end_process, local_steps, take_step};
 pub use trace::{Trace, TracedCall};
 pub use verdict::Verdict;

@@ -1,7 +1,7 @@
 //! What a step was.
 ghost use Rattle.std.specs.Prelude.{◌≡◌};
 
-use ipc_kernel::Reply;
+use ipc_kernel::{Answer, Call, Reply};
 use ipc_names::Errno;
 
 /// What a step of a process was.
@@ -27,4 +27,12 @@ impl Stepped {
     {
         !matches!(self, Stepped::Same)
     }
+}
+
+/// A call of a process, with its answer.
+#[derive(Drop)]
+pub struct Entry {
+    pub pid: usize,
+    pub call: Call,
+    pub answer: Answer,
 }

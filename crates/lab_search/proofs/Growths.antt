@@ -15,9 +15,9 @@ use Rattle.lab_search.specs.declared.footprints.Footprints.{Footprints}
 use Rattle.lab_search.specs.declared.footprints.FootprintEffect.{FootprintEffect}
 use Rattle.lab_search.specs.declared.footprints.Effect.{Effect}
 use Rattle.lab_search.specs.declared.footprints.Effect.TheVariants as effect
-use Rattle.lab_search.specs.declared.known.Move.{Move}
-use Rattle.lab_search.specs.declared.known.Moves.{Moves}
-use Rattle.lab_search.specs.declared.known.Mover.{Mover}
+use Rattle.lab_search.specs.declared.store.Move.{Move}
+use Rattle.lab_search.specs.declared.store.Moves.{Moves}
+use Rattle.lab_search.specs.declared.store.Mover.{Mover}
 use Rattle.ipc_store.specs.Kept.{KeptKernels, GrowsKept}
 use Rattle.ipc_kernel.specs.declared.place.Place.{Place}
 use Rattle.ipc_kernel.specs.declared.process.OpenTables.{OpenTables}

@@ -29,13 +29,13 @@ use Rattle.lab_sched.specs.Held.{process_view, IsHeld, step_of}
 use Rattle.lab_sched.specs.LocalRun.{IsLocalStep, AreLocal}
 use Rattle.lab_worlds.specs.Calls.{IsAtCall}
 use Rattle.lab_worlds.specs.Unwaiting.{GoesOn}
-use Rattle.lab_worlds.specs.declared.trying.Attempt.{Attempt}
-use Rattle.lab_worlds.specs.declared.trying.Attempt.TheVariants.{Still, Runs, Came}
+use Rattle.lab_worlds.specs.declared.random_walker.Attempt.{Attempt}
+use Rattle.lab_worlds.specs.declared.random_walker.Attempt.TheVariants.{Still, Runs, Came}
 use Rattle.lab_states.specs.declared.collapsed_states.CollapsedState.{CollapsedState}
 use Rattle.lab_search.specs.declared.store.Store.{Store}
 use Rattle.lab_states.specs.CollapsedStates.{behind, kept_behind, whole_of}
-use Rattle.lab_search.specs.declared.known.Mover.{Mover}
-use Rattle.lab_search.specs.declared.making.KeptAttempt.{KeptAttempt}
+use Rattle.lab_search.specs.declared.store.Mover.{Mover}
+use Rattle.lab_search.specs.declared.reduced.KeptAttempt.{KeptAttempt}
 use Rattle.lab_search.specs.Private.Stored.{IsKeptStep, IsKeptAttempt, output_at}
 use Rattle.lab_search.specs.Stored.{IsState, IsExactly, IsStore}
 use Rattle.lab_worlds.specs.Stepped.{IsReady, IsReached, IsStepped}

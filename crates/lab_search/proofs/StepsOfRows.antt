@@ -8,9 +8,9 @@ use Rattle.lab_sched.specs.Worlds.{Process, WorldState, StepEffect, step_effect,
 use Rattle.lab_sched.specs.Held.{process_view}
 use Rattle.lab_sched.proofs.WorldLemmas.{after_effect}
 use Rattle.lab_states.specs.Rows.{Row}
-use Rattle.lab_search.specs.declared.known.Mover.{Mover}
-use Rattle.lab_search.specs.declared.making.KeptAttempt.{KeptAttempt}
-use Rattle.lab_search.specs.declared.rows.Change.{Change}
+use Rattle.lab_search.specs.declared.store.Mover.{Mover}
+use Rattle.lab_search.specs.declared.reduced.KeptAttempt.{KeptAttempt}
+use Rattle.lab_search.specs.declared.moves.Change.{Change}
 use Rattle.lab_search.specs.declared.store.Store.{Store}
 use Rattle.lab_states.specs.declared.edges.Edge.{Edge}
 use Rattle.lab_search.specs.declared.store.Next.{Next}

@@ -16,8 +16,8 @@ use Rattle.lab_worlds.specs.Unwaiting.{GoesOn}
 use Rattle.lab_worlds.specs.Stepped.{IsReady, IsReached, AreReached}
 use Rattle.lab_states.specs.Rows.{Row}
 use Rattle.lab_states.specs.declared.edges.Edge.{Edge}
-use Rattle.lab_search.specs.declared.known.Move.{Move}
-use Rattle.lab_search.specs.declared.known.Mover.{Mover}
+use Rattle.lab_search.specs.declared.store.Move.{Move}
+use Rattle.lab_search.specs.declared.store.Mover.{Mover}
 use Rattle.lab_search.specs.declared.store.Store.{Store}
 use Rattle.lab_search.specs.declared.store.Next.{Next}
 use Rattle.lab_search.specs.declared.store.Next.TheVariants.{Nothing, Limit, To}

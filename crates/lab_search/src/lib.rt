@@ -1,14 +1,9 @@
 //! Breadth-first search of every state that programs can reach, with partial-order reduction.
 #![tactic(auto)]
 
-mod comparing;
-mod footprint_steps;
 mod footprints;
-mod known;
-mod making;
 mod moves;
 mod reduced;
-mod rows;
 mod search;
 mod store;
 

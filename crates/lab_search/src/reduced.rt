@@ -5,13 +5,16 @@ ghost use Rattle.lab_sched.specs.Worlds.{Process as Seen, WorldState, step_effec
 ghost use Rattle.lab_worlds.specs.Independent.{IsIndependent};
 ghost use Rattle.lab_states.specs.Rows.{Row};
 ghost use Rattle.lab_search.specs.Reduced.{IsExpandedIn};
-ghost use Rattle.lab_search.specs.Stored.{IsExactly, IsState, IsAt, IsStore};
-ghost use Rattle.lab_search.specs.Private.Stored.{IsLater};
+ghost use Rattle.lab_search.specs.Stored.{IsExactly, IsState, IsAt, IsStore, IsMove, IsFootprintEffect};
+ghost use Rattle.lab_search.specs.Private.Stored.{IsLater, IsKeptAttempt};
+ghost use Rattle.ipc_kernel.specs.Kernel.{KernelState};
+ghost use Rattle.lab_search.specs.Private.FootprintEffect.{HasFootprint};
 
-use crate::store::Store;
-use ipc_kernel::Call;
-use lab_states::place_of;
-use lab_worlds::{ExploreFault, Limits};
+use crate::footprints::{Effect, Footprint};
+use crate::store::{Mover, Next, Store};
+use ipc_kernel::{Call, Kernel};
+use lab_states::{CollapsedState, place_of};
+use lab_worlds::{Attempt, ExploreFault, Limits, Made, try_step};
 
 impl Store {
     /// Whether the step of a process in a state over a kernel, which are kept, depends on no other's.
@@ -82,5 +85,183 @@ impl Store {
         }
         let expanded = self.expand(at, limits)?;
         Ok(expanded)
+    }
+}
+
+/// How many worlds there are at least for each kernel where kernels are come to often.
+const RETURNS: usize = 4;
+
+/// What came of a step that was tried, of a process over a kernel that are kept.
+#[derive(Drop)]
+pub enum KeptAttempt {
+    /// Nothing: the process has ended, or its call must wait.
+    Still,
+    /// More local steps than the process may take.
+    Runs,
+    /// The kernel after it, and the place of the state of the process after so many local steps.
+    Came {
+        kernel: Kernel,
+        state: u32,
+        taken: u32,
+    },
+}
+
+impl Store {
+    /// Tries a step of a process, and keeps its state after that and its local steps.
+    fn try_move(&mut self, mover: Mover, most: u32) -> Result<KeptAttempt, ExploreFault>
+        requires store { IsStore self.old }
+        ensures later { OnOk result (IsLater self.old self.new) }
+        ensures attempt { IfOk result (IsKeptAttempt self.old self.new mover) }
+    {
+        let Some(collapsed) = self.states.parts(mover.state as usize) else {
+            return Err(ExploreFault::Unvouched);
+        };
+        let Some(kernel) = self.kernels.get(self.alloc, mover.kernel)? else {
+            return Err(ExploreFault::Unvouched);
+        };
+        let before = collapsed.before;
+        let process = collapsed.process.copy(self.alloc)?;
+        match try_step(self.alloc, kernel, process, mover.pid as usize, most)? {
+            Attempt::Still => Ok(KeptAttempt::Still),
+            Attempt::Runs => Ok(KeptAttempt::Runs),
+            Attempt::Came(made) => {
+                let Made {
+                    kernel,
+                    process,
+                    taken,
+                } = made;
+                let behind = CollapsedState { before, process };
+                let state = self.states.keep_behind(self.alloc, behind)?;
+                Ok(KeptAttempt::Came {
+                    kernel,
+                    state,
+                    taken,
+                })
+            }
+        }
+    }
+
+    /// What a process does next, where a kernel alike the one after its step is kept.
+    fn make_next(&mut self, mover: Mover, most: u32) -> Result<Next, ExploreFault>
+        requires store { IsStore self.old }
+        ensures later { OnOk result (IsLater self.old self.new) }
+        ensures next { IfOk result (IsMove self.new mover) }
+    {
+        match self.try_move(mover, most)? {
+            KeptAttempt::Still => Ok(Next::Nothing),
+            KeptAttempt::Runs => Ok(Next::Limit),
+            KeptAttempt::Came {
+                kernel,
+                state,
+                taken,
+            } => {
+                let number = self.keep_alike(&kernel)?;
+                Ok(Next::To {
+                    kernel: number,
+                    state,
+                    taken,
+                })
+            }
+        }
+    }
+
+    /// What comes of a step of a process at its call that works on one object, where the kernel after it
+    /// is kept.
+    fn make_effect(
+        &mut self,
+        mover: Mover,
+        footprint: Footprint,
+        most: u32,
+    ) -> Result<Effect, ExploreFault>
+        requires store { IsStore self.old }
+        requires operand { (k : KernelState) → IsExactly self.old mover.kernel k
+            → HasFootprint self.old k mover.pid footprint }
+        ensures later { OnOk result (IsLater self.old self.new) }
+        ensures footprint_effect { IfOk result (IsFootprintEffect self.new footprint) }
+    {
+        let state = footprint.state;
+        match self.try_move(Mover { state, ..mover }, most)? {
+            KeptAttempt::Still => Ok(Effect::Nothing),
+            KeptAttempt::Runs => Ok(Effect::Limit),
+            KeptAttempt::Came {
+                kernel,
+                state,
+                taken,
+            } => {
+                let number = self.keep_kernel(&kernel)?;
+                let Some(tables) = self.kernels.tables_at(number, mover.pid as usize) else {
+                    return Err(ExploreFault::Unvouched);
+                };
+                let Some(object) = self.kernels.object_at(number, footprint.place) else {
+                    return Err(ExploreFault::Unvouched);
+                };
+                Ok(Effect::To {
+                    tables,
+                    object,
+                    state,
+                    taken,
+                })
+            }
+        }
+    }
+
+    /// What comes of a step of a process at its call that works on one object. It is made if it wasn't
+    /// made before.
+    fn effect_of(
+        &mut self,
+        mover: Mover,
+        footprint: Footprint,
+        most: u32,
+    ) -> Result<Effect, ExploreFault>
+        requires store { IsStore self.old }
+        requires operand { (k : KernelState) → IsExactly self.old mover.kernel k
+            → HasFootprint self.old k mover.pid footprint }
+        ensures later { OnOk result (IsLater self.old self.new) }
+        ensures footprint_effect { IfOk result (IsFootprintEffect self.new footprint) }
+    {
+        if let Some(effect) = self.moves.footprints.find(footprint) {
+            return Ok(effect);
+        }
+        let effect = self.make_effect(mover, footprint, most)?;
+        self.moves.footprints.keep(footprint, effect)?;
+        Ok(effect)
+    }
+
+    /// What a process does next, if it stands at a call that works on one object.
+    fn make_footprint_effect(
+        &mut self,
+        mover: Mover,
+        most: u32,
+    ) -> Result<Option<Next>, ExploreFault>
+        requires store { IsStore self.old }
+        requires kernel { (k : KernelState) × IsExactly self.old mover.kernel k }
+        ensures later { OnOk result (IsLater self.old self.new) }
+        ensures next { IfOk result (λ found. IfSome found (IsMove self.new mover)) }
+    {
+        let Some(footprint) = self.footprint_at(mover) else {
+            return Ok(None);
+        };
+        let effect = self.effect_of(mover, footprint, most)?;
+        Ok(self.keep_next_by(mover, footprint.place, effect)?)
+    }
+
+    /// What a process does next. Each such move is made once, and so is each step at a call that works on
+    /// one object, whose move is kept only where kernels are come to often.
+    pub(crate) fn make_move(&mut self, mover: Mover, most: u32) -> Result<Next, ExploreFault>
+        requires store { IsStore self.old }
+        requires kernel { (k : KernelState) × IsExactly self.old mover.kernel k }
+        ensures later { OnOk result (IsLater self.old self.new) }
+        ensures next { IfOk result (IsMove self.new mover) }
+    {
+        if let Some(next) = self.make_footprint_effect(mover, most)? {
+            if self.rows.len() < self.kernels.len().saturating_mul(RETURNS) {
+                return Ok(next);
+            }
+            self.moves.keep(mover, next)?;
+            return Ok(next);
+        }
+        let next = self.make_next(mover, most)?;
+        self.moves.keep(mover, next)?;
+        Ok(next)
     }
 }

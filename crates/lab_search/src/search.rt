@@ -4,15 +4,22 @@ ghost use Rattle.lab_sched.specs.Held.{process_view, IsHeld};
 ghost use Rattle.lab_worlds.specs.Closed.{HasAdvance};
 ghost use Rattle.lab_search.specs.Reduced.{AreExpandedIn, IsSearchedIn};
 ghost use Rattle.lab_search.specs.Private.Reduced.{StatesKeepNames};
-ghost use Rattle.lab_search.specs.Stored.{IsAt, IsStore};
+ghost use Rattle.lab_search.specs.Stored.{IsAt, IsStore, IsExactly, IsState, IsLike};
 ghost use Rattle.lab_search.specs.Private.Stored.{IsLater};
+ghost use Rattle.ipc_kernel.specs.Alike.{IsAlike};
+ghost use Rattle.ipc_kernel.specs.Kernel.{KernelState, IsSettled};
+ghost use Rattle.lab_sched.specs.Stepping.{before_wait};
+ghost use Rattle.lab_worlds.specs.Unwaiting.{unwaiting};
 
 use crate::moves::both;
 use crate::store::Store;
 use ipc_kernel::Kernel;
-use lab_sched::Process;
-use lab_worlds::{ExploreFault, Limits, Observer, advance, discard};
-use std::alloc::Global;
+use ipc_store::is_alike;
+use lab_sched::{Process, World};
+use lab_worlds::{
+    ExploreFault, Limits, Observer, advance, copy_before_wait, discard, none_waits, waits,
+};
+use std::alloc::{AllocError, Global};
 
 /// What a search found: the worlds and the moves between them, the local steps of each process before
 /// them, and whether these are all, or in a reduced search as many as show every end. If they aren't,
@@ -193,4 +200,68 @@ pub fn search_all<O: Observer>(
     }
     discard(search);
     search_in(alloc, processes, kernel, limits, observer, false)
+}
+
+impl Store {
+    /// Whether a state is that of a process before it began to wait.
+    fn is_state(&self, alloc: Global, state: u32, process: &Process) -> Result<bool, AllocError>
+        ensures same { IfOk result (λ same. IsTrue same
+            → IsState self.now state (before_wait (process_view process.now))) }
+    {
+        let Some(kept) = self.states.get(alloc, state as usize)? else {
+            return Ok(false);
+        };
+        let process = copy_before_wait(alloc, process)?;
+        Ok(kept.is_same(&process))
+    }
+
+    /// Whether a kernel is alike the one with a number.
+    fn is_kernel(&self, alloc: Global, number: u32, kernel: &Kernel) -> Result<bool, AllocError>
+        ensures alike { IfOk result (λ alike. IsTrue alike → (k : KernelState)
+            × IsExactly self.now number k × IsAlike k kernel.now × IsSettled k) }
+    {
+        let Some(kept) = self.kernels.get(alloc, number)? else {
+            return Ok(false);
+        };
+        Ok(is_alike(&kept, kernel))
+    }
+
+    /// Whether a row stands for a world that is alike this one, with each process that waits before
+    /// its call.
+    pub fn is_unwaiting_row(
+        &self,
+        alloc: Global,
+        at: usize,
+        world: &World,
+    ) -> Result<bool, AllocError>
+        ensures alike { IfOk result (λ alike. IsTrue alike
+            → IsLike self.now at (unwaiting world.now)) }
+    {
+        let Some((kernel, states)) = self.rows.get(at) else {
+            return Ok(false);
+        };
+        let alike = self.is_kernel(alloc, kernel, world.kernel())?;
+        if !alike || states.len() != world.count() {
+            return Ok(false);
+        }
+        for (pid, state) in states.iter().enumerate() {
+            let Some(process) = world.process(pid) else {
+                return Ok(false);
+            };
+            if !self.is_state(alloc, *state, process)? {
+                return Ok(false);
+            }
+        }
+        Ok(true)
+    }
+
+    /// Whether a row stands for a world alike.
+    pub fn is_row(&self, alloc: Global, at: usize, world: &World) -> Result<bool, AllocError>
+        ensures alike { IfOk result (λ alike. IsTrue alike → IsLike self.now at world.now) }
+    {
+        if !none_waits(world) {
+            return Ok(false);
+        }
+        self.is_unwaiting_row(alloc, at, world)
+    }
 }

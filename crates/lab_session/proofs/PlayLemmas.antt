@@ -3,7 +3,7 @@ use Rattle.std.proofs.Common.{◌≡◌, ℕ, zero, suc, ◌++◌, ◌&&◌, Lis
 use Rattle.lab_sched.specs.Verdicts.{is_nothing}
 use Rattle.lab_sched.specs.Worlds.{Process, WorldState, step_effect_in, step, run}
 use Rattle.lab_sched.specs.Schedules.{steps_of}
-use Rattle.lab_sched.specs.declared.schedule.block.Block.{Block}
+use Rattle.lab_sched.specs.declared.schedule.Block.{Block}
 use Rattle.lab_session.specs.declared.marks.Mark.{Mark}
 use Rattle.lab_session.specs.Marks.{break_at, stands_at_break, is_at_break}
 use Rattle.lab_session.specs.Sessions.{SessionState, effective, with_steps, after_steps}

@@ -3,7 +3,7 @@ use Rattle.std.proofs.Common.{◌≡◌, ℕ, zero, suc, ◌+◌, ◌<◌, ◌==
 use Rattle.std.specs.Prelude.{flat_map}
 use Rattle.std.proofs.lemmas.List.{replicate-append-replicate}
 use Rattle.std.proofs.lemmas.Bool.Decides.{nat_tests}
-use Rattle.lab_sched.specs.declared.schedule.block.Block.{Block}
+use Rattle.lab_sched.specs.declared.schedule.Block.{Block}
 use Rattle.lab_sched.specs.Schedules.{block, before, steps_of}
 use Rattle.lab_session.specs.Taken.{blocks_of, spaced_text, blocks_text}
 use Rattle.lab_session.specs.Private.Runs.{run_text}

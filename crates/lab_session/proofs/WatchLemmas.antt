@@ -8,7 +8,7 @@ use Rattle.lab_session.specs.Stops.{is_stop}
 use Rattle.lab_session.specs.Watches.{word_at, watched_at, watched_words, has_changed, changes_watched}
 use Rattle.lab_session.specs.declared.marks.Mark.{Mark}
 use Rattle.lab_session.specs.declared.marks.MarkKind.TheVariants.{Watch}
-use Rattle.lab_session.specs.declared.watches.Watched.{Watched}
+use Rattle.lab_session.specs.declared.stepping.Watched.{Watched}
 
 -- where no word has changed, the words are the same
 words-same : (ms : List Mark) (w v : WorldState) → list_any (has_changed v) (map (watched_at w) ms) ≡ false → map (watched_at v) ms ≡ map (watched_at w) ms

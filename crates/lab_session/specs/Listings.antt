@@ -2,7 +2,7 @@
 use Rattle.std.specs.Prelude.{ℕ, Bool, Option, List, slice_get}
 use Rattle.std.specs.Option.{option_and_then, is_some}
 use Rattle.std.specs.List.{list_any}
-use Rattle.lab_sources.specs.declared.listing.Listing.{Listing}
+use Rattle.lab_sources.specs.declared.source.Listing.{Listing}
 
 -- the source of process pid, where it was given as one
 abbrev pub listing_of : List (Option Listing) → ℕ → Option Listing

@@ -4,13 +4,13 @@ use Rattle.std.specs.Fmt.{decimal}
 use Rattle.lc3_word.specs.Words.{hexadecimal_text}
 use Rattle.lab_sched.specs.Worlds.{WorldState}
 use Rattle.lab_sources.specs.Places.{label_at}
-use Rattle.lab_sources.specs.declared.listing.Listing.{Listing}
+use Rattle.lab_sources.specs.declared.source.Listing.{Listing}
 use Rattle.lab_session.specs.Listings.{listing_of}
 use Rattle.lab_session.specs.Watches.{word_at, watched_at, has_changed}
 use Rattle.lab_session.specs.declared.marks.MarkKind.{MarkKind}
 use Rattle.lab_session.specs.declared.marks.MarkKind.TheVariants.{Break, Watch}
 use Rattle.lab_session.specs.declared.marks.Mark.{Mark}
-use Rattle.lab_session.specs.declared.watches.Watched.{Watched}
+use Rattle.lab_session.specs.declared.stepping.Watched.{Watched}
 
 -- a marked address with its nearest label
 unfoldable pub mark_text : List (Option Listing) → Mark → List ℕ

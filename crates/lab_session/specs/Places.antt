@@ -7,7 +7,7 @@ use Rattle.lc3_machine.specs.Process.{Process as Machine}
 use Rattle.lab_sched.specs.Worlds.{machine_of, WorldState}
 use Rattle.lab_texts.specs.Texts.{text_of, memory_lines}
 use Rattle.lab_sources.specs.Places.{label_at, content_text}
-use Rattle.lab_sources.specs.declared.listing.Listing.{Listing}
+use Rattle.lab_sources.specs.declared.source.Listing.{Listing}
 
 -- the nearest label of an address, and what stands there
 abbrev pub place_text : Option Listing → ℕ → ℕ → List ℕ

@@ -3,7 +3,7 @@ use Rattle.std.specs.Prelude.{ℕ, ◌-◌, Option, if◌then◌else◌, List, [
 use Rattle.lab_sched.specs.Worlds.{WorldState, step_effect_in, step, run}
 use Rattle.lab_sched.specs.Verdicts.{is_nothing}
 use Rattle.lab_sched.specs.Schedules.{steps_of}
-use Rattle.lab_sources.specs.declared.listing.Listing.{Listing}
+use Rattle.lab_sources.specs.declared.source.Listing.{Listing}
 use Rattle.lab_session.specs.declared.marks.Mark.{Mark}
 use Rattle.lab_session.specs.declared.state.Session.{Session}
 

@@ -1,6 +1,6 @@
 -- The schedule of steps.
 use Rattle.std.specs.Prelude.{ℕ, List, [], ◌∷◌, ◌++◌, codes, flat_map}
-use Rattle.lab_sched.specs.declared.schedule.block.Block.{Block}
+use Rattle.lab_sched.specs.declared.schedule.Block.{Block}
 use Rattle.lab_sched.specs.Schedules.{block, before}
 use Rattle.lab_sched.specs.ScheduleTexts.{block_text}
 

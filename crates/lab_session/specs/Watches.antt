@@ -5,7 +5,7 @@ use Rattle.lab_sched.specs.Worlds.{Process, WorldState, step, machine_of}
 use Rattle.lab_session.specs.Marks.{of_kind}
 use Rattle.lab_session.specs.declared.marks.Mark.{Mark}
 use Rattle.lab_session.specs.declared.marks.MarkKind.TheVariants.{Watch}
-use Rattle.lab_session.specs.declared.watches.Watched.{Watched}
+use Rattle.lab_session.specs.declared.stepping.Watched.{Watched}
 
 -- the word at an address of a process
 abbrev pub word_of : ℕ → Option Process → ℕ

@@ -2,21 +2,12 @@
 //! were taken, the world after them, and where a process stands in its source.
 #![tactic(auto)]
 
-mod copies;
-mod mark_texts;
 mod marks;
 mod places;
-mod playing;
 mod state;
 mod stepping;
-mod taken;
-mod watches;
 
-pub use mark_texts::{marks_text, off_text, push_changes, set_text};
-pub use marks::{Mark, MarkKind, has_mark};
+pub use marks::{Mark, MarkKind, has_mark, marks_text, off_text, push_changes, set_text};
 pub use places::{Range, code_text, labels_text, where_text};
-pub use playing::play_text;
 pub use state::Session;
-pub use stepping::step_count;
-pub use taken::taken_text;
-pub use watches::Watched;
+pub use stepping::{Watched, play_text, step_count, taken_text};

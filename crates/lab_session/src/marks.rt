@@ -1,9 +1,15 @@
 //! Marks: addresses of processes that steps stop at, or whose words they watch.
-ghost use Rattle.std.specs.Prelude.{◌≡◌, IfOk};
+ghost use Rattle.std.specs.Prelude.{◌≡◌, IfOk, ◌++◌, Some, OnOk, string_bytes};
 ghost use Rattle.lab_session.specs.Marks.{rank, is_of, is_same, is_before, has_mark, with_mark, without_mark, of_kind, break_at, is_at_break};
+ghost use Rattle.lab_session.specs.MarkTexts.{mark_text, watched_text, set_text, marks_text, off_text, changes_text};
 
+use crate::state::listing_in;
+use crate::stepping::{Watched, has_changed, watched_at, word_at};
 use lab_sched::World;
+use lab_sources::{Listing, NearestLabel};
+use lc3_word::Hex;
 use std::alloc::{AllocError, Global};
+use std::fmt::{self, Write};
 
 /// What a mark is for.
 #[derive(Clone, Copy)]
@@ -26,10 +32,7 @@ pub struct Mark {
 fn rank(kind: MarkKind) -> u8
     ensures value { result ≡ rank kind }
 {
-    match kind {
-        MarkKind::Break => 0,
-        MarkKind::Watch => 1,
-    }
+    kind as u8
 }
 
 fn is_of(kind: MarkKind, mark: Mark) -> bool
@@ -111,4 +114,150 @@ pub fn is_at_break(world: &World, marks: &[Mark], pid: usize) -> bool
         Some(process) => has_mark(marks, break_at(pid, process.machine().pc())),
         None => false,
     }
+}
+
+/// A marked address as it is shown, with its nearest label.
+#[derive(Clone, Copy)]
+struct Marked<'a> {
+    listings: &'a [Option<Listing>],
+    mark: Mark,
+}
+
+impl fmt::Display for Marked<'_> {
+    ghost output = { λ m. Some (mark_text m.listings.now m.mark) };
+
+    #[tactic(auto, unfolding(crate::specs::MarkTexts::mark_text))]
+    fn fmt<W: fmt::Write>(&self, f: &mut fmt::Formatter<W>) -> fmt::Result {
+        let Mark { pid, address, .. } = self.mark;
+        let shown = Hex(address);
+        let listing = listing_in(self.listings, pid);
+        let label = NearestLabel { listing, address };
+        write!(f, "{pid} {shown} {label}")
+    }
+}
+
+/// A watched address as it is shown, with the word that was seen there.
+#[derive(Clone, Copy)]
+struct Seen<'a> {
+    listings: &'a [Option<Listing>],
+    watched: Watched,
+}
+
+impl fmt::Display for Seen<'_> {
+    ghost output = { λ s. Some (watched_text s.listings.now s.watched) };
+
+    #[tactic(auto, unfolding(crate::specs::MarkTexts::watched_text))]
+    fn fmt<W: fmt::Write>(&self, f: &mut fmt::Formatter<W>) -> fmt::Result {
+        let mark = Marked {
+            listings: self.listings,
+            mark: self.watched.mark,
+        };
+        let word = Hex(self.watched.word);
+        write!(f, "watch {mark} {word}")
+    }
+}
+
+/// The line of a mark that is set, as `break 0 x3007 LOOP` or `watch 0 x3010 COUNT x0005`.
+#[derive(Clone, Copy)]
+struct SetLine<'a> {
+    listings: &'a [Option<Listing>],
+    world: &'a World,
+    mark: Mark,
+}
+
+impl fmt::Display for SetLine<'_> {
+    ghost output = { λ s. Some (set_text s.listings.now s.world.now s.mark) };
+
+    fn fmt<W: fmt::Write>(&self, f: &mut fmt::Formatter<W>) -> fmt::Result {
+        let SetLine { listings, mark, .. } = *self;
+        match mark.kind {
+            MarkKind::Break => {
+                let mark = Marked { listings, mark };
+                write!(f, "break {mark}\n")
+            }
+            MarkKind::Watch => {
+                let watched = watched_at(self.world, mark);
+                let seen = Seen { listings, watched };
+                write!(f, "{seen}\n")
+            }
+        }
+    }
+}
+
+/// The line of a mark that is set; of a watch with the word there now.
+pub fn set_text(
+    alloc: Global,
+    listings: &[Option<Listing>],
+    world: &World,
+    mark: Mark,
+) -> Result<String, AllocError>
+    ensures text { IfOk result (λ s. string_bytes s ≡ set_text listings.now world.now mark) }
+{
+    let line = SetLine {
+        listings,
+        world,
+        mark,
+    };
+    format!(in alloc; "{line}")
+}
+
+/// The line of a mark that is taken off, as `clear 0 x3007 LOOP`.
+pub fn off_text(
+    alloc: Global,
+    listings: &[Option<Listing>],
+    mark: Mark,
+) -> Result<String, AllocError>
+    ensures text { IfOk result (λ s. string_bytes s ≡ off_text listings.now mark) }
+{
+    let shown = Marked { listings, mark };
+    match mark.kind {
+        MarkKind::Break => format!(in alloc; "clear {shown}\n"),
+        MarkKind::Watch => format!(in alloc; "unwatch {shown}\n"),
+    }
+}
+
+/// The lines of marks, in their order.
+pub fn marks_text(
+    alloc: Global,
+    listings: &[Option<Listing>],
+    world: &World,
+    marks: &[Mark],
+) -> Result<String, AllocError>
+    ensures text { IfOk result
+        (λ s. string_bytes s ≡ marks_text listings.now world.now marks.now) }
+{
+    let mut text = String::new(alloc);
+    for mark in marks {
+        let line = SetLine {
+            listings,
+            world,
+            mark: *mark,
+        };
+        write!(text, "{line}")?;
+    }
+    Ok(text)
+}
+
+/// Adds the lines of the watched words that have changed, each as
+/// `watch 0 x3010 COUNT x0005 -> x0006`.
+#[tactic(auto, unfolding(crate::specs::MarkTexts::change_line))]
+pub fn push_changes(
+    text: &mut String,
+    listings: &[Option<Listing>],
+    world: &World,
+    watched: &[Watched],
+) -> Result<(), AllocError>
+    ensures text { OnOk result (string_bytes text.new
+        ≡ string_bytes text.old ++ changes_text listings.now world.now watched.now) }
+{
+    for word in watched {
+        let watched = *word;
+        if !has_changed(world, watched) {
+            continue;
+        }
+        let seen = Seen { listings, watched };
+        let word = Hex(word_at(world, watched.mark));
+        write!(text, "{seen} -> {word}\n")?;
+    }
+    Ok(())
 }

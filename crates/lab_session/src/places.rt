@@ -1,9 +1,9 @@
 //! The texts of where a process stands in its source.
 ghost use Rattle.std.specs.Prelude.{◌≡◌, ◌+◌, ◌++◌, ◌≤◌, IfOk, OnOk, option_map, string_bytes};
+ghost use Rattle.lab_session.specs.Places.{where_line, where_text, code_line, code_text, labels_text};
 ghost use Rattle.lab_sched.specs.Held.{process_view};
 ghost use Rattle.lab_sched.specs.Worlds.{machine_of};
 ghost use Rattle.lab_texts.specs.Texts.{memory_lines};
-ghost use Rattle.lab_session.specs.Places.{where_line, where_text, code_line, code_text, labels_text};
 
 use lab_sched::{Process, World};
 use lab_sources::{Content, Listing, NearestLabel};
@@ -11,32 +11,9 @@ use lc3_word::Hex;
 use std::alloc::{AllocError, Global};
 use std::fmt::Write;
 
-/// Adds where a process stands.
-#[tactic(auto, unfolding(crate::specs::Places::where_line))]
-fn push_where(
-    text: &mut String,
-    pid: usize,
-    listing: Option<&Listing>,
-    process: &Process,
-) -> Result<(), AllocError>
-    ensures text { OnOk result (string_bytes text.new ≡ string_bytes text.old
-        ++ where_line pid (option_map (λ l. l.now) listing.entry) (machine_of (process_view process.now))) }
-{
-    let address = process.machine().pc();
-    let word = process.machine().word(address);
-    let place = Hex(address);
-    let label = NearestLabel { listing, address };
-    let content = Content {
-        listing,
-        address,
-        word,
-    };
-    write!(text, "{pid} {place} {label} {content}\n")?;
-    Ok(())
-}
-
 /// Where process `pid` stands: its program counter, the nearest label, and the line of its source
 /// there or the text of the word. A process that isn't there has no line.
+#[tactic(auto, unfolding(crate::specs::Places::where_line))]
 pub fn where_text(
     alloc: Global,
     world: &World,
@@ -48,7 +25,16 @@ pub fn where_text(
 {
     let mut text = String::new(alloc);
     if let Some(process) = world.process(pid) {
-        push_where(&mut text, pid, listing, process)?;
+        let address = process.machine().pc();
+        let word = process.machine().word(address);
+        let place = Hex(address);
+        let label = NearestLabel { listing, address };
+        let content = Content {
+            listing,
+            address,
+            word,
+        };
+        write!(text, "{pid} {place} {label} {content}\n")?;
     }
     Ok(text)
 }
@@ -76,6 +62,14 @@ fn push_code_line(
     Ok(())
 }
 
+/// A range of memory of a process: so many words from an address on.
+#[derive(Clone, Copy)]
+pub struct Range {
+    pub pid: usize,
+    pub address: u16,
+    pub count: u32,
+}
+
 /// Adds the words of a range, each with its label and its line.
 #[tactic(auto, using(lab_texts::proofs::RowLemmas::texts_below_none))]
 fn push_code(
@@ -95,14 +89,6 @@ fn push_code(
         push_code_line(text, listing, place, process.machine().word(place))?;
     }
     Ok(())
-}
-
-/// A range of memory of a process: so many words from an address on.
-#[derive(Clone, Copy)]
-pub struct Range {
-    pub pid: usize,
-    pub address: u16,
-    pub count: u32,
 }
 
 /// The words of a range of memory, each on a line with its address, its nearest label, and the line

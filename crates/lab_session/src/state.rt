@@ -1,19 +1,21 @@
 //! The state of a session: the world that it began with, the steps that were taken, and the world after them.
-ghost use Rattle.std.specs.Prelude.{◌≡◌, ◌↔◌, Err, IfOk, OnOk, OnErr, [], ◌∷◌, length, option_map, replicate};
+ghost use Rattle.std.specs.Prelude.{◌≡◌, ◌↔◌, Err, IfOk, OnOk, OnErr, [], length, option_map};
 ghost use Rattle.lab_sched.specs.Schedules.{steps_of};
 ghost use Rattle.lab_sched.specs.Starts.{IsCount, fresh};
-ghost use Rattle.lab_sched.specs.declared.fresh.FreshFault.TheVariants.{Count};
+ghost use Rattle.lab_sched.specs.declared.process.FreshFault.TheVariants.{Count};
 ghost use Rattle.lab_session.specs.Marks.{with_mark, without_mark, of_kind};
 ghost use Rattle.lab_session.specs.Watches.{watched_words};
 ghost use Rattle.lab_session.specs.Stops.{steps_to_stop, stopped_process, steps_until};
 ghost use Rattle.lab_session.specs.Listings.{listing_of, has_labels};
 ghost use Rattle.lab_session.specs.Sessions.{session_from, with_marks, effective, after_steps, back, state_of};
+ghost use Rattle.lab_sched.specs.Held.{IsHeld, process_view};
 
-use crate::copies::copy_of_world;
 use crate::marks::{Mark, MarkKind, break_at, is_at_break, of_kind, with_mark, without_mark};
-use crate::stepping::{advance, first_steps, step_count};
-use crate::watches::{Watched, watched_words};
-use lab_sched::{Block, Fresh, FreshFault, Program, Schedule, World};
+use crate::stepping::{Watched, advance, first_steps, step_count, watched_words};
+use ipc_traps::Asked;
+use lab_sched::{
+    Block, Fresh, FreshFault, Process, Program, Schedule, World, ask_call, begin_wait,
+};
 use lab_sources::Listing;
 use lc3_table::Profile;
 use std::alloc::{AllocError, Global};
@@ -228,9 +230,7 @@ impl Session {
         ensures state { OnOk result
             (state_of self.new ≡ after_steps (state_of self.old) (steps_of schedule.now)) }
     {
-        let Ok(()) = self.world.run(schedule) else {
-            return Err(AllocError);
-        };
+        self.world.run(schedule).map_err(|_| AllocError)?;
         self.taken.extend_from_slice(schedule.blocks())
     }
 
@@ -263,4 +263,46 @@ impl Session {
         self.world = world;
         Ok(left)
     }
+}
+
+/// A copy of a process. One that waits asks once more, and waits again.
+fn copy_of(alloc: Global, process: &Process) -> Result<Process, AllocError>
+    ensures same { IfOk result (λ copy. process_view copy ≡ process_view process.now) }
+    ensures held { IfOk result (λ copy. IsHeld copy) }
+{
+    match process {
+        Process::Running(running) => Ok(Process::Running(running.copy(alloc)?)),
+        Process::Waiting(waiting, call) => {
+            let vector = waiting.vector();
+            let mut copy = Process::Running(waiting.copy(alloc)?.back());
+            let Asked::Kernel(asked) = ask_call(alloc, &mut copy, vector)? else {
+                return Err(AllocError);
+            };
+            if asked != *call {
+                return Err(AllocError);
+            }
+            begin_wait(&mut copy, vector, asked);
+            Ok(copy)
+        }
+        Process::Ended(ended) => Ok(Process::Ended(ended.copy(alloc)?)),
+    }
+}
+
+/// A copy of a world.
+pub fn copy_of_world(alloc: Global, world: &World) -> Result<World, AllocError>
+    ensures same { IfOk result (λ copy. copy ≡ world.now) }
+{
+    let count = world.count();
+    let mut copies = Vec::with_capacity(alloc, count)?;
+    for pid in 0..count {
+        let Some(process) = world.process(pid) else {
+            unreachable!();
+        };
+        let copy = copy_of(alloc, process)?;
+        copies.push(copy)?;
+    }
+    let kernel = world.kernel().copy(alloc)?;
+    // The processes of a world have one profile.
+    let _ = world.profile();
+    Ok(World::join(copies, kernel))
 }

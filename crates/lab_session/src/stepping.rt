@@ -1,18 +1,22 @@
 //! Steps of a world, up to a stop, and which of them have an effect.
-ghost use Rattle.std.specs.Prelude.{◌≡◌, ◌||◌, ◌++◌, IfOk, OnOk, length, replicate, take};
+ghost use Rattle.std.specs.Prelude.{◌≡◌, ◌||◌, ◌++◌, IfOk, OnOk, length, replicate, take, string_bytes};
 ghost use Rattle.std.specs.List.{list_any};
 ghost use Rattle.lab_sched.specs.Worlds.{run};
 ghost use Rattle.lab_sched.specs.Schedules.{steps_of};
 ghost use Rattle.lab_session.specs.Marks.{is_at_break};
-ghost use Rattle.lab_session.specs.Watches.{has_changed};
+ghost use Rattle.lab_session.specs.Watches.{has_changed, word_at, watched_at, watched_words};
 ghost use Rattle.lab_session.specs.Stops.{steps_to_stop, stopped_process};
 ghost use Rattle.lab_session.specs.Private.Stops.{only_if};
 ghost use Rattle.lab_session.specs.Sessions.{effective};
+ghost use Rattle.lab_session.specs.Taken.{taken_text};
+ghost use Rattle.lab_session.specs.Private.Runs.{run_text};
+ghost use Rattle.lab_session.specs.Played.{play_text};
 
-use crate::marks::{Mark, is_at_break};
-use crate::watches::{Watched, is_any_changed, watched_words};
+use crate::marks::{Mark, MarkKind, is_at_break, of_kind};
 use lab_sched::{Block, Stepped, World};
+use lab_texts::{status_text, verdict_text};
 use std::alloc::{AllocError, Global};
+use std::fmt::Write;
 
 /// Whether process `pid` is at a break, or another word is at a watched address now.
 fn is_stopped(world: &World, marks: &[Mark], watched: &[Watched], pid: usize) -> bool
@@ -142,4 +146,115 @@ pub fn first_steps(alloc: Global, blocks: &[Block], most: u64) -> Result<Vec<Blo
         left -= u64::from(count);
     }
     Ok(first)
+}
+
+/// A watched address, and the word that was seen there.
+#[derive(Clone, Copy)]
+pub struct Watched {
+    pub mark: Mark,
+    pub word: u16,
+}
+
+/// The word at a marked address; where its process isn't there, x0000.
+pub fn word_at(world: &World, mark: Mark) -> u16
+    ensures value { result ≡ word_at world.now mark }
+{
+    match world.process(mark.pid) {
+        Some(process) => process.machine().word(mark.address),
+        None => 0,
+    }
+}
+
+/// A mark with the word there.
+pub fn watched_at(world: &World, mark: Mark) -> Watched
+    ensures value { result ≡ watched_at world.now mark }
+{
+    let word = word_at(world, mark);
+    Watched { mark, word }
+}
+
+/// The watches among some marks, with the words there.
+pub fn watched_words(
+    alloc: Global,
+    world: &World,
+    marks: &[Mark],
+) -> Result<Vec<Watched>, AllocError>
+    ensures words { IfOk result (λ found. found.items ≡ watched_words marks.now world.now) }
+{
+    of_kind(alloc, marks, MarkKind::Watch)?
+        .iter()
+        .map(|mark| watched_at(world, *mark))
+        .collect(alloc)
+}
+
+/// Whether another word is at a watched address now.
+pub fn has_changed(world: &World, watched: Watched) -> bool
+    ensures value { result ≡ has_changed world.now watched }
+{
+    word_at(world, watched.mark) != watched.word
+}
+
+/// Whether another word is at one of the watched addresses now.
+pub fn is_any_changed(world: &World, watched: &[Watched]) -> bool
+    ensures value { result ≡ list_any (has_changed world.now) watched.now }
+{
+    watched.iter().any(|it| has_changed(world, *it))
+}
+
+/// Adds steps of one process, if there are any.
+#[tactic(auto, unfolding(lab_sched::specs::ScheduleTexts::block_text))]
+fn push_run(text: &mut String, pid: usize, count: u64) -> Result<(), AllocError>
+    ensures text { OnOk result
+        (string_bytes text.new ≡ string_bytes text.old ++ run_text pid count) }
+{
+    if count > 0 {
+        write!(text, " {pid}*{count}")?;
+    }
+    Ok(())
+}
+
+/// The schedule of the steps of blocks, as `schedule 0*6 1*6`; those of one process in a row are
+/// one block.
+pub fn taken_text(alloc: Global, blocks: &[Block]) -> Result<String, AllocError>
+    ensures text { IfOk result (λ s. string_bytes s ≡ taken_text (steps_of blocks.now)) }
+{
+    let mut text = String::from_str(alloc, "schedule")?;
+    let mut pid = 0;
+    let mut count: u64 = 0;
+    for block in blocks {
+        if block.pid == pid {
+            let Some(sum) = count.checked_add(u64::from(block.count)) else {
+                return Err(AllocError);
+            };
+            count = sum;
+        } else if block.count > 0 {
+            push_run(&mut text, pid, count)?;
+            pid = block.pid;
+            count = u64::from(block.count);
+        }
+    }
+    push_run(&mut text, pid, count)?;
+    text.push('\n')?;
+    Ok(text)
+}
+
+/// Where a schedule of so many steps stopped, and the status line of the process that stopped it;
+/// else the verdict line.
+#[tactic(auto, unfolding(crate::specs::Played::stop_text))]
+pub fn play_text(
+    alloc: Global,
+    world: &World,
+    taken: u64,
+    all: u32,
+    stopped: Option<usize>,
+) -> Result<String, AllocError>
+    ensures text { IfOk result (λ s. string_bytes s ≡ play_text taken all stopped world.now) }
+{
+    let Some(pid) = stopped else {
+        return verdict_text(alloc, world);
+    };
+    let mut text = format!(in alloc; "stopped after {taken} of {all}\n")?;
+    let status = status_text(alloc, world, pid)?;
+    text.push_str(status.as_str())?;
+    Ok(text)
 }

@@ -5,7 +5,7 @@ use Rattle.serde_json.specs.Data.{Data}
 use Rattle.lc3_table.specs.declared.profile.Profile.{Profile}
 use Rattle.lab_sched.specs.Starts.{fresh}
 use Rattle.lab_sched.specs.Worlds.{WorldState}
-use Rattle.lab_sched.specs.declared.fresh.Program.{Program}
+use Rattle.lab_sched.specs.declared.process.Program.{Program}
 use Rattle.lab_questions.specs.EndTexts.{told_end}
 use Rattle.lab_questions.specs.declared.answers.Answers.{Answers}
 use Rattle.lab_places.specs.Placed.{SourceSeen}
@@ -13,7 +13,7 @@ use Rattle.lab_template.specs.Pages.{around, page_text}
 use Rattle.lab_page.specs.Ends.{EndList, ends_json, with_end}
 use Rattle.lab_page.specs.Sources.{programs, sources_shown}
 use Rattle.lab_page.specs.Worlds.{Worlds}
-use Rattle.lab_page.specs.declared.asked.Asked.{Asked}
+use Rattle.lab_page.specs.declared.ends.Asked.{Asked}
 use Rattle.lab_page.specs.declared.ends.Extent.{Extent}
 use Rattle.lab_page.specs.declared.source.Source.{Source}
 use Rattle.lab_commands.specs.declared.explore.Search.{Search}

@@ -8,15 +8,16 @@ ghost use Rattle.lab_shell.specs.Private.Explored.{IsTrace};
 ghost use Rattle.lab_shell.specs.Private.Runs.{start_of};
 
 use crate::given::{Given, page_files};
-use crate::notes::Notes;
-use lab_arguments::{Manner, Page, Setup};
+use lab_arguments::{Manner, Page, Setup, program_of};
 use lab_commands::{
-    At, Complaint, Debugged, Job, Progress, debug_given, read_schedule, report_given, run_given,
-    write_bytes,
+    At, Complaint, Debugged, Job, Progress, debug_given, messages_if, read_schedule, report_given,
+    run_given, standing_at, write_bytes,
 };
-use lab_io::{Input, Output};
+use lab_io::{Input, Output, Prompt};
+use lab_notes::{Refusal, noted, push_more, push_note};
 use lab_sched::{Schedule, World};
-use lab_trace::trace;
+use lab_sources::Source;
+use lab_trace::{missing_after, trace};
 use std::alloc::AllocError;
 use std::io::{Read, Write};
 use std::rt::Files;
@@ -38,10 +39,8 @@ pub fn step_programs<'j, 'a, T: Files, R: Read, W: Write, P: Progress>(
 {
     let given = Given::read(job, setup, Vec::new(job.alloc), input)?;
     let schedule = read_schedule(job, input)?;
-    write_bytes(
-        &report_given(job, &given.programs, setup.profile, &schedule)?,
-        output,
-    )?;
+    let report = report_given(job, &given.programs, setup.profile, &schedule)?;
+    write_bytes(&report, output)?;
     given.tell_notes(&[&schedule]);
     Ok(())
 }
@@ -116,11 +115,7 @@ pub fn debug_programs<'j, 'a, T: Files, R: Read, W: Write, P: Progress>(
     requires output_healthy { output.old.failed ≡ false }
 {
     let given = Given::read(job, setup, Vec::new(job.alloc), input)?;
-    let start = if job.tells_notes() {
-        Some(given.world()?)
-    } else {
-        None
-    };
+    let start = job.tells_notes().then(|| given.world()).transpose()?;
     let debugged = debug_given(job, given.programs, setup.profile, input, output)?;
     if let Some(start) = start {
         // the session is over: where memory is refused now, there are fewer notes
@@ -135,11 +130,8 @@ fn tell_debugged<T, P: Progress>(
     start: World,
     debugged: &Debugged,
 ) -> Result<(), AllocError> {
-    let processes = 0..start.count();
-    let sources = processes
-        .map(|process| debugged.source(process))
-        .collect(job.alloc)?;
-    let mut notes = Notes::new(job, sources);
+    let sources = (0..start.count()).map(|process| debugged.source(process));
+    let mut notes = Notes::new(job, sources.collect(job.alloc)?);
     if let Some(schedule) = debugged.schedule(job.alloc)? {
         notes.tell(start, &schedule)?;
     }
@@ -161,5 +153,138 @@ impl<'j, 'a, T, P> Given<'j, 'a, T, P> {
         let mut world = self.world()?;
         let sources = self.programs.sources.as_slice();
         trace(self.job.alloc, &mut world, sources, schedule, output).at(self.job.alloc, "run")
+    }
+}
+
+/// Behind longer runs there are no notes: it would take their time twice.
+const MOST_NOTED: u32 = 1_000_000;
+
+/// Each run counts as so many steps at least, for the world that it begins with.
+const LEAST_COUNTED: u32 = 1_000;
+
+impl<T, P: Progress> Given<'_, '_, T, P> {
+    /// Tells the warnings of the sources that programs are given as, of each file once, where notes are told.
+    pub fn tell_warnings(&self) {
+        let (job, profile) = (self.job, self.setup.profile);
+        if !job.tells_notes() {
+            return;
+        }
+        let words = self.setup.programs.as_slice();
+        for (process, word) in words.iter().enumerate() {
+            let (file, _) = program_of(word);
+            let mut before = words.iter().take(process);
+            if !before.any(|other| program_of(other).0 == file)
+                && let Some(Some(source)) = self.programs.sources.get(process)
+                && let Some(report) = messages_if(job, file, source.text.as_bytes(), profile, true)
+                && !report.text.is_empty()
+            {
+                job.progress.tell(&report.text);
+            }
+        }
+    }
+
+    /// Tells the notes of runs of the programs, where notes are told. Where memory is refused, there are fewer.
+    pub fn tell_notes(&self, schedules: &[&Schedule]) {
+        if !self.job.tells_notes() {
+            return;
+        }
+        let sources = self.programs.sources.iter().map(|source| source.as_ref());
+        let Ok(sources) = sources.collect(self.job.alloc) else {
+            return;
+        };
+        let mut notes = Notes::new(self.job, sources);
+        for schedule in schedules {
+            let Ok(world) = self.world() else {
+                return;
+            };
+            let Ok(true) = notes.tell(world, schedule) else {
+                return;
+            };
+        }
+    }
+}
+
+/// The notes of runs of some programs, each of which is told once.
+#[derive(Drop)]
+pub struct Notes<'a, T, P> {
+    job: &'a Job<'a, T, P>,
+    /// Of each process its source, where it was given as one.
+    sources: Vec<Option<&'a Source>>,
+    /// What was told.
+    told: Vec<String>,
+    /// How many steps are looked at, at most.
+    left: u32,
+}
+
+impl<'a, T, P: Progress> Notes<'a, T, P> {
+    pub fn new(job: &'a Job<'a, T, P>, sources: Vec<Option<&'a Source>>) -> Notes<'a, T, P> {
+        Notes {
+            job,
+            sources,
+            told: Vec::new(job.alloc),
+            left: MOST_NOTED,
+        }
+    }
+
+    /// Tells of each process of a run its first refused call, where it has one and that wasn't told of another run; with
+    /// whether the run wasn't too long for it.
+    pub fn tell(&mut self, mut world: World, schedule: &Schedule) -> Result<bool, AllocError> {
+        let Some(left) = self.left.checked_sub(schedule.total().max(LEAST_COUNTED)) else {
+            return Ok(false);
+        };
+        self.left = left;
+        if missing_after(&mut world, schedule).is_some() {
+            return Ok(true);
+        }
+        let rows = noted(self.job.alloc, &mut world, schedule)?;
+        for (pid, row) in rows.iter().enumerate() {
+            if let Some(first) = &row.first {
+                self.tell_first(pid, first, row.more)?;
+            }
+        }
+        Ok(true)
+    }
+
+    /// Tells the first refused call of a process and how many more there were, unless it was told before.
+    fn tell_first(&mut self, pid: usize, first: &Refusal, more: u32) -> Result<(), AllocError> {
+        let alloc = self.job.alloc;
+        let source = self.sources.get(pid).copied().flatten();
+        let standing = standing_at(alloc, source, first.pc, first.word)?;
+        let mut note = String::new(alloc);
+        push_note(&mut note, pid, first, &format!(in alloc; "{standing}")?)?;
+        if self.told.iter().any(|told| told.as_str() == note.as_str()) {
+            return Ok(());
+        }
+        let mut line = String::from_str(alloc, &note)?;
+        push_more(&mut line, more)?;
+        line.push_str("\n")?;
+        self.job.progress.tell(&line);
+        Ok(self.told.push(note)?)
+    }
+}
+
+/// What the program says, for these words of the command line, where its standard input is a terminal: what it waits for,
+/// or the debugger's prompt for each line.
+pub fn prompt_of(words: &[String]) -> Prompt {
+    let Some(word) = words.first() else {
+        return Prompt::Once(
+            "lc3lab: waiting for hexadecimal words; Ctrl-D ends them (lc3lab --help shows the commands)\n",
+        );
+    };
+    match word.as_str() {
+        "step" | "trace" => Prompt::Once("lc3lab: waiting for a schedule; Ctrl-D ends it\n"),
+        "run" | "explore" => { Prompt::Once("lc3lab: waiting for console input; Ctrl-D ends it\n") }
+        "debug" => Prompt::Always("> "),
+        _ => Prompt::Never,
+    }
+}
+
+/// What the program says there before its first prompt: of the debugger how its commands are found.
+pub fn hint_of(words: &[String]) -> Prompt {
+    match words.first() {
+        Some(word) if word.as_str() == "debug" => {
+            Prompt::Once("lc3lab: help lists the commands\n")
+        }
+        _ => Prompt::Never,
     }
 }

@@ -11,7 +11,6 @@ use lab_io::Input;
 use lab_page::{Source, source_of};
 use lab_sched::World;
 use lc3_asm::assemble;
-use lc3_word::Image;
 use std::alloc::Global;
 use std::io::Read;
 use std::rt::Files;
@@ -79,14 +78,12 @@ pub fn page_files<'a, T: Files, P>(
         return Ok(Vec::new(job.alloc));
     };
     let files = source_files(job.alloc, words, setup.programs.len())?;
+    let is_page = |file: &str| is_same_file(job.rt, page, file);
     let is_of_program = setup.programs.iter().any(|word| {
         let (program, console) = program_of(word);
-        is_same_file(job.rt, page, program)
-            || matches!(console, Console::File(input) if is_same_file(job.rt, page, input))
+        is_page(program) || matches!(console, Console::File(input) if is_page(input))
     });
-    if is_of_program
-        || files.iter().any(|file| file.is_some_and(|file| is_same_file(job.rt, page, file)))
-    {
+    if is_of_program || files.iter().any(|file| file.is_some_and(is_page)) {
         return Err(Misuse::OwnFile.of(page));
     }
     if has_source_name(page) {
@@ -124,28 +121,18 @@ fn page_source<'a, T: Files, P>(
     if let Some(file) = file
         && let Some(program) = given.programs.get(process)
     {
-        return Ok(Some(source_for(job, file, process, &program.image)?));
+        let text = read_source(job.rt, job.alloc, file)?;
+        let assembled = assemble(job.alloc, &text).at(job.alloc, file)?;
+        let (image, made) = (&program.image, assembled.image());
+        if made.origin() != image.origin() || made.words() != image.words() {
+            return Err(Reason::NotItsSource { process }.at(file));
+        }
+        let source = source_of(job.alloc, text, &assembled);
+        return source.map(Some).map_err(|_| Reason::NoMemory.at(file));
     }
     let Some(Some(source)) = given.sources.get(process) else {
         return Ok(None);
     };
     let text = String::from_str(job.alloc, &source.text)?;
     Ok(Some(source_of(job.alloc, text, &source.assembled)?))
-}
-
-/// The source in a file, which is assembled to the image of a process.
-fn source_for<'a, T: Files, P>(
-    job: &Job<'_, T, P>,
-    file: &'a str,
-    process: usize,
-    image: &Image,
-) -> Result<Source, Complaint<'a>> {
-    let alloc = job.alloc;
-    let text = read_source(job.rt, alloc, file)?;
-    let assembled = assemble(alloc, &text).at(alloc, file)?;
-    let made = assembled.image();
-    if made.origin() != image.origin() || made.words() != image.words() {
-        return Err(Reason::NotItsSource { process }.at(file));
-    }
-    source_of(alloc, text, &assembled).map_err(|_| Reason::NoMemory.at(file))
 }

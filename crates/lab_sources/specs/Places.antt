@@ -7,7 +7,7 @@ use Rattle.lc3_table.specs.Text.{word_text}
 use Rattle.lc3_asm.specs.declared.assembled.Row.{Row}
 use Rattle.lab_sources.specs.Labels.{nearest, label_text}
 use Rattle.lab_sources.specs.Rows.{held_row}
-use Rattle.lab_sources.specs.declared.listing.Listing.{Listing}
+use Rattle.lab_sources.specs.declared.source.Listing.{Listing}
 
 -- a label of an address, or a dash
 abbrev pub near_text : ℕ → Option (List ℕ × ℕ) → List ℕ

@@ -9,7 +9,7 @@ ghost use Rattle.lab_states.specs.Private.CollapsedStates.{AreSame, KeepAllNames
 ghost use Rattle.lab_states.specs.CollapsedStates.{IsSameOrMore};
 ghost use Rattle.lab_states.specs.Private.Standing.{IsStanding};
 
-use crate::places::place_of;
+use crate::row::place_of;
 use ipc_kernel::Call;
 use ipc_store::Index;
 use lab_conditions::call_of;

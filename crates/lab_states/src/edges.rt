@@ -4,7 +4,7 @@ ghost use Rattle.lab_states.specs.declared.edges.Edge.{Edge};
 ghost use Rattle.lab_states.specs.Edges.{from_of};
 ghost use Rattle.lab_states.specs.Private.Edges.{AreBetween, ArePast};
 
-use crate::places::place_of;
+use crate::row::place_of;
 use std::alloc::{AllocError, Global};
 use std::marker::Model;
 use std::mem::size_of;

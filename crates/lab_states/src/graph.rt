@@ -1,10 +1,12 @@
 //! Topological order and cycles: the order of worlds along the edges between them, and cycles. That an order is one is checked; a
 //! cycle is run again (`lassos`).
-ghost use Rattle.std.specs.Prelude.{IsTrue};
+ghost use Rattle.std.specs.Prelude.{IsTrue, ◌≡◌, All};
 ghost use Rattle.lab_states.specs.Rising.{IsRising, Rises, AreRising};
+ghost use Rattle.lab_states.specs.Falling.{rank_of, starved_of, IsFalling};
+ghost use Rattle.lab_states.specs.Depths.{depth_of, IsNear};
 
 use crate::edges::{Edge, Edges};
-use crate::places::place_of;
+use crate::row::place_of;
 use std::alloc::{AllocError, Global};
 
 /// A cycle: a row that lies on it, and the edges from there to it again, the last of which comes
@@ -27,55 +29,34 @@ pub fn put(numbers: &mut Vec<u32>, at: usize, number: u32) {
     }
 }
 
-/// How many edges lead to each row.
-fn edges_to(alloc: Global, edges: &Edges, count: usize) -> Result<Vec<u32>, AllocError> {
+/// The rows to which no cycle leads, each behind those that lead to it.
+fn rows_in_order(alloc: Global, edges: &Edges, count: usize) -> Result<Vec<u32>, AllocError> {
     let mut numbers = vec![in alloc; 0; count]?;
     for to in edges.tos() {
-        let to = *to as usize;
-        let number = number_at(&numbers, to);
-        put(&mut numbers, to, number.saturating_add(1));
+        let number = number_at(&numbers, *to as usize);
+        put(&mut numbers, *to as usize, number.saturating_add(1));
     }
-    Ok(numbers)
-}
-
-/// The rows to which no edge leads.
-fn rows_without(alloc: Global, numbers: &[u32]) -> Result<Vec<u32>, AllocError> {
-    let mut rows = Vec::with_capacity(alloc, numbers.len())?;
+    let mut rows = Vec::with_capacity(alloc, count)?;
     for (row, number) in numbers.iter().enumerate() {
         if *number == 0 {
             rows.push(place_of(row)?)?;
         }
     }
-    Ok(rows)
-}
-
-/// Takes the edges from a row away, and adds the rows to which then none leads.
-fn release(
-    edges: &Edges,
-    row: usize,
-    numbers: &mut Vec<u32>,
-    rows: &mut Vec<u32>,
-) -> Result<(), AllocError> {
-    for to in edges.tos().get(edges.places_from(row)).unwrap_or(&[]) {
-        let at = *to as usize;
-        let number = number_at(numbers, at);
-        put(numbers, at, number.saturating_sub(1));
-        if number == 1 {
-            rows.push(*to)?;
-        }
-    }
-    Ok(())
-}
-
-/// The rows to which no cycle leads, each behind those that lead to it.
-fn rows_in_order(alloc: Global, edges: &Edges, count: usize) -> Result<Vec<u32>, AllocError> {
-    let mut numbers = edges_to(alloc, edges, count)?;
-    let mut rows = rows_without(alloc, numbers.as_slice())?;
     for place in 0..count {
         let Some(row) = rows.get(place).copied() else {
             return Ok(rows);
         };
-        release(edges, row as usize, &mut numbers, &mut rows)?;
+        for to in edges
+            .tos()
+            .get(edges.places_from(row as usize))
+            .unwrap_or(&[])
+        {
+            let number = number_at(&numbers, *to as usize);
+            put(&mut numbers, *to as usize, number.saturating_sub(1));
+            if number == 1 {
+                rows.push(*to)?;
+            }
+        }
     }
     Ok(rows)
 }
@@ -119,24 +100,17 @@ pub fn is_order_by_number(edges: &Edges, count: usize) -> bool
     edges.all(|edge| edge.from < edge.to && (edge.to as usize) < count)
 }
 
-/// Puts down a row, plus 1, as the one before each to which it leads and that has none.
-fn put_before(edges: &Edges, row: usize, before: &mut Vec<u32>) {
-    for at in edges.places_from(row) {
-        if let Some(edge) = edges.get_after(at, row) {
-            let to = edge.to as usize;
-            if number_at(before, to) == 0 {
-                put(before, to, edge.from.saturating_add(1));
-            }
-        }
-    }
-}
-
 /// For each row without a number the first of those that lead to it, plus 1.
 fn rows_before(alloc: Global, edges: &Edges, order: &[u32]) -> Result<Vec<u32>, AllocError> {
     let mut before = vec![in alloc; 0; order.len()]?;
-    for (row, number) in order.iter().enumerate() {
-        if *number == 0 {
-            put_before(edges, row, &mut before);
+    let mut row = 0;
+    for at in 0..edges.len() {
+        if let Some(edge) = edges.get_after(at, row) {
+            row = edge.from as usize;
+            let to = edge.to as usize;
+            if number_at(order, row) == 0 && number_at(&before, to) == 0 {
+                put(&mut before, to, edge.from.saturating_add(1));
+            }
         }
     }
     Ok(before)
@@ -145,29 +119,6 @@ fn rows_before(alloc: Global, edges: &Edges, order: &[u32]) -> Result<Vec<u32>, 
 /// The row before a row.
 fn row_before(before: &[u32], row: usize) -> usize {
     number_at(before, row).saturating_sub(1) as usize
-}
-
-/// A row that lies on a cycle, if each row that has one before it has such a one before it.
-fn row_on_cycle(before: &[u32]) -> usize {
-    let mut row = before.iter().position(|number| *number > 0).unwrap_or(0);
-    for _ in 0..before.len() {
-        row = row_before(before, row);
-    }
-    row
-}
-
-/// The least row of the cycle on which a row lies.
-fn least_on_cycle(before: &[u32], row: usize) -> usize {
-    let mut least = row;
-    let mut now = row;
-    for _ in 0..before.len() {
-        now = row_before(before, now);
-        if now == row {
-            return least;
-        }
-        least = least.min(now);
-    }
-    least
 }
 
 /// The edges from a row up to this edge, the last of which comes first.
@@ -221,29 +172,6 @@ fn follow<F: Fn(Edge) -> Option<bool>>(
     Ok(None)
 }
 
-/// Follows the edges that a way may take from rows, one row after the other, of at most so many; with the
-/// place of one that ends the way, if there is one.
-fn follow_all<F: Fn(Edge) -> Option<bool>>(
-    edges: &Edges,
-    count: usize,
-    ends: &F,
-    reached: &mut Vec<u32>,
-    rows: &mut Vec<u32>,
-) -> Result<Option<usize>, AllocError>
-    requires { F.IsAlwaysCallable ends.now }
-{
-    for place in 0..count {
-        let Some(row) = rows.get(place).copied() else {
-            return Ok(None);
-        };
-        let last = follow(edges, row as usize, ends, reached, rows)?;
-        if last.is_some() {
-            return Ok(last);
-        }
-    }
-    Ok(None)
-}
-
 /// The edges of a shortest way from a row, of so many, the last of which comes first. Which edges it takes
 /// is told of each: none for one that it doesn't follow, and else whether it ends with it.
 pub fn shortest_path<F: Fn(Edge) -> Option<bool>>(
@@ -257,11 +185,16 @@ pub fn shortest_path<F: Fn(Edge) -> Option<bool>>(
 {
     let mut reached = vec![in alloc; 0; count]?;
     let mut rows = vec![in alloc; place_of(start)?]?;
-    let Some(last) = follow_all(edges, count, &ends, &mut reached, &mut rows)? else {
-        return Ok(None);
-    };
-    let path = path_of(alloc, edges, reached.as_slice(), start, last)?;
-    Ok(Some(path))
+    for place in 0..count {
+        let Some(row) = rows.get(place).copied() else {
+            return Ok(None);
+        };
+        if let Some(last) = follow(edges, row as usize, &ends, &mut reached, &mut rows)? {
+            let path = path_of(alloc, edges, reached.as_slice(), start, last)?;
+            return Ok(Some(path));
+        }
+    }
+    Ok(None)
 }
 
 /// A cycle among the rows to which the order gives no number: the shortest through its least row.
@@ -272,8 +205,74 @@ pub fn cycle_of(
 ) -> Result<Option<Cycle>, AllocError> {
     let count = order.len();
     let before = rows_before(alloc, edges, order.as_slice())?;
-    let row = row_on_cycle(before.as_slice());
-    let at = least_on_cycle(before.as_slice(), row);
+    // Each row that has one before it has such a one before it, so that the way back comes to a cycle.
+    let mut row = before.iter().position(|number| *number > 0).unwrap_or(0);
+    for _ in 0..count {
+        row = row_before(before.as_slice(), row);
+    }
+    let mut at = row;
+    for _ in 0..count {
+        row = row_before(before.as_slice(), row);
+        at = at.min(row);
+    }
     let path = shortest_path(alloc, edges, count, at, |edge| Some(edge.to as usize == at))?;
     Ok(path.map(|edges| Cycle { at, edges }))
+}
+
+/// The rank of a row, and 0 where there is none.
+pub fn rank_at(ranks: &[u32], at: usize) -> u32
+    ensures rank { result ≡ rank_of ranks.now at }
+{
+    ranks.get(at).copied().unwrap_or(0)
+}
+
+/// The process of a rank, if it has one.
+pub fn starved_at(starved_processes: &[Option<u8>], rank: u32) -> Option<u8>
+    ensures starved { result ≡ starved_of starved_processes.now rank }
+{
+    starved_processes
+        .get(rank as usize)
+        .copied()
+        .unwrap_or(None)
+}
+
+/// Whether an edge leads to a lesser rank, or from one that has a process to the same by a step of
+/// another.
+fn is_falling(ranks: &[u32], starved_processes: &[Option<u8>], edge: Edge) -> bool
+    ensures yes { IsTrue result → IsFalling ranks.now starved_processes.now edge }
+{
+    let from = rank_at(ranks, edge.from as usize);
+    let to = rank_at(ranks, edge.to as usize);
+    if to < from {
+        return true;
+    }
+    match starved_at(starved_processes, from) {
+        Some(pid) => to == from && edge.pid != pid,
+        None => false,
+    }
+}
+
+/// Whether each edge does.
+pub fn are_falling(ranks: &[u32], starved_processes: &[Option<u8>], edges: &Edges) -> bool
+    ensures yes { IsTrue result → All (IsFalling ranks.now starved_processes.now) edges.now }
+{
+    edges.all(|edge| is_falling(ranks, starved_processes, edge))
+}
+
+/// The depth of a row, and 0 where there is none.
+pub fn depth_of(depths: &[u32], at: usize) -> u32
+    ensures depth { result ≡ depth_of depths.now at }
+{
+    depths.get(at).copied().unwrap_or(0)
+}
+
+/// Whether each edge leads to a row that is at most one deeper.
+pub fn are_near(depths: &[u32], edges: &Edges) -> bool
+    ensures yes { IsTrue result → All (IsNear depths.now) edges.now }
+{
+    edges.all(|edge| {
+        let from = depth_of(depths, edge.from as usize);
+        let to = depth_of(depths, edge.to as usize);
+        to as u64 <= from as u64 + 1
+    })
 }

@@ -2,7 +2,7 @@
 ghost use Rattle.std.specs.Prelude.{◌≡◌, ◌<◌, ◌≤◌, ◌+◌, [], ◌∷◌, ◌++◌, Some, IfOk, IfSome, get_or, length, map, slice_get, take};
 ghost use Rattle.lab_states.specs.Private.Outputs.{AreChained, Extends, joined, outputs_of};
 
-use crate::places::place_of;
+use crate::row::place_of;
 use ipc_store::Index;
 use std::alloc::{AllocError, Global};
 use std::hash::{FoldHasher, Hasher};

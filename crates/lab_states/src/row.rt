@@ -139,3 +139,10 @@ impl Rows {
         size_of::<u32>().saturating_mul(self.numbers.len())
     }
 }
+
+/// A place, as it is kept, if it is small enough.
+pub fn place_of(at: usize) -> Result<u32, AllocError>
+    ensures value { IfOk result (λ place. place ≡ at) }
+{
+    u32::try_from(at).map_err(|_| AllocError)
+}

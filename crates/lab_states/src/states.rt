@@ -63,23 +63,6 @@ fn collapsed_of(
     })
 }
 
-/// The process of a state, with its whole output.
-fn whole_of(
-    alloc: Global,
-    outputs: &Outputs,
-    collapsed: &CollapsedState,
-) -> Result<Process, AllocError>
-    requires empty { slice_get outputs.now 0 ≡ Some [] }
-    ensures whole { IfOk result (λ process. process ≡ whole_of outputs.now collapsed.now) }
-{
-    let mut process = collapsed.process.copy(alloc)?;
-    if collapsed.before > 0 {
-        let output = outputs.whole(alloc, collapsed.before, process.machine().output())?;
-        process.set_output(output);
-    }
-    Ok(process)
-}
-
 impl States {
     /// No state.
     pub fn new(alloc: Global) -> Result<States, AllocError>
@@ -102,10 +85,16 @@ impl States {
     pub fn get(&self, alloc: Global, number: usize) -> Result<Option<Process>, AllocError>
         ensures state { IfOk result (λ process. process ≡ slice_get self.now.processes number) }
     {
-        match self.collapsed_states.get(number) {
-            Some(collapsed) => Ok(Some(whole_of(alloc, &self.outputs, collapsed)?)),
-            None => Ok(None),
+        let Some(collapsed) = self.collapsed_states.get(number) else {
+            return Ok(None);
+        };
+        let mut process = collapsed.process.copy(alloc)?;
+        if collapsed.before > 0 {
+            let behind = process.machine().output();
+            let output = self.outputs.whole(alloc, collapsed.before, behind)?;
+            process.set_output(output);
         }
+        Ok(Some(process))
     }
 
     /// The state with a number, if there is one: the number of an output, and the process behind it.

@@ -2,7 +2,6 @@
 #![tactic(auto)]
 
 mod page;
-mod safe;
 mod template;
 
 pub use page::page_with;

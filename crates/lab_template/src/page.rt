@@ -1,8 +1,7 @@
 //! A whole page.
 ghost use Rattle.std.specs.Prelude.{◌≡◌, ◌++◌, IfOk, OnOk, flat_map};
-ghost use Rattle.lab_template.specs.Pages.{around, data_block, safe, limit, limit_script, page_text};
+ghost use Rattle.lab_template.specs.Pages.{around, data_block, safe, limit, limit_script, page_text, safe_byte};
 
-use crate::safe::push_safe;
 use crate::template::Template;
 use crate::{MOST_END_BYTES, MOST_ENDS, MOST_WHOLE};
 use std::alloc::{AllocError, Global};
@@ -61,4 +60,28 @@ pub fn page_with(alloc: Global, template: &Template<'_>, json: &[u8]) -> Result<
     push_limit_script(&mut bytes)?;
     push_parts(&mut bytes, template.showing)?;
     Ok(bytes)
+}
+
+/// What stands for a `<` in JSON; it can only be in a string there.
+const LESS_THAN: &[u8] = b"\\u003C";
+
+#[tactic(auto, unfolding(crate::specs::Pages::safe_byte))]
+fn push_byte(bytes: &mut Vec<u8>, byte: u8) -> Result<(), AllocError>
+    ensures bytes { OnOk result (bytes.new.items ≡ bytes.old.items ++ safe_byte byte) }
+{
+    if byte == b'<' {
+        bytes.extend_from_slice(LESS_THAN)
+    } else {
+        Ok(bytes.push(byte)?)
+    }
+}
+
+/// Adds a text of JSON, in which each `<` is escaped.
+pub fn push_safe(bytes: &mut Vec<u8>, json: &[u8]) -> Result<(), AllocError>
+    ensures bytes { OnOk result (bytes.new.items ≡ bytes.old.items ++ safe json.now) }
+{
+    for byte in json {
+        push_byte(bytes, *byte)?;
+    }
+    Ok(())
 }

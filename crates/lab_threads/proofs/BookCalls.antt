@@ -8,7 +8,7 @@ use Rattle.ipc_kernel.specs.declared.call.Answer.{Answer}
 use Rattle.ipc_kernel.specs.declared.call.Reply.{Reply}
 use Rattle.ipc_kernel.specs.declared.call.Answer.TheVariants.{Done, Wait}
 use Rattle.ipc_kernel.proofs.LawfulAnswers.{answer_count, answer_wait}
-use Rattle.lab_sched.specs.declared.entry.Entry.{Entry}
+use Rattle.lab_sched.specs.declared.stepped.Entry.{Entry}
 use Rattle.lab_sched.specs.History.{replay, still, waits}
 use Rattle.lab_sched.proofs.Histories.{replay-append, legal-append, waits-append}
 use Rattle.lab_sched.proofs.ListPlaces.{get-set}

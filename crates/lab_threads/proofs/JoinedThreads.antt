@@ -5,8 +5,8 @@ use Rattle.std.proofs.lemmas.Option.{slice_get-map, slice_get_read, slice_get_wi
 use Rattle.std.specs.Option.{option_map}
 use Rattle.std.specs.declared.thread.PromisedHandle.{PromisedHandle}
 use Rattle.lab_sched.specs.declared.process.Process.{Process}
-use Rattle.lab_threads.specs.declared.worker_result.WorkerResult.{WorkerResult}
-use Rattle.lab_threads.specs.declared.worker_result.WorkerPromise.{WorkerPromise}
+use Rattle.lab_threads.specs.declared.spawning.WorkerResult.{WorkerResult}
+use Rattle.lab_threads.specs.declared.spawning.WorkerPromise.{WorkerPromise}
 use Rattle.lab_threads.specs.Private.Promised.{promise_of, due}
 use Rattle.lab_threads.specs.Private.WorkerResults.{IsWorkerResult, AreWorkerResults}
 

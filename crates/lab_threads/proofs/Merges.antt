@@ -14,13 +14,13 @@ use Rattle.lab_sched.specs.History.{IsLegal}
 use Rattle.lab_sched.specs.Held.{process_view}
 use Rattle.lab_sched.specs.Schedules.{steps_of}
 use Rattle.lab_sched.specs.Starts.{initial_world}
-use Rattle.lab_sched.specs.declared.schedule.block.Block.{Block}
-use Rattle.lab_sched.specs.declared.entry.Entry.{Entry}
+use Rattle.lab_sched.specs.declared.schedule.Block.{Block}
+use Rattle.lab_sched.specs.declared.stepped.Entry.{Entry}
 use Rattle.lab_sched.specs.declared.process.Process.{Process as ProcessValue}
 use Rattle.lab_sched.specs.declared.trace.TracedCall.{TracedCall}
 use Rattle.lab_sched.proofs.ListPlaces.{get-set_same, get-set_other}
 use Rattle.lab_sched.proofs.Executions.{count-append, count-replicate_same, count-replicate_other, execution_none, execution_append, execution_of_call, execution_local, with_process, called, execution_kernel}
-use Rattle.lab_threads.specs.declared.worker_result.WorkerResult.{WorkerResult}
+use Rattle.lab_threads.specs.declared.spawning.WorkerResult.{WorkerResult}
 use Rattle.lab_threads.specs.Private.WorkerResults.{AreWorkerResults}
 use Rattle.lab_threads.specs.Private.Merged.{final_world, IsFound, IsItem, IsLeft, AreLeft, IsMerged, LeadToEnds}
 

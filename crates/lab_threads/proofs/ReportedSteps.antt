@@ -13,13 +13,13 @@ use Rattle.lab_sched.specs.Held.{process_view, IsHeld}
 use Rattle.lab_sched.specs.Settled.{report, IsSettled, HasStopped, HaveStopped}
 use Rattle.lab_sched.specs.Starts.{Runs}
 use Rattle.lab_sched.specs.Finished.{IsAtRest, IsFinished}
-use Rattle.lab_sched.specs.declared.entry.Entry.{Entry}
+use Rattle.lab_sched.specs.declared.stepped.Entry.{Entry}
 use Rattle.lab_sched.specs.declared.process.Process.{Process as ProcessValue}
 use Rattle.lab_sched.proofs.Executions.{count-append, execution_append}
 use Rattle.lab_sched.proofs.ReportAdditions.{added_length}
 use Rattle.lab_sched.proofs.Profiles.{alone_profile, one_of}
 use Rattle.lab_sched.proofs.WorldLemmas.{runs_held}
-use Rattle.lab_threads.specs.declared.worker_result.WorkerResult.{WorkerResult}
+use Rattle.lab_threads.specs.declared.spawning.WorkerResult.{WorkerResult}
 use Rattle.lab_threads.specs.Private.WorkerResults.{AreWorkerResults}
 use Rattle.lab_threads.specs.Private.Merged.{final_world, LeadToEnds, LeadToResults}
 use Rattle.lab_threads.proofs.Merges.{some_at}

@@ -4,7 +4,7 @@ use Rattle.ipc_kernel.specs.Kernel.{KernelState, empty_kernel}
 use Rattle.ipc_kernel.specs.declared.call.Call.{Call}
 use Rattle.ipc_kernel.specs.declared.call.Answer.{Answer}
 use Rattle.ipc_kernel.specs.declared.call.Answer.TheVariants.{Done, Wait}
-use Rattle.lab_sched.specs.declared.entry.Entry.{Entry}
+use Rattle.lab_sched.specs.declared.stepped.Entry.{Entry}
 use Rattle.lab_sched.specs.History.{replay, waits}
 
 -- the number of processes, and the calls so far with their answers

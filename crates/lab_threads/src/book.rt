@@ -18,20 +18,11 @@ use std::marker::Model;
 
 /// The kernel that processes share, with the history of all their calls, and the call that each
 /// process waits for.
+#[derive(Drop)]
 pub struct Book {
     kernel: Kernel,
     history: Vec<Entry>,
     waiting: Vec<Option<Call>>,
-}
-
-impl Drop for Book {
-    fn drop(self) {
-        let Book {
-            kernel: _,
-            history: _,
-            waiting: _,
-        } = self;
-    }
 }
 
 impl Model for Book {
@@ -64,45 +55,6 @@ pub(crate) fn clone_of(call: &Call) -> Result<Call, AllocError>
     ensures equal { IfOk result (λ copy. copy ≡ call.now) }
 {
     call.clone()
-}
-
-#[derive(Drop)]
-struct Answered {
-    answer: Answer,
-    entry: Entry,
-    pending: Option<Call>,
-}
-
-/// Answers a call of a process. The entry shares the words of the call and of the answer. Where
-/// memory is refused nothing has changed.
-fn answer_with_entry(kernel: &mut Kernel, pid: usize, call: &Call) -> Result<Answered, AllocError>
-    requires process { pid < length kernel.old.processes }
-    ensures answered { IfOk result
-        (λ r. (r.answer, kernel.new) ≡ answer kernel.old pid call.now) }
-    ensures form { IfOk result (λ r. IsAnswerTo call.now r.answer) }
-    ensures entry { IfOk result
-        (λ r. r.entry ≡ record { pid = pid; call = call.now; answer = r.answer }) }
-    ensures pending { IfOk result (λ r. r.pending ≡ still call.now r.answer) }
-    ensures err { OnErr result (kernel.new ≡ kernel.old) }
-    ensures count { length kernel.new.processes ≡ length kernel.old.processes }
-{
-    let waiting = clone_of(call)?;
-    let written = clone_of(call)?;
-    let (answer, copy) = kernel.call_with_copy(pid, call)?;
-    let entry = Entry {
-        pid,
-        call: written,
-        answer: copy,
-    };
-    let pending = match answer {
-        Answer::Wait => Some(waiting),
-        Answer::Done(_) => None,
-    };
-    Ok(Answered {
-        answer,
-        entry,
-        pending,
-    })
 }
 
 impl Book {
@@ -193,15 +145,21 @@ impl Book {
     {
         let waited = self.waits(pid).is_some();
         self.history.reserve(1)?;
-        let Answered {
-            answer,
-            entry,
-            pending,
-        } = answer_with_entry(&mut self.kernel, pid, call)?;
+        let waiting = clone_of(call)?;
+        let written = clone_of(call)?;
+        let (answer, copy) = self.kernel.call_with_copy(pid, call)?;
         if !has_entry(waited, &answer) {
             return Ok(answer);
         }
-        self.waiting[pid] = pending;
+        let entry = Entry {
+            pid,
+            call: written,
+            answer: copy,
+        };
+        self.waiting[pid] = match answer {
+            Answer::Wait => Some(waiting),
+            Answer::Done(_) => None,
+        };
         self.history.push_reserved(entry);
         Ok(answer)
     }

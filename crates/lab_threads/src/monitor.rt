@@ -1,17 +1,18 @@
 //! The monitor: the book, and what the workers tell one another beside it, under one lock.
-ghost use Rattle.std.specs.Prelude.{◌≡◌, false, true};
+ghost use Rattle.std.specs.Prelude.{false, true};
 ghost use Rattle.lab_threads.specs.Private.CallOutcome.{IsCallOutcome};
 
 use crate::Book;
-use crate::start::CommonStart;
 use ipc_kernel::{Answer, Call, Reply};
 use std::alloc::{AllocError, Global};
+use std::hint::spin_loop;
+use std::sync::atomic::{AtomicU64, Ordering};
 use std::sync::{Condvar, Mutex, MutexGuard, Wait};
 
 /// The book, and what the workers tell one another. No contract rests on what stands beside the
 /// book.
 #[derive(Drop)]
-pub(crate) struct SharedState {
+struct SharedState {
     book: Book,
     /// Which workers wait for a call that couldn't go when it was last looked at.
     blocked: Vec<bool>,
@@ -21,12 +22,18 @@ pub(crate) struct SharedState {
     active: usize,
 }
 
+/// How often a worker looks whether all are awake: for less than a millisecond or so.
+const MOST_LOOKS: u32 = 20_000;
+
 /// The state under its lock, what wakes each worker, and where the workers start.
 #[derive(Drop)]
 pub(crate) struct Monitor {
     state: Mutex<SharedState>,
     wakeups: Vec<Condvar>,
-    start: CommonStart,
+    /// How many workers are at the start. One that couldn't be started counts as there.
+    there: AtomicU64,
+    /// How many of them are awake, once all are there.
+    awake: AtomicU64,
 }
 
 #[derive(Drop)]
@@ -61,14 +68,6 @@ impl SharedState {
         self.blocked.get(pid).copied().unwrap_or(false)
     }
 
-    fn begin_wait(&mut self, pid: usize) {
-        if let Some(blocked) = self.blocked.get_mut(pid) {
-            *blocked = true;
-        }
-        self.waiting = self.waiting.saturating_add(1);
-        self.active = self.active.saturating_sub(1);
-    }
-
     /// Counts a worker that waits as active where its call could go now; whether it was counted.
     fn end_wait(&mut self, pid: usize) -> bool {
         if !self.is_blocked(pid) || pid >= self.book.count() || !self.book.can_go(pid) {
@@ -80,10 +79,6 @@ impl SharedState {
         self.waiting = self.waiting.saturating_sub(1);
         self.active = self.active.saturating_add(1);
         true
-    }
-
-    fn stop(&mut self) {
-        self.active = self.active.saturating_sub(1);
     }
 
     fn can_be_woken(&self) -> bool {
@@ -106,7 +101,8 @@ impl Monitor {
                 active: count,
             }),
             wakeups,
-            start: CommonStart::new(count),
+            there: AtomicU64::new(0),
+            awake: AtomicU64::new(0),
         })
     }
 
@@ -152,7 +148,6 @@ impl Monitor {
         ensures outcome { IsCallOutcome call.now true result }
     {
         for _ in rt.forever() {
-            state.begin_wait(pid);
             state = self.sleep(rt, state, pid);
             if state.is_blocked(pid) {
                 break;
@@ -170,13 +165,18 @@ impl Monitor {
         CallOutcome::Blocked { fits: true }
     }
 
-    /// Sleeps until the call of a process that waits could go, or no worker is active.
+    /// Waits, and sleeps until the call of the process could go, or no worker is active.
     fn sleep<'a, R: Wait>(
         &'a self,
         rt: &R,
-        state: MutexGuard<'a, SharedState>,
+        mut state: MutexGuard<'a, SharedState>,
         pid: usize,
     ) -> MutexGuard<'a, SharedState> {
+        if let Some(blocked) = state.blocked.get_mut(pid) {
+            *blocked = true;
+        }
+        state.waiting = state.waiting.saturating_add(1);
+        state.active = state.active.saturating_sub(1);
         if !state.can_be_woken() {
             self.wake_all();
         }
@@ -206,13 +206,10 @@ impl Monitor {
         }
     }
 
-    pub(crate) fn meet<R: Wait>(&self, rt: &R) {
-        self.start.meet(rt);
-    }
-
     /// Tells that a worker couldn't be started: it counts as there, and as stopped.
     pub(crate) fn stop_missing<R: Wait>(&self, rt: &R) {
-        self.start.count_missing();
+        self.awake.fetch_add(1, Ordering::SeqCst);
+        self.arrive();
         self.stop(rt);
     }
 
@@ -220,9 +217,40 @@ impl Monitor {
     /// stop too.
     pub(crate) fn stop<R: Wait>(&self, rt: &R) {
         let mut state = self.state.lock(rt);
-        state.stop();
+        state.active = state.active.saturating_sub(1);
         if !state.can_be_woken() {
             self.wake_all();
+        }
+    }
+
+    /// Comes to the start, and goes on when all workers are there and, as a rule, awake. A worker
+    /// sleeps until all are there. Waking takes a thread longer than a short program runs, so each
+    /// then looks again and again whether all are awake; but not for long, since on a busy machine
+    /// some may not get a processor soon.
+    pub(crate) fn meet<R: Wait>(&self, rt: &R) {
+        let count = self.wakeups.len() as u64;
+        self.arrive();
+        for _ in rt.forever() {
+            let there = self.there.load(Ordering::SeqCst);
+            if there >= count {
+                break;
+            }
+            self.there.park(rt, (there & 0xffff_ffff) as u32);
+        }
+        self.awake.fetch_add(1, Ordering::SeqCst);
+        for _ in 0..MOST_LOOKS {
+            if self.awake.load(Ordering::SeqCst) >= count {
+                return;
+            }
+            spin_loop();
+        }
+    }
+
+    /// Counts a worker as there. The last one wakes the others.
+    fn arrive(&self) {
+        let before = self.there.fetch_add(1, Ordering::SeqCst);
+        if before.saturating_add(1) >= self.wakeups.len() as u64 {
+            self.there.wake_all();
         }
     }
 }

@@ -1,5 +1,5 @@
 //! Runs on threads, and what they report.
-ghost use Rattle.std.specs.Prelude.{◌≡◌, ◌≤◌, ◌+◌, List, All, true, IfOk, map, length, sum};
+ghost use Rattle.std.specs.Prelude.{◌≡◌, ◌≤◌, ◌+◌, List, All, true, IfOk, map, length, sum, ◌++◌, ◌^◌, ◌<◌, IfSome, OnOk, slice_index, replicate};
 ghost use Rattle.ipc_kernel.specs.Kernel.{empty_kernel};
 ghost use Rattle.ipc_kernel.specs.Limits.{process_max};
 ghost use Rattle.lab_sched.specs.Worlds.{HaveOneProfile, run, entries};
@@ -13,20 +13,19 @@ ghost use Rattle.lab_sched.specs.Verdicts.{IsVerdict};
 ghost use Rattle.lab_sched.specs.declared.process.Process.{Process as ProcessValue};
 ghost use Rattle.lab_threads.specs.Limits.{most_steps_each};
 ghost use Rattle.lab_threads.specs.Private.WorkerResults.{AreWorkerResults};
-ghost use Rattle.lab_threads.specs.Private.Merged.{LeadToResults};
+ghost use Rattle.lab_threads.specs.Private.Merged.{LeadToResults, IsFound, IsItem, AreCallsMerged, CompletesMerge};
 ghost use Rattle.lab_threads.specs.Private.Reported.{IsReportFrom};
+ghost use Rattle.lab_threads.specs.declared.reports.RunFault.TheVariants.{NoMemory};
 
-use crate::context::Crew;
-use crate::merging::{merge_calls, merge_ends};
 use crate::monitor::Monitor;
-use crate::spawning::run_workers;
-use crate::worker_result::WorkerResult;
-use crate::{Book, Gate, RunFault};
+use crate::spawning::{WorkerResult, run_workers};
+use crate::{Book, Gate};
 use ipc_kernel::Kernel;
-use lab_sched::{Entry, Fresh, MOST_STEPS, Process, Schedule, Verdict, World};
+use lab_sched::{Entry, Fresh, MOST_STEPS, Process, Schedule, TracedCall, Verdict, World};
 use std::alloc::{AllocError, Global};
 use std::sync::Wait;
 use std::thread::Threads;
+use thiserror::Error;
 
 /// One interleaving of the steps of all processes, the history of its calls, the world that it
 /// leads to, and how that world stands.
@@ -84,8 +83,8 @@ fn merge_workers(
         return Err(RunFault::Unvouched);
     }
     let left: Vec<u32> = workers.iter().map(|worker| worker.left).collect(alloc)?;
-    let partial = merge_calls(alloc, workers, history)?;
-    let schedule = merge_ends(workers, partial)?;
+    let (merged, next) = merge_calls(alloc, workers, history)?;
+    let schedule = merge_ends(workers, merged, &next)?;
     if !has_room(&schedule, &left) {
         return Err(RunFault::Unvouched);
     }
@@ -157,13 +156,119 @@ pub fn run_threads<R: Threads + Wait + Sync, G: Gate>(
 {
     let starts = fresh.processes();
     let monitor = Monitor::new(alloc, Book::new(alloc, starts.len())?)?;
-    let crew = Crew {
-        rt,
-        alloc,
-        monitor: &monitor,
-        gate,
-    };
-    let workers = run_workers(crew, starts, limit)?;
+    let workers = run_workers(rt, alloc, &monitor, gate, starts, limit)?;
     let (kernel, history) = monitor.into_book().into_parts();
     report_of_workers(alloc, workers, kernel, history, limit)
+}
+
+/// The number of local steps before the call that stands there, if it is the entry's.
+fn find(calls: &[TracedCall], at: usize, entry: &Entry) -> Option<u32>
+    ensures found { IfSome result (λ n. IsFound calls.now at entry.now n) }
+    ensures within { IfSome result (λ n. at < length calls.now) }
+    ensures few { IfSome result (λ n. n + 1 < 2 ^ 32) }
+{
+    let told = calls.get(at)?;
+    if told.before < u32::MAX && told.call == entry.call && told.answer == entry.answer {
+        Some(told.before)
+    } else {
+        None
+    }
+}
+
+/// The number of local steps before the next call of the entry's process, if that call is the
+/// entry's.
+fn item(workers: &[WorkerResult], next: &[usize], entry: &Entry) -> Option<u32>
+    requires len { length next.now ≡ length workers.now }
+    ensures item { IfSome result (λ n. IsItem workers.now next.now entry.now n) }
+    ensures few { IfSome result (λ n. n + 1 < 2 ^ 32) }
+    ensures within { IfSome result (λ n. entry.now.pid < length next.now) }
+    ensures fits { IfSome result (λ n. slice_index next.now entry.now.pid + 1 < 2 ^ 64) }
+{
+    if entry.pid >= workers.len() {
+        return None;
+    }
+    let calls = workers[entry.pid].trace.calls.as_slice();
+    find(calls, next[entry.pid], entry)
+}
+
+/// Adds steps of a process to a schedule that has room for them.
+fn add(schedule: &mut Schedule, pid: usize, n: u32) -> Result<(), RunFault>
+    requires process { pid < process_max }
+    ensures steps { OnOk result (steps_of schedule.new ≡ steps_of schedule.old ++ replicate n pid) }
+{
+    if n == 0 {
+        return Ok(());
+    }
+    if n > MOST_STEPS - schedule.total() {
+        return Err(RunFault::Unvouched);
+    }
+    Ok(schedule.push(pid, n)?)
+}
+
+/// The calls of a history with the local steps before each, and how many each process has. There is no such merge where they
+/// aren't the traces', or where the steps are too many for a schedule.
+fn merge_calls(
+    alloc: Global,
+    workers: &[WorkerResult],
+    history: &[Entry],
+) -> Result<(Schedule, Vec<usize>), RunFault>
+    requires few { length workers.now ≤ process_max }
+    ensures merged { IfOk result
+        (λ b. AreCallsMerged workers.now history.now b.1.items (steps_of b.0)) }
+    ensures len { IfOk result (λ b. length b.1.items ≡ length workers.now) }
+{
+    let mut schedule = Schedule::new(alloc);
+    let mut next: Vec<usize> = vec![in alloc; 0; workers.len()]?;
+    for entry in history {
+        let Some(before) = item(workers, &next, entry) else {
+            return Err(RunFault::Unvouched);
+        };
+        add(&mut schedule, entry.pid, before + 1)?;
+        next[entry.pid] += 1;
+    }
+    Ok((schedule, next))
+}
+
+/// Adds the local steps after the last call of each trace, where no trace has a call left.
+fn merge_ends(
+    workers: &[WorkerResult],
+    mut schedule: Schedule,
+    next: &[usize],
+) -> Result<Schedule, RunFault>
+    requires few { length workers.now ≤ process_max }
+    requires len { length next.now ≡ length workers.now }
+    ensures merged { IfOk result (λ s.
+        CompletesMerge workers.now next.now (steps_of schedule) (steps_of s)) }
+{
+    for pid in 0..workers.len() {
+        let trace = &workers[pid].trace;
+        if next[pid] != trace.calls.len() {
+            return Err(RunFault::Unvouched);
+        }
+        add(&mut schedule, pid, trace.after)?;
+    }
+    Ok(schedule)
+}
+
+/// Why a run on threads has no report.
+#[derive(Clone, Copy, Debug, PartialEq, Eq, Error)]
+pub enum RunFault {
+    /// Memory was refused.
+    #[error("out of memory")]
+    NoMemory,
+    /// A worker met a book that its call doesn't fit, or what the workers did doesn't agree with
+    /// the history.
+    #[error("Unvouched")]
+    Unvouched,
+    /// A thread couldn't be started.
+    #[error("Spawn")]
+    Spawn,
+}
+
+impl From<AllocError> for RunFault {
+    ghost from_gives = { λ _ e. e ≡ NoMemory };
+
+    fn from(_refused: AllocError) -> RunFault {
+        RunFault::NoMemory
+    }
 }

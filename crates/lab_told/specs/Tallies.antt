@@ -6,7 +6,7 @@ use Rattle.lab_told.specs.Givers.{no_givers, givers_after}
 use Rattle.lab_told.specs.Origins.{origins_after}
 use Rattle.lab_told.specs.Units.{units_after}
 use Rattle.lab_told.specs.declared.origins.Origin.{Origin}
-use Rattle.lab_told.specs.declared.units.UnitCount.{UnitCount}
+use Rattle.lab_told.specs.declared.tally.UnitCount.{UnitCount}
 use Rattle.lab_told.specs.declared.answers.Outcome.{Outcome}
 use Rattle.lab_told.specs.declared.answers.Outcome.TheVariants.{Waits}
 use Rattle.lab_told.specs.declared.tally.Account.{Account}

@@ -2,7 +2,7 @@
 use Rattle.std.specs.Prelude.{◌≡◌, ◌<◌, ◌≤◌, ℕ, Bool, is_some, List, [], ◌∷◌, ◌++◌, length, slice_index_or}
 use Rattle.lab_sched.specs.Schedules.{block}
 use Rattle.lab_sched.specs.Worlds.{WorldState, step}
-use Rattle.lab_sched.specs.declared.schedule.block.Block.{Block}
+use Rattle.lab_sched.specs.declared.schedule.Block.{Block}
 use Rattle.lab_told.specs.Scenes.{Scene, told, next, next_tally, scene_after}
 use Rattle.lab_told.specs.Tallies.{account_of}
 use Rattle.lab_told.specs.declared.telling.Taken.{Taken}

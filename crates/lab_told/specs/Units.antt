@@ -3,7 +3,7 @@ use Rattle.std.specs.Prelude.{ℕ, ◌+◌, ◌-◌, ◌==◌, ◌&&◌, Bool, O
 use Rattle.std.specs.List.{find}
 use Rattle.ipc_kernel.specs.Kernel.{KernelState}
 use Rattle.ipc_kernel.specs.Places.{place_at, semaphore_value}
-use Rattle.lab_told.specs.declared.units.UnitCount.{UnitCount}
+use Rattle.lab_told.specs.declared.tally.UnitCount.{UnitCount}
 use Rattle.ipc_traps.specs.declared.service.Service.{Service}
 use Rattle.ipc_traps.specs.declared.service.Service.TheVariants.{SemWait, SemTrywait, SemPost}
 

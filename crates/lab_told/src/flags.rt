@@ -7,15 +7,6 @@ use ipc_names::{O_ACCMODE, O_CREAT, O_EXCL, O_NONBLOCK};
 use lc3_word::Hex;
 use std::fmt;
 
-/// The bits that have no name in the flags of mq_open.
-const UNNAMED_OF_QUEUES: u16 = 0xFFFF - O_ACCMODE - O_CREAT - O_EXCL - O_NONBLOCK;
-
-/// The bits that have no name in the flags of sem_open.
-const UNNAMED_OF_SEMAPHORES: u16 = 0xFFFF - O_CREAT - O_EXCL;
-
-/// The bits that have no name in the flags of attributes.
-const UNNAMED_OF_ATTRIBUTES: u16 = 0xFFFF - O_NONBLOCK;
-
 /// Whether a word has a one in some of these bits.
 pub fn has_flag(flag: u16, word: u16) -> bool
     ensures value { result ≡ has_flag flag word }
@@ -72,7 +63,7 @@ impl fmt::Display for MqFlags {
         let nonblock = where_set(O_NONBLOCK, word, "|O_NONBLOCK");
         let rest = Rest {
             begun: true,
-            unnamed: UNNAMED_OF_QUEUES,
+            unnamed: 0xFFFF - O_ACCMODE - O_CREAT - O_EXCL - O_NONBLOCK,
             word,
         };
         write!(f, "{access}{create}{exclusive}{nonblock}{rest}")
@@ -101,7 +92,7 @@ impl fmt::Display for SemFlags {
         let exclusive = where_set(O_EXCL, word, bar);
         let rest = Rest {
             begun: has_flag(O_CREAT | O_EXCL, word),
-            unnamed: UNNAMED_OF_SEMAPHORES,
+            unnamed: 0xFFFF - O_CREAT - O_EXCL,
             word,
         };
         write!(f, "{create}{exclusive}{rest}")
@@ -124,7 +115,7 @@ impl fmt::Display for AttributeFlags {
         let nonblock = where_set(O_NONBLOCK, word, "O_NONBLOCK");
         let rest = Rest {
             begun: has_flag(O_NONBLOCK, word),
-            unnamed: UNNAMED_OF_ATTRIBUTES,
+            unnamed: 0xFFFF - O_NONBLOCK,
             word,
         };
         write!(f, "{nonblock}{rest}")

@@ -5,7 +5,7 @@ ghost use Rattle.ipc_kernel.specs.Places.{place_at};
 ghost use Rattle.lab_told.specs.Objects.{held_place, object_text, behind_text, level_at};
 ghost use Rattle.lab_told.specs.Words.{signed_text};
 
-use crate::words::Signed;
+use crate::message::Signed;
 use ipc_kernel::Kernel;
 use ipc_traps::Service;
 use std::fmt;

@@ -1,7 +1,7 @@
 //! Where the messages in queues come from.
 ghost use Rattle.std.specs.Prelude.{◌≡◌, ◌<◌, ◌==◌, OnOk, IfSome, length, position};
 ghost use Rattle.ipc_kernel.specs.Outcomes.{queue_at};
-ghost use Rattle.lab_told.specs.Origins.{is_in, is_below, origins_with, origins_without_queue, origins_after};
+ghost use Rattle.lab_told.specs.Origins.{is_in, is_below, origins_after};
 
 use crate::told::Act;
 use ipc_kernel::Kernel;
@@ -21,20 +21,12 @@ pub struct Origin {
     pub pid: usize,
 }
 
-fn is_below(origin: &Origin, place: u8, priority: u16) -> bool
-    ensures value { result ≡ is_below place priority origin.now }
-{
-    origin.place == place && origin.priority < priority
-}
-
 /// The first message of a queue that has a lesser priority.
 fn index_below(origins: &[Origin], place: u8, priority: u16) -> Option<usize>
     ensures value { result ≡ position (is_below place priority) origins.now }
     ensures within { IfSome result (λ i. i < length origins.now) }
 {
-    origins
-        .iter()
-        .position(|origin| is_below(origin, place, priority))
+    origins.iter().position(|origin| origin.place == place && origin.priority < priority)
 }
 
 /// The first message of a queue.
@@ -55,23 +47,6 @@ fn is_unused(kernel: &Kernel, place: u8) -> bool
     }
 }
 
-fn send(origins: &mut Vec<Origin>, origin: Origin) -> Result<(), AllocError>
-    ensures kept { OnOk result (origins.new.items ≡ origins_with origin origins.old.items) }
-{
-    match index_below(origins, origin.place, origin.priority) {
-        Some(index) => origins.insert(index, origin)?,
-        None => origins.push(origin)?,
-    }
-    Ok(())
-}
-
-/// Lets go of the messages of the queue in a place.
-fn clear(origins: &mut Vec<Origin>, place: u8)
-    ensures kept { origins.new.items ≡ origins_without_queue place origins.old.items }
-{
-    origins.retain(|origin| origin.place != place);
-}
-
 /// Keeps where messages come from, those of one queue in the order of receive, after what process `pid` did in step `number`, by
 /// the kernel after it.
 pub fn keep_origins(
@@ -88,7 +63,9 @@ pub fn keep_origins(
         return Ok(());
     };
     match call.done() {
-        Some((Service::MqOpen, place)) if is_unused(kernel, place) => clear(origins, place),
+        Some((Service::MqOpen, place)) if is_unused(kernel, place) => {
+            origins.retain(|origin| origin.place != place);
+        }
         Some((Service::MqSend, place)) => {
             let origin = Origin {
                 place,
@@ -96,7 +73,10 @@ pub fn keep_origins(
                 step: number,
                 pid,
             };
-            send(origins, origin)?;
+            match index_below(origins, place, origin.priority) {
+                Some(index) => origins.insert(index, origin)?,
+                None => origins.push(origin)?,
+            }
         }
         Some((Service::MqReceive, place)) => {
             if let Some(index) = index_in(origins, place) {

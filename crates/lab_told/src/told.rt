@@ -9,6 +9,7 @@ ghost use Rattle.lab_told.specs.Events.{level_by, call_by, wrote, told_with, tol
 ghost use Rattle.lab_told.specs.Scenes.{has_effect};
 ghost use Rattle.lab_told.specs.Tallies.{account_of};
 ghost use Rattle.lab_told.specs.declared.told.Told.TheVariants.{Nothing};
+ghost use Rattle.lab_told.specs.Services.{service_of_word, service_at};
 
 use crate::answers::{Outcome, outcome_of, wanted_of};
 use crate::asking::{Asking, Observed};
@@ -21,6 +22,8 @@ use ipc_objects::Words;
 use ipc_traps::Service;
 use lab_sched::{Process, Stepped, World};
 use lc3_machine::How;
+use lc3_table::{Instr, decode};
+use lc3_word::FIRST_DEVICE;
 use std::alloc::{AllocError, Global};
 
 /// A call of the kernel, and what became of it.
@@ -249,5 +252,28 @@ pub fn told_by(
             act,
         })),
         None => Ok(Told::Counted),
+    }
+}
+
+/// The call that a word makes as an instruction.
+pub fn service_of_word(word: u16) -> Option<Service>
+    ensures service { result ≡ service_of_word word }
+{
+    match decode(word) {
+        Some(Instr::Trap { vector }) => Service::of_vector(vector),
+        _ => None,
+    }
+}
+
+/// The call that a process stands before.
+#[tactic(auto, unfolding(crate::specs::Services::service_at))]
+pub fn service_at(process: &Process) -> Option<Service>
+    ensures service { result ≡ service_at (machine_of (process_view process.now)) }
+{
+    let pc = process.machine().pc();
+    if pc < FIRST_DEVICE {
+        service_of_word(process.machine().word(pc))
+    } else {
+        None
     }
 }

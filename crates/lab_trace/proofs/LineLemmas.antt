@@ -14,7 +14,7 @@ use Rattle.lab_told.proofs.TellingLemmas.{told-once}
 use Rattle.lab_trace.specs.Forms.{Form}
 use Rattle.lab_trace.specs.Lines.{step_line, line, events}
 use Rattle.lab_trace.specs.Private.Written.{WritesLine, BreaksLine}
-use Rattle.lab_trace.specs.declared.fault.TraceFault.{TraceFault}
+use Rattle.lab_trace.specs.declared.tracing.TraceFault.{TraceFault}
 
 pub events-append : (v : Form) (s : Scene) (xs ys : List ℕ) → events v s (xs ++ ys) ≡ events v s xs ++ events v (scene_after s xs) ys
 unfolding events scene_after

@@ -5,7 +5,7 @@ use Rattle.std.proofs.lemmas.List.Sums.{position_or_len_is}
 use Rattle.std.specs.List.{AllByRecursion}
 use Rattle.lab_sched.specs.Worlds.{WorldState}
 use Rattle.lab_sched.specs.Schedules.{steps_of, IsBlock, IsSchedule}
-use Rattle.lab_sched.specs.declared.schedule.block.Block.{Block}
+use Rattle.lab_sched.specs.declared.schedule.Block.{Block}
 use Rattle.lab_sched.proofs.ScheduleRuns.{next-step}
 use Rattle.lab_trace.specs.Traces.{missing_after}
 

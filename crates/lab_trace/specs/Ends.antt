@@ -13,7 +13,7 @@ use Rattle.lab_told.specs.Services.{service_at}
 use Rattle.lab_told.specs.Tallies.{TallyState, account_of}
 use Rattle.lab_trace.specs.Forms.{Form, process_text, head, line_end}
 use Rattle.lab_told.specs.Units.{units_of, balance}
-use Rattle.lab_told.specs.declared.units.UnitCount.{UnitCount}
+use Rattle.lab_told.specs.declared.tally.UnitCount.{UnitCount}
 use Rattle.ipc_traps.specs.declared.service.Service.{Service}
 use Rattle.ipc_traps.specs.declared.service.Service.TheVariants.{MqSend, MqReceive}
 

@@ -8,8 +8,8 @@ use Rattle.lab_told.specs.Scenes.{Scene, first_scene, scene_after}
 use Rattle.lab_trace.specs.Lines.{events}
 use Rattle.lab_trace.specs.Ends.{end_lines}
 use Rattle.lab_told.specs.Tallies.{TallyState}
-use Rattle.lab_trace.specs.declared.fault.TraceFault.{TraceFault}
-use Rattle.lab_trace.specs.declared.fault.TraceFault.TheVariants.{NoProcess, Write, NoMemory}
+use Rattle.lab_trace.specs.declared.tracing.TraceFault.{TraceFault}
+use Rattle.lab_trace.specs.declared.tracing.TraceFault.TheVariants.{NoProcess, Write, NoMemory}
 
 -- what follows the lines of the steps
 abbrev pub ending : Form → WorldState → TallyState → List ℕ

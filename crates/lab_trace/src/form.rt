@@ -2,9 +2,9 @@
 //! source at their end.
 ghost use Rattle.std.specs.Prelude.{◌≡◌, ◌≤◌, ◌<◌, ◌^◌, ◌++◌, OnOk, IfOk, option_map, length, string_bytes};
 ghost use Rattle.std.specs.Fmt.{decimal};
-ghost use Rattle.lab_trace.specs.Forms.{form_for, process_column, local_column, head, separator, source_of, line_end};
+ghost use Rattle.lab_trace.specs.Forms.{form_for, head, separator, source_of, line_end};
+ghost use Rattle.lab_trace.specs.Columns.{blanks, at_left, at_right};
 
-use crate::columns::{push_at_left, push_at_right};
 use lab_sources::Source;
 use lab_told::Event;
 use lc3_word::Hex;
@@ -97,7 +97,7 @@ impl<'a> Form<'a> {
     }
 
     /// Adds the columns before what happened.
-    #[tactic(auto, unfolding(crate::specs::Forms::head))]
+    #[tactic(auto, unfolding(crate::specs::Forms::head, crate::specs::Forms::process_column, crate::specs::Forms::local_column))]
     pub fn push_head(
         &self,
         text: &mut String,
@@ -110,10 +110,13 @@ impl<'a> Form<'a> {
     {
         push_at_right(text, self.step, step)?;
         text.push_str(" ")?;
-        push_process(text, self.process, stand.pid)?;
-        let address = Hex(stand.address);
-        write!(text, "{address} ")?;
-        push_local(text, local)
+        let (pid, address) = (stand.pid, Hex(stand.address));
+        let process = format!(in *text.allocator(); "P{pid}")?;
+        push_at_left(text, self.process, &process)?;
+        write!(text, " {address} ")?;
+        let local = format!(in *text.allocator(); "+{local}")?;
+        push_at_right(text, LOCAL_WIDTH, &local)?;
+        text.push_str(" ")
     }
 
     /// Adds the end of the line of where a process stands: the nearest label, and the line of the source there, where there
@@ -146,31 +149,38 @@ impl<'a> Form<'a> {
     }
 }
 
-/// Adds a process and a blank, in the width of the column.
-#[tactic(auto, unfolding(crate::specs::Forms::process_column))]
-fn push_process(text: &mut String, width: usize, pid: usize) -> Result<(), AllocError>
-    ensures text { OnOk result (string_bytes text.new ≡ string_bytes text.old
-        ++ process_column width pid) }
-{
-    let process = format!(in *text.allocator(); "P{pid}")?;
-    push_at_left(text, width, &process)?;
-    text.push_str(" ")
-}
-
-/// Adds counted steps and a blank, in the width of the column.
-#[tactic(auto, unfolding(crate::specs::Forms::local_column))]
-fn push_local(text: &mut String, local: u32) -> Result<(), AllocError>
-    ensures text { OnOk result (string_bytes text.new ≡ string_bytes text.old
-        ++ local_column local) }
-{
-    let local = format!(in *text.allocator(); "+{local}")?;
-    push_at_right(text, LOCAL_WIDTH, &local)?;
-    text.push_str(" ")
-}
-
 /// What stands before a note.
 pub fn separator(begun: bool) -> &'static str
     ensures text { result.now ≡ separator begun }
 {
     if begun { ", " } else { " ; " }
+}
+
+fn push_blanks(text: &mut String, count: usize) -> Result<(), AllocError>
+    ensures text { OnOk result (string_bytes text.new ≡ string_bytes text.old ++ blanks count) }
+{
+    for _ in 0..count {
+        text.push_str(" ")?;
+    }
+    Ok(())
+}
+
+/// Adds a text with blanks before it up to a width.
+#[tactic(auto, unfolding(crate::specs::Columns::at_right))]
+pub fn push_at_right(text: &mut String, width: usize, part: &str) -> Result<(), AllocError>
+    ensures text { OnOk result (string_bytes text.new ≡ string_bytes text.old
+        ++ at_right width part.now) }
+{
+    push_blanks(text, width.saturating_sub(part.len()))?;
+    text.push_str(part)
+}
+
+/// Adds a text with blanks behind it up to a width.
+#[tactic(auto, unfolding(crate::specs::Columns::at_left))]
+pub fn push_at_left(text: &mut String, width: usize, part: &str) -> Result<(), AllocError>
+    ensures text { OnOk result (string_bytes text.new ≡ string_bytes text.old
+        ++ at_left width part.now) }
+{
+    text.push_str(part)?;
+    push_blanks(text, width.saturating_sub(part.len()))
 }

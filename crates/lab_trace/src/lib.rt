@@ -2,20 +2,10 @@
 //! stand at the end, and the report.
 #![tactic(auto)]
 
-mod bytes;
-mod columns;
 mod ends;
-mod fault;
 mod form;
-mod lines;
-mod others;
-mod outcomes;
-mod takers;
 mod tracing;
 
-pub use ends::stands;
-pub use fault::TraceFault;
+pub use ends::{push_call, push_outcome, stands};
 pub use form::Form;
-pub use lines::{columns_text, event_text, step_line};
-pub use outcomes::{push_call, push_outcome};
-pub use tracing::{ending, missing_after, trace};
+pub use tracing::{TraceFault, columns_text, ending, event_text, missing_after, step_line, trace};

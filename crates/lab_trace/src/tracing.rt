@@ -1,27 +1,29 @@
 //! A whole trace.
-ghost use Rattle.std.specs.Prelude.{◌≡◌, ℕ, Some, Err, IfNone, IsTrue, IfOk, IfErr, OnOk, OnErr, [], refl, string_bytes};
+ghost use Rattle.std.specs.Prelude.{◌≡◌, ℕ, Some, Err, IfNone, IsTrue, IfOk, IfErr, OnOk, OnErr, [], refl, string_bytes, ◌++◌};
 ghost use Rattle.std.specs.Io.KnownBytes.{Appends, Keeps};
 ghost use Rattle.lab_io.specs.Device.{AppendsPrefix};
 ghost use Rattle.lab_sched.specs.Worlds.{run};
 ghost use Rattle.lab_sched.specs.Schedules.{steps_of};
 ghost use Rattle.lab_told.specs.Tellings.{AreThere};
-ghost use Rattle.lab_trace.specs.Lines.{line};
+ghost use Rattle.lab_trace.specs.Lines.{line, wait_note, notes, act_text, columns, step_line};
 ghost use Rattle.lab_trace.specs.Traces.{ending, trace_text, missing_after, Explains};
 ghost use Rattle.lab_trace.specs.Private.Faults.{IsFault};
 ghost use Rattle.lab_trace.specs.Private.Written.{WritesLine, BreaksLine};
-ghost use Rattle.lab_trace.specs.declared.fault.TraceFault.TheVariants.{NoProcess, Write};
+ghost use Rattle.lab_trace.specs.declared.tracing.TraceFault.TheVariants.{NoProcess, Write, NoMemory};
+ghost use Rattle.lab_trace.specs.Bytes.{bytes_text};
 
-use crate::ends::stands;
-use crate::fault::TraceFault;
-use crate::form::Form;
-use crate::lines::step_line;
+use crate::ends::{push_call, push_level, push_outcome, stands};
+use crate::form::{Form, Stand, separator};
 use lab_io::Output;
 use lab_sched::{Schedule, World};
 use lab_sources::Source;
-use lab_texts::report_text;
-use lab_told::{Taken, Tally, Telling, tell_run};
+use lab_texts::{Escape, how_name, report_text};
+use lab_told::{Act, Called, Event, Origin, Taken, Tally, Telling, Told, is_quotable, tell_run};
+use lc3_table::WordText;
 use std::alloc::{AllocError, Global};
+use std::fmt;
 use std::io::Write;
+use thiserror::Error;
 
 /// How many steps come before the first of a process that isn't there, if there is one.
 pub fn missing_after(world: &World, schedule: &Schedule) -> Option<u64>
@@ -46,10 +48,9 @@ fn write_text<W: Write>(text: &str, output: &mut Output<W>) -> Result<(), TraceF
     ensures failed { OnErr result (IsTrue output.new.failed) }
     ensures fault { IfErr result (λ e. e ≡ Write) }
 {
-    match output.write_all(text.as_bytes()) {
-        Ok(()) => Ok(()),
-        Err(_) => Err(TraceFault::Write),
-    }
+    output
+        .write_all(text.as_bytes())
+        .map_err(|_| TraceFault::Write)
 }
 
 impl<'a, W: Write> Telling<Output<W>> for Form<'a> {
@@ -127,4 +128,148 @@ pub fn trace<W: Write>(
     tell_run(&form, output, world, &mut tally, schedule.blocks())?;
     let text = ending(alloc, world, &tally, &form)?;
     write_text(&text, output)
+}
+
+fn push_wait_note(text: &mut String, begun: bool, since: Option<u32>) -> Result<(), AllocError>
+    ensures text { OnOk result (string_bytes text.new ≡ string_bytes text.old
+        ++ wait_note begun since) }
+{
+    if let Some(since) = since {
+        let separator = separator(begun);
+        write!(text, "{separator}waited since {since}")?;
+    }
+    Ok(())
+}
+
+fn push_notes(text: &mut String, call: &Called) -> Result<(), AllocError>
+    ensures text { OnOk result (string_bytes text.new ≡ string_bytes text.old
+        ++ notes call.now) }
+{
+    let begun = call.level.is_some();
+    if let Some(level) = call.level {
+        text.push_str(separator(false))?;
+        push_level(text, level)?;
+    }
+    if let Some(Origin { pid, step, .. }) = call.origin {
+        let separator = separator(begun);
+        write!(text, "{separator}from P{pid} at {step}")?;
+    }
+    push_wait_note(text, begun, call.since)
+}
+
+/// Adds what a step did by the instruction with this word.
+#[tactic(auto, unfolding(crate::specs::Lines::called_text, crate::specs::Lines::output_text))]
+fn push_act(text: &mut String, word: u16, act: &Act) -> Result<(), AllocError>
+    ensures text { OnOk result (string_bytes text.new ≡ string_bytes text.old
+        ++ act_text word act.now) }
+{
+    match act {
+        Act::Calls(call) => {
+            push_call(text, call.service, &call.arguments)?;
+            text.push_str(" ")?;
+            push_outcome(text, &call.outcome)?;
+            push_notes(text, call)
+        }
+        Act::Writes(bytes) => {
+            let instruction = WordText(word);
+            let bytes = QuotedBytes(bytes.as_slice());
+            write!(text, "{instruction} {bytes}")
+        }
+        Act::Ends(how) => {
+            let how = how_name(*how);
+            write!(text, "ends {how}")
+        }
+    }
+}
+
+/// The columns before what happened in step `number`, of process `pid`.
+pub fn columns_text(
+    alloc: Global,
+    form: &Form<'_>,
+    number: u32,
+    pid: usize,
+    event: &Event,
+) -> Result<String, AllocError>
+    ensures text { IfOk result (λ s. string_bytes s
+        ≡ columns form.now number pid event.now) }
+{
+    let mut text = String::new(alloc);
+    let number = format!(in alloc; "{number}")?;
+    form.push_head(&mut text, &number, Stand::before(pid, event), event.local)?;
+    Ok(text)
+}
+
+/// What happened in a step.
+pub fn event_text(alloc: Global, event: &Event) -> Result<String, AllocError>
+    ensures text { IfOk result (λ s. string_bytes s ≡ act_text event.now.word event.now.act) }
+{
+    let mut text = String::new(alloc);
+    push_act(&mut text, event.word, &event.act)?;
+    Ok(text)
+}
+
+/// The line of step `number`, of process `pid`, or no text where nothing is shown of it.
+pub fn step_line(
+    alloc: Global,
+    form: &Form<'_>,
+    number: u32,
+    pid: usize,
+    told: &Told,
+) -> Result<String, AllocError>
+    ensures line { IfOk result (λ s. string_bytes s ≡ step_line form.now number pid told.now) }
+{
+    let Told::Shown(event) = told else {
+        return Ok(String::new(alloc));
+    };
+    let mut line = columns_text(alloc, form, number, pid, event)?;
+    push_act(&mut line, event.word, &event.act)?;
+    let noted = matches!(&event.act, Act::Calls(call)
+        if call.level.is_some() || call.origin.is_some() || call.since.is_some());
+    form.push_line_end(&mut line, noted, Stand::before(pid, event))?;
+    Ok(line)
+}
+
+/// Bytes between quotation marks.
+#[derive(Clone, Copy)]
+pub struct QuotedBytes<'a>(pub &'a [u8]);
+
+impl fmt::Display for QuotedBytes<'_> {
+    ghost output = { λ b. Some (bytes_text b.0.now) };
+
+    #[tactic(auto, unfolding(crate::specs::Bytes::bytes_text, crate::specs::Bytes::byte_text))]
+    fn fmt<W: fmt::Write>(&self, f: &mut fmt::Formatter<W>) -> fmt::Result {
+        write!(f, "\"")?;
+        for byte in self.0 {
+            if is_quotable(u16::from(*byte)) {
+                let character = char::from(*byte);
+                write!(f, "{character}")?;
+                continue;
+            }
+            let escape = Escape(*byte);
+            write!(f, "{escape}")?;
+        }
+        write!(f, "\"")
+    }
+}
+
+/// Why a trace broke off.
+#[derive(Clone, Copy, Debug, PartialEq, Eq, Error)]
+pub enum TraceFault {
+    /// After so many steps the schedule names a process that isn't there. Nothing was written.
+    #[error("after {done} steps: NoProcess")]
+    NoProcess { done: u64 },
+    /// The output failed. A beginning of the text was written.
+    #[error("cannot write")]
+    Write,
+    /// Memory was refused. A beginning of the text was written.
+    #[error("out of memory")]
+    NoMemory,
+}
+
+impl From<AllocError> for TraceFault {
+    ghost from_gives = { λ _ e. e ≡ NoMemory };
+
+    fn from(_refused: AllocError) -> TraceFault {
+        TraceFault::NoMemory
+    }
 }

@@ -13,7 +13,7 @@ use Rattle.lab_worlds.proofs.FewestCalls.{calls_in}
 use Rattle.lab_worlds.proofs.OnwardSteps.{calls_more}
 use Rattle.lab_worlds.proofs.WalkedEnds.{verdict_rests}
 use Rattle.lab_ways.specs.declared.wanted.Wanted.{Wanted}
-use Rattle.lab_ways.specs.declared.watching.WatchedWalk.{WatchedWalk}
+use Rattle.lab_ways.specs.declared.walking.WatchedWalk.{WatchedWalk}
 use Rattle.lab_ways.specs.Wanted.{next_in, is_allowed, is_accepted}
 use Rattle.lab_ways.specs.Ways.{state_from, state_after}
 use Rattle.lab_ways.specs.Private.Marked.{IsWatched, KeepsWatched, ComesToEnd}

@@ -2,13 +2,9 @@
 #![tactic(auto)]
 
 mod calls;
-mod checking;
-mod judging;
 mod marking;
-mod units;
 mod walking;
 mod wanted;
-mod watching;
 mod ways;
 
 pub use calls::CallKind;

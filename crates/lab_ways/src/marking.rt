@@ -1,8 +1,8 @@
 //! Pairs of a row and a state that ways reach. They are marked as they are reached.
 ghost use Rattle.std.specs.Prelude.{◌≡◌, ◌+◌, ◌*◌, IfSome, Some, slice_get};
 
-use crate::judging::state_along;
 use crate::wanted::{MOST_STATES, Wanted};
+use crate::ways::state_along;
 use lab_search::Store;
 use lab_states::{Edge, Edges, place_of, put};
 use lab_worlds::ExploreFault;

@@ -1,16 +1,17 @@
 //! What is asked of the calls that are answered with success.
-ghost use Rattle.std.specs.Prelude.{◌≡◌, ◌+◌, ◌<◌, ◌==◌, ℕ, false, length, IfOk};
+ghost use Rattle.std.specs.Prelude.{◌≡◌, ◌+◌, ◌<◌, ◌==◌, ℕ, false, length, IfOk, ◌*◌, ◌||◌};
 ghost use Rattle.ipc_kernel.specs.Answer.{answer};
 ghost use Rattle.ipc_kernel.specs.Kernel.{KernelState};
 ghost use Rattle.ipc_kernel.specs.declared.call.Answer.{Answer as Given};
 ghost use Rattle.lab_conditions.specs.Refusals.{is_process};
-ghost use Rattle.lab_ways.specs.Calls.{is_success};
-ghost use Rattle.lab_ways.specs.Wanted.{next_turn, next_by, next_answered, is_allowed, is_accepted};
+ghost use Rattle.lab_ways.specs.Calls.{is_success, is_called};
+ghost use Rattle.lab_ways.specs.Wanted.{next_turn, next_by, next_answered, is_allowed, is_accepted, next_held, next_units, are_held};
+ghost use Rattle.ipc_traps.specs.declared.service.Service.TheVariants.{SemWait, SemTrywait, SemPost};
 
-use crate::calls::{CallKind, are_called, is_called, is_of_any, is_success};
-use crate::units::{are_held, moves_units, next_units};
+use crate::calls::{CallKind, are_called, calls_name, is_called, is_of_any, is_success};
 use ipc_kernel::{Call, Kernel};
 use ipc_names::Name;
+use ipc_traps::Service;
 use lab_states::place_of;
 use lab_worlds::ExploreFault;
 
@@ -186,4 +187,80 @@ impl Wanted {
         }
         self.pattern.next(state, kernel, pid, call)
     }
+}
+
+/// Whether a call takes a unit of a semaphore, by its name.
+fn takes(call: &Call) -> bool
+    ensures value { result ≡ (is_called SemWait call.now || is_called SemTrywait call.now) }
+{
+    is_called(Service::SemWait, call) || is_called(Service::SemTrywait, call)
+}
+
+/// Whether it gives one back.
+fn gives(call: &Call) -> bool
+    ensures value { result ≡ is_called SemPost call.now }
+{
+    is_called(Service::SemPost, call)
+}
+
+fn moves_units(call: &Call) -> bool
+    ensures value { result ≡ (is_called SemWait call.now || is_called SemTrywait call.now
+        || is_called SemPost call.now) }
+{
+    takes(call) || gives(call)
+}
+
+/// Whether a unit of the semaphore is held after a call, 1 or 0.
+fn next_held(name: &Name, held: u32, kernel: &Kernel, pid: usize, call: &Call) -> u32
+    requires process { pid < length kernel.now.processes }
+    ensures value { result ≡ next_held name.now held kernel.now pid call.now }
+{
+    if takes(call) && calls_name(kernel, pid, call, name) {
+        return 1;
+    }
+    if gives(call) && calls_name(kernel, pid, call, name) {
+        return 0;
+    }
+    held
+}
+
+/// The number behind a lowest digit.
+fn behind(digit: u32, rest: u32) -> Result<u32, ExploreFault>
+    ensures value { IfOk result (λ n. n ≡ digit + 2 * rest) }
+{
+    let twice = rest.checked_mul(2).ok_or(ExploreFault::NoMemory)?;
+    twice.checked_add(digit).ok_or(ExploreFault::NoMemory)
+}
+
+/// What is held after a call.
+fn next_units(
+    names: &[Name],
+    held: u32,
+    kernel: &Kernel,
+    pid: usize,
+    call: &Call,
+) -> Result<u32, ExploreFault>
+    requires process { pid < length kernel.now.processes }
+    ensures value { IfOk result (λ n. n ≡ next_units names.now held kernel.now pid call.now) }
+{
+    let Some((name, rest)) = names.split_first() else {
+        return Ok(held);
+    };
+    let digit = next_held(name, held % 2, kernel, pid, call);
+    let others = next_units(rest, held / 2, kernel, pid, call)?;
+    let number = behind(digit, others)?;
+    Ok(number)
+}
+
+/// Whether units of all are held.
+fn are_held(names: &[Name], held: u32) -> bool
+    ensures value { result ≡ are_held names.now held }
+{
+    let Some((_, rest)) = names.split_first() else {
+        return true;
+    };
+    if held % 2 == 1 {
+        return are_held(rest, held / 2);
+    }
+    false
 }

@@ -11,8 +11,8 @@ use Rattle.lab_sched.specs.Execution.{AreEffective}
 use Rattle.lab_sched.specs.Schedules.{steps_of}
 use Rattle.lab_sched.proofs.ListPlaces.{get-set_other}
 use Rattle.lab_worlds.specs.declared.walking.Walk.{Walk}
-use Rattle.lab_worlds.specs.declared.segments.FairSegment.{FairSegment}
-use Rattle.lab_worlds.specs.declared.lassos.Lasso.{Lasso}
+use Rattle.lab_worlds.specs.declared.closed_walks.FairSegment.{FairSegment}
+use Rattle.lab_worlds.specs.declared.exploration.Lasso.{Lasso}
 use Rattle.lab_worlds.specs.Calls.{AreAlike}
 use Rattle.lab_worlds.specs.Fairness.{IsFairTo, IsFairSegment, AreFairSegments, IsFairLasso, AreFairlyEndless}
 use Rattle.lab_worlds.specs.Walked.{IsWalk}

@@ -5,7 +5,7 @@ use Rattle.std.specs.List.{concat}
 use Rattle.lab_sched.specs.Worlds.{WorldState, run}
 use Rattle.lab_sched.specs.Execution.{AreEffective}
 use Rattle.lab_sched.specs.Schedules.{steps_of}
-use Rattle.lab_worlds.specs.declared.lassos.Lasso.{Lasso}
+use Rattle.lab_worlds.specs.declared.exploration.Lasso.{Lasso}
 use Rattle.lab_worlds.specs.Calls.{AreAlike}
 
 -- effective steps lead from the start to a world, and others, at least one, from that world to one

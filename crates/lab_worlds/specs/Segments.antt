@@ -2,7 +2,7 @@
 use Rattle.std.specs.Prelude.{ℕ, ◌≡◌, true, Some, length, slice_get}
 use Rattle.lab_sched.specs.Worlds.{WorldState}
 use Rattle.lab_sched.specs.Schedules.{steps_of}
-use Rattle.lab_worlds.specs.declared.segments.FairSegment.{FairSegment}
+use Rattle.lab_worlds.specs.declared.closed_walks.FairSegment.{FairSegment}
 use Rattle.lab_worlds.specs.Walked.{IsWalk}
 use Rattle.lab_worlds.specs.Fairness.{IsFairTo}
 

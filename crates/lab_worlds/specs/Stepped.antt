@@ -5,8 +5,8 @@ use Rattle.ipc_kernel.specs.Alike.{IsAlike}
 use Rattle.lab_sched.specs.declared.process.Process.{Process as Kept}
 use Rattle.lab_sched.specs.Worlds.{Process, WorldState, step_effect}
 use Rattle.lab_sched.specs.Held.{process_view, IsHeld, step_of}
-use Rattle.lab_worlds.specs.declared.trying.Attempt.{Attempt}
-use Rattle.lab_worlds.specs.declared.trying.Attempt.TheVariants.{Still, Runs, Came}
+use Rattle.lab_worlds.specs.declared.random_walker.Attempt.{Attempt}
+use Rattle.lab_worlds.specs.declared.random_walker.Attempt.TheVariants.{Still, Runs, Came}
 use Rattle.lab_worlds.specs.Calls.{IsAtCall, IsAhead, Alongside}
 use Rattle.lab_worlds.specs.Unwaiting.{GoesOn}
 

@@ -2,9 +2,11 @@
 ghost use Rattle.std.specs.Prelude.{◌≡◌, ◌≤◌, IsTrue, IfOk, false};
 ghost use Rattle.lab_sched.specs.Held.{process_view, IsHeld};
 ghost use Rattle.lab_sched.specs.LocalRun.{AreLocal};
-ghost use Rattle.lab_worlds.specs.Calls.{IsAtCall};
+ghost use Rattle.lab_worlds.specs.Calls.{IsAtCall, AreAlike};
+ghost use Rattle.lab_sched.specs.Stepping.{before_wait};
 
-use lab_sched::{Next, Process, find_next};
+use ipc_store::is_alike;
+use lab_sched::{Next, Process, World, find_next};
 use std::alloc::{AllocError, Global};
 
 /// A process after so many local steps. Where it isn't at a call, it has more.
@@ -53,12 +55,6 @@ pub(crate) fn run_on(alloc: Global, process: &mut Process, most: u32) -> Result<
     })
 }
 
-fn is_running(process: &Process) -> bool
-    ensures at_call { result ≡ false → IsAtCall (process_view process.now) }
-{
-    matches!(process, Process::Running(_))
-}
-
 /// A process at its next call, or after as many local steps as it may take. An error is want of
 /// memory.
 pub fn advance(alloc: Global, mut process: Process, most: u32) -> Result<Ahead, AllocError>
@@ -69,7 +65,7 @@ pub fn advance(alloc: Global, mut process: Process, most: u32) -> Result<Ahead, 
     ensures held { IfOk result (λ a. IsHeld a.process) }
     ensures within { IfOk result (λ a. a.taken ≤ most) }
 {
-    if !is_running(&process) {
+    if !matches!(process, Process::Running(_)) {
         return Ok(Ahead {
             process,
             taken: 0,
@@ -82,4 +78,34 @@ pub fn advance(alloc: Global, mut process: Process, most: u32) -> Result<Ahead, 
         taken,
         at_call,
     })
+}
+
+/// A copy of a process, as it was before it began to wait.
+pub fn copy_before_wait(alloc: Global, process: &Process) -> Result<Process, AllocError>
+    ensures before { IfOk result
+        (λ copy. process_view copy ≡ before_wait (process_view process.now)) }
+{
+    Ok(match process {
+        Process::Running(running) => Process::Running(running.copy(alloc)?),
+        Process::Waiting(waiting, _) => Process::Running(waiting.copy(alloc)?.back()),
+        Process::Ended(ended) => Process::Ended(ended.copy(alloc)?),
+    })
+}
+
+/// Whether worlds have the same processes, over kernels that are alike.
+pub fn are_alike(world: &World, other: &World) -> bool
+    ensures alike { IsTrue result → AreAlike world.now other.now }
+{
+    if world.count() != other.count() || !is_alike(world.kernel(), other.kernel()) {
+        return false;
+    }
+    for pid in 0..world.count() {
+        let (Some(one), Some(two)) = (world.process(pid), other.process(pid)) else {
+            return false;
+        };
+        if !one.is_same(two) {
+            return false;
+        }
+    }
+    true
 }

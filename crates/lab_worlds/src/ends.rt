@@ -5,7 +5,7 @@ ghost use Rattle.lab_sched.specs.declared.verdict.Verdict.TheVariants.{Open};
 ghost use Rattle.lab_worlds.specs.Walked.{IsWalk};
 ghost use Rattle.lab_worlds.specs.Ends.{IsEnd};
 
-use crate::fault::ExploreFault;
+use crate::exploration::ExploreFault;
 use crate::walking::Walk;
 use lab_sched::{Schedule, Verdict, World};
 use std::mem::size_of;
@@ -40,31 +40,20 @@ impl End {
     }
 }
 
-fn is_open(verdict: Verdict) -> bool
-    ensures closed { result ≡ false → verdict ≡ Open → ⊥ }
-{
-    matches!(verdict, Verdict::Open)
-}
-
 /// The end that a walk came to.
 pub fn end_of(walk: Walk) -> Result<End, ExploreFault>
     ensures end { IfOk result (λ e. (start : WorldState) → IsWalk start walk → IsEnd start e) }
     ensures world { IfOk result (λ e. e.world ≡ walk.world) }
     ensures calls { IfOk result (λ e. e.calls ≡ walk.calls) }
 {
-    let Walk {
-        world,
-        schedule,
-        calls,
-    } = walk;
-    let verdict = world.verdict();
-    if is_open(verdict) {
+    let verdict = walk.world.verdict();
+    if let Verdict::Open = verdict {
         return Err(ExploreFault::Unvouched);
     }
     Ok(End {
-        world,
-        schedule,
+        world: walk.world,
+        schedule: walk.schedule,
         verdict,
-        calls,
+        calls: walk.calls,
     })
 }

@@ -1,15 +1,18 @@
 //! One walk: from world at calls to world at calls, by processes that random numbers choose.
-ghost use Rattle.std.specs.Prelude.{◌≡◌, All, IfOk, OnOk};
-ghost use Rattle.lab_sched.specs.Held.{IsHeld};
+ghost use Rattle.std.specs.Prelude.{◌≡◌, All, IfOk, OnOk, Option, IsTrue, false};
+ghost use Rattle.lab_sched.specs.Held.{IsHeld, process_view, stepped_of};
 ghost use Rattle.lab_sched.specs.Starts.{AreStarts};
+ghost use Rattle.ipc_traps.specs.Asked.{Request};
+ghost use Rattle.lab_sched.specs.Worlds.{StepEffect};
+ghost use Rattle.lab_worlds.specs.Unwaiting.{GoesOn};
+ghost use Rattle.lab_worlds.specs.Stepped.{IsStepped};
 
-use crate::ahead::run_on;
-use crate::fault::ExploreFault;
-use crate::generator::Generator;
+use crate::ahead::{Ahead, advance, run_on};
+use crate::exploration::ExploreFault;
 use crate::walking::copies;
 use ipc_kernel::{Kernel, PROCESS_MAX};
 use ipc_store::is_alike;
-use lab_sched::{MOST_STEPS, Process, Schedule, World, take_step};
+use lab_sched::{MOST_STEPS, Process, Schedule, Stepped, World, take_step};
 use std::alloc::{AllocError, Global};
 
 /// The world to which a walk came, and the steps to it. The local steps that a process has taken
@@ -46,11 +49,9 @@ impl RandomWalker {
         requires held { All IsHeld processes.now }
         ensures held { IfOk result (λ w. All IsHeld w.processes.items) }
     {
-        let kernel = Kernel::new(alloc, processes.len())?;
-        let processes = copies(alloc, processes)?;
         Ok(RandomWalker {
-            kernel,
-            processes,
+            kernel: Kernel::new(alloc, processes.len())?,
+            processes: copies(alloc, processes)?,
             local: Vec::new(alloc),
             schedule: Schedule::new(alloc),
         })
@@ -114,13 +115,11 @@ impl RandomWalker {
         self.note(pid, before)?;
         self.note(pid, 1)?;
         take_step(alloc, &mut self.processes[pid], &mut self.kernel, pid)?;
-        match come_to_call(alloc, &mut self.processes[pid], most)? {
-            Some(taken) => {
-                self.local[pid] = taken;
-                Ok(true)
-            }
-            None => Ok(false),
-        }
+        let Some(taken) = come_to_call(alloc, &mut self.processes[pid], most)? else {
+            return Ok(false);
+        };
+        self.local[pid] = taken;
+        Ok(true)
     }
 
     /// Goes from world to world until none of the processes has a step, through at most so many
@@ -177,5 +176,103 @@ impl RandomWalker {
             hash ^= hash >> 29;
         }
         hash
+    }
+}
+
+/// A kernel and a process after a step of it, and so many local steps.
+#[derive(Drop)]
+pub struct Made {
+    pub kernel: Kernel,
+    pub process: Process,
+    pub taken: u32,
+}
+
+/// What came of a step.
+#[derive(Drop)]
+pub enum Attempt {
+    /// Nothing: the process has ended, or its call must wait.
+    Still,
+    /// More local steps than the process may take.
+    Runs,
+    /// The process at its next call.
+    Came(Made),
+}
+
+/// Lets a value go. A function that calls it at each of its ends is proved faster than one whose
+/// ends let go of large values.
+pub fn discard<T: Drop>(_value: T) {}
+
+fn goes_on(stepped: Stepped) -> bool
+    ensures yes { IsTrue result → (q : Option Request) (t : StepEffect)
+        → stepped ≡ stepped_of q t → GoesOn t }
+    ensures no { result ≡ false → (q : Option Request) (t : StepEffect)
+        → stepped ≡ stepped_of q t → GoesOn t → ⊥ }
+{
+    matches!(
+        stepped,
+        Stepped::Moved | Stepped::Refused(_) | Stepped::Called(_)
+    )
+}
+
+/// Takes a step of a process, and its local steps after it, over a kernel.
+pub fn try_step(
+    alloc: Global,
+    mut kernel: Kernel,
+    mut process: Process,
+    pid: usize,
+    most: u32,
+) -> Result<Attempt, ExploreFault>
+    requires held { IsHeld process }
+    ensures stepped { IfOk result (λ attempt. IsStepped kernel pid (process_view process) attempt) }
+{
+    if pid >= kernel.count() {
+        return Err(ExploreFault::Unvouched);
+    }
+    let stepped = take_step(alloc, &mut process, &mut kernel, pid)?;
+    if !goes_on(stepped) {
+        return Ok(Attempt::Still);
+    }
+    let ahead = advance(alloc, process, most)?;
+    if !ahead.at_call {
+        return Ok(Attempt::Runs);
+    }
+    Ok(Attempt::Came(Made {
+        kernel,
+        process: ahead.process,
+        taken: ahead.taken,
+    }))
+}
+
+/// What each number is multiplied by, after Knuth's MMIX, *The Art of Computer Programming*, 3.3.4.
+const MULTIPLIER: u64 = 6_364_136_223_846_793_005;
+
+/// What is added then.
+const INCREMENT: u64 = 1_442_695_040_888_963_407;
+
+/// The upper bits of a number, from this one on, are what chooses.
+const LOWEST: u32 = 33;
+
+/// Random numbers: a linear congruential sequence modulo 2^64, which begins with a seed.
+#[derive(Clone, Copy, Debug)]
+pub struct Generator {
+    number: u64,
+}
+
+impl Generator {
+    /// The numbers of a seed.
+    pub fn new(seed: u32) -> Generator {
+        Generator {
+            number: seed as u64,
+        }
+    }
+
+    /// The next number chooses one of these, if there is one.
+    pub(crate) fn choose(&mut self, among: &[usize]) -> Option<usize> {
+        if among.is_empty() {
+            return None;
+        }
+        self.number = self.number.wrapping_mul(MULTIPLIER).wrapping_add(INCREMENT);
+        let place = (self.number >> LOWEST) % among.len() as u64;
+        among.get(place as usize).copied()
     }
 }

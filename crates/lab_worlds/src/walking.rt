@@ -1,18 +1,19 @@
 //! Walks: effective steps from a world, one by one.
-ghost use Rattle.std.specs.Prelude.{◌≡◌, ◌≤◌, ◌+◌, ◌++◌, ◌∷◌, [], ℕ, Option, IsTrue, false, IfOk, OnOk, length};
+ghost use Rattle.std.specs.Prelude.{◌≡◌, ◌≤◌, ◌+◌, ◌++◌, ◌∷◌, [], ℕ, Option, IsTrue, false, IfOk, OnOk, length, count_by, take};
 ghost use Rattle.ipc_traps.specs.Asked.{Request};
 ghost use Rattle.lab_sched.specs.Worlds.{StepEffect, IsEffective, entry_of, step_effect_in, step};
 ghost use Rattle.lab_sched.specs.Schedules.{steps_of};
-ghost use Rattle.lab_sched.specs.Held.{stepped_of, told_in};
+ghost use Rattle.lab_sched.specs.Held.{stepped_of, told_in, process_view};
 ghost use Rattle.lab_sched.specs.Starts.{AreStarts, initial_world};
 ghost use Rattle.lab_sched.specs.declared.stepped.Stepped.TheVariants.{Same};
 ghost use Rattle.lab_conditions.specs.Losses.{receives, Loses};
 ghost use Rattle.lab_conditions.specs.Refusals.{Refuses};
 ghost use Rattle.lab_worlds.specs.Reached.{Breaks};
 ghost use Rattle.lab_worlds.specs.Walked.{waiting, IsWalk, KeepsStart};
+ghost use Rattle.lab_sched.specs.Verdicts.{is_waiting};
+ghost use Rattle.lab_worlds.specs.Unwaiting.{unwaiting};
 
-use crate::fault::ExploreFault;
-use crate::waiting::count_waiting;
+use crate::exploration::ExploreFault;
 use ipc_kernel::{Kernel, PROCESS_MAX};
 use lab_conditions::{Never, Refusal, is_receiving, messages_in};
 use lab_sched::{MOST_STEPS, Process, Schedule, Stepped, World};
@@ -35,13 +36,6 @@ pub(crate) fn copies(alloc: Global, processes: &[Process]) -> Result<Vec<Process
         copies.push(copy)?;
     }
     Ok(copies)
-}
-
-fn changes(stepped: &Stepped) -> bool
-    ensures effective { IsTrue result → stepped.now ≡ Same → ⊥ }
-    ensures same { result ≡ false → stepped.now ≡ Same }
-{
-    !matches!(stepped, Stepped::Same)
 }
 
 fn calls_of(stepped: &Stepped) -> u32
@@ -94,7 +88,7 @@ impl Walk {
         let Some(calls) = self.calls.checked_add(calls_of(&stepped)) else {
             return Err(ExploreFault::Unvouched);
         };
-        if !changes(&stepped) {
+        if let Stepped::Same = stepped {
             return Err(ExploreFault::Unvouched);
         }
         self.calls = calls;
@@ -141,20 +135,6 @@ impl Walk {
         Ok(())
     }
 
-    /// Takes a step, which must be a call that is refused so.
-    fn refuse(&mut self, refusal: &Refusal, pid: usize) -> Result<(), ExploreFault>
-        ensures walk { OnOk result (KeepsStart self.old self.new) }
-        ensures refuses { OnOk result (Refuses refusal.now self.old.world pid) }
-        ensures steps { OnOk result (steps_of self.new.schedule
-            ≡ steps_of self.old.schedule ++ pid ∷ []) }
-    {
-        let stepped = self.go_told(pid)?;
-        if !refusal.is_process(pid) || !refusal.is_refused(&stepped) {
-            return Err(ExploreFault::Unvouched);
-        }
-        Ok(())
-    }
-
     /// Takes a step, which must be effective and what never must happen.
     pub fn go_against(
         &mut self,
@@ -170,7 +150,13 @@ impl Walk {
         match never {
             Never::Holds(_) => Err(ExploreFault::Unvouched),
             Never::Lost => self.lose(alloc, pid),
-            Never::Refused(refusal) => self.refuse(refusal, pid),
+            Never::Refused(refusal) => {
+                let stepped = self.go_told(pid)?;
+                if !refusal.is_process(pid) || !refusal.is_refused(&stepped) {
+                    return Err(ExploreFault::Unvouched);
+                }
+                Ok(())
+            }
         }
     }
 
@@ -181,13 +167,11 @@ impl Walk {
         ensures calls { OnOk result (self.new.calls ≡ self.old.calls) }
         ensures none { OnOk result (IsEffective (step_effect_in self.old.world pid) → ⊥) }
     {
-        let Ok(stepped) = self.world.step(pid) else {
-            return Err(ExploreFault::NoMemory);
-        };
-        if changes(&stepped) {
-            return Err(ExploreFault::Unvouched);
+        match self.world.step(pid) {
+            Ok(Stepped::Same) => Ok(()),
+            Ok(_) => Err(ExploreFault::Unvouched),
+            Err(_) => Err(ExploreFault::NoMemory),
         }
-        Ok(())
     }
 
     /// Takes so many steps, each of which must be effective.
@@ -264,4 +248,47 @@ pub struct WayCall {
     pub pid: usize,
     pub taken: u32,
     pub late: bool,
+}
+
+/// Whether a process waits.
+pub fn waits(process: &Process) -> bool
+    ensures value { result ≡ is_waiting (process_view process.now) }
+{
+    matches!(process, Process::Waiting(_, _))
+}
+
+/// Whether no process of a world waits.
+pub fn none_waits(world: &World) -> bool
+    ensures none { IsTrue result → unwaiting world.now ≡ world.now }
+{
+    for pid in 0..world.count() {
+        let Some(process) = world.process(pid) else {
+            return false;
+        };
+        if waits(process) {
+            return false;
+        }
+    }
+    true
+}
+
+fn waiting_at(world: &World, pid: usize) -> u32
+    ensures few { result ≤ 1 }
+    ensures next { count_by is_waiting (take (pid + 1) world.now.processes)
+        ≡ count_by is_waiting (take pid world.now.processes) + result }
+{
+    let Some(process) = world.process(pid) else {
+        return 0;
+    };
+    if waits(process) { 1 } else { 0 }
+}
+
+fn count_waiting(world: &World) -> u32
+    ensures count { result ≡ waiting world.now }
+{
+    let mut count = 0;
+    for pid in 0..world.count() {
+        count += waiting_at(world, pid);
+    }
+    count
 }

@@ -10,7 +10,7 @@ use Rattle.lc3_asm.specs.Texts.{At, LineWords, at_line, lines, lines_after, line
 use Rattle.lc3_asm.specs.Faults.{Reading, outcome, told_once, kept, fault_of, numbered, reading_with, reading_after, reading, unless_unknown, label_fault, faults_of, faults, refused_for}
 use Rattle.lc3_asm.specs.Views.{seen_line}
 use Rattle.lc3_asm.specs.declared.line.Line.{Line as Read}
-use Rattle.lc3_asm.specs.declared.fault.LineFault.{LineFault}
+use Rattle.lc3_asm.specs.declared.passes.LineFault.{LineFault}
 use Rattle.lc3_asm.proofs.EarlierLemmas.{behind-append, seen-more}
 use Rattle.lc3_asm.proofs.ReadLemmas.{line-read, read-below}
 use Rattle.std.proofs.lemmas.Grind.{common_steps}

@@ -9,7 +9,7 @@ use Rattle.lc3_table.specs.declared.operation.Operation.{Operation}
 use Rattle.lc3_table.specs.declared.operation.Fault.{Fault}
 use Rattle.lc3_table.specs.declared.operation.Fault.TheVariants as fault
 use Rattle.lc3_asm.specs.Texts.{Program, At, lines, is_origin, is_end, address_after, label_of, with_earlier, labels, value, is_duplicate, place_fault}
-use Rattle.lc3_asm.specs.declared.fault.LineFault.{LineFault}
+use Rattle.lc3_asm.specs.declared.passes.LineFault.{LineFault}
 
 -- the lines that are read, each with a fault as what it counts as, and the faults found in them
 pub record Reading : Type 0 where

@@ -1,8 +1,8 @@
 -- What functions return, in the words of the definition.
 use Rattle.std.specs.Prelude.{◌≡◌, Result, Ok, Err}
 use Rattle.lc3_table.specs.declared.operation.Fault.{Fault}
-use Rattle.lc3_asm.specs.declared.fault.LineError.{LineError}
-use Rattle.lc3_asm.specs.declared.fault.LineError.TheVariants as errors
+use Rattle.lc3_asm.specs.declared.passes.LineError.{LineError}
+use Rattle.lc3_asm.specs.declared.passes.LineError.TheVariants as errors
 
 -- a fault is the one that the definition has; of want of memory nothing is said
 abbrev pub Fails : {Y : Type 0} → LineError → Result Y Fault → Type 0

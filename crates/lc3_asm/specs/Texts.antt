@@ -9,8 +9,8 @@ use Rattle.lc3_asm.specs.declared.assembled.Row.{Row}
 use Rattle.lc3_table.specs.declared.operation.Operation.TheVariants as op
 use Rattle.lc3_table.specs.declared.operation.Fault.{Fault}
 use Rattle.lc3_table.specs.declared.operation.Fault.TheVariants as fault
-use Rattle.lc3_asm.specs.declared.fault.AsmFault.{AsmFault}
-use Rattle.lc3_asm.specs.declared.fault.AsmFault.TheVariants as faults
+use Rattle.lc3_asm.specs.declared.passes.AsmFault.{AsmFault}
+use Rattle.lc3_asm.specs.declared.passes.AsmFault.TheVariants as faults
 
 -- the lines of a text, which end at line feeds
 abbrev pub lines : List ℕ → List (List ℕ)

@@ -3,8 +3,8 @@ use Rattle.std.specs.Prelude.{ℕ, List, [], Option, Some, None, option_map, map
 use Rattle.std.specs.Borrow.{Bor}
 use Rattle.lc3_table.specs.Statements.{Line, Blank, LabelAlone, Operates, Operand, Register, Number, Label, Characters}
 use Rattle.lc3_table.specs.Tokens.{Token, Word, Quoted, Unclosed}
-use Rattle.lc3_asm.specs.declared.token.Token.{Token as ReadToken}
-use Rattle.lc3_asm.specs.declared.token.Token.TheVariants as tokens
+use Rattle.lc3_asm.specs.declared.line.Token.{Token as ReadToken}
+use Rattle.lc3_asm.specs.declared.line.Token.TheVariants as tokens
 use Rattle.lc3_asm.specs.declared.statement.Operand.{Operand as Read}
 use Rattle.lc3_asm.specs.declared.statement.Operand.TheVariants as read
 use Rattle.lc3_asm.specs.declared.line.Line.{Line as ReadLine}

@@ -13,11 +13,10 @@ ghost use Rattle.lc3_asm.specs.Addresses.{addresses};
 ghost use Rattle.lc3_asm.specs.Faults.{Reading, has_faults, is_too_long, line_behind, told_once, outcome, printable_or_blank, operation_named, label_begun, bare_line, stand_in, fitted, kept, numbered, reading_with};
 ghost use Rattle.lc3_table.specs.Tokens.{tokens};
 
-use crate::fault::{LineError, LineFault};
-use crate::line::{Line, label_defined, read_line};
+use crate::line::{Line, Token, label_defined, read_line, tokens};
+use crate::passes::{LineError, LineFault};
 use crate::statement::token_operation;
 use crate::symbols::{Placed, Symbols};
-use crate::token::{Token, tokens};
 use lc3_table::{Fault, Operation};
 use lc3_word::FIRST_DEVICE;
 use std::alloc::{AllocError, Global};
@@ -55,22 +54,17 @@ fn line_behind(
 fn printable_or_blank(byte: u8) -> u8
     ensures value { result ≡ printable_or_blank byte }
 {
-    if 33 <= byte && byte <= 126 {
-        byte
-    } else {
-        b' '
-    }
+    if matches!(byte, 33..=126) { byte } else { b' ' }
 }
 
 /// The bytes with a blank in the place of each that can't stand in a word.
 pub fn printable(alloc: Global, bytes: &[u8]) -> Result<Vec<u8>, AllocError>
     ensures value { IfOk result (λ v. v.items ≡ map printable_or_blank bytes.now) }
 {
-    let mut found = Vec::new(alloc);
-    for byte in bytes {
-        found.push(printable_or_blank(*byte))?;
-    }
-    Ok(found)
+    bytes
+        .iter()
+        .map(|byte| printable_or_blank(*byte))
+        .collect(alloc)
 }
 
 /// The operation or directive that the first token names, or else the second.
@@ -122,6 +116,7 @@ pub fn push_numbered(
 }
 
 /// The lines of a text that are read so far, those with a fault as what they count as, and the faults.
+#[derive(Drop)]
 pub struct Reader {
     placed: Placed,
     faults: Vec<LineFault>,
@@ -131,18 +126,6 @@ pub struct Reader {
     first: u64,
     /// How many words the lines make.
     count: u64,
-}
-
-impl Drop for Reader {
-    fn drop(self) {
-        let Reader {
-            placed: _,
-            faults: _,
-            started: _,
-            first: _,
-            count: _,
-        } = self;
-    }
 }
 
 impl Model for Reader {
@@ -226,10 +209,9 @@ impl Reader {
     {
         let [first, ..] = tokens else { return Ok(None) };
         match label_defined(alloc, *first) {
-            Ok(name) if self.placed.symbols.contains(&name) => Ok(None),
-            Ok(name) => Ok(Some(name)),
+            Ok(name) if !self.placed.symbols.contains(&name) => Ok(Some(name)),
             Err(LineError::Memory) => Err(AllocError),
-            Err(LineError::Fault(_)) => Ok(None),
+            _ => Ok(None),
         }
     }
 
@@ -338,13 +320,7 @@ impl Reader {
     pub(crate) fn into_symbols(self) -> Symbols
         ensures value { result ≡ labels self.read }
     {
-        let Reader {
-            placed,
-            faults: _,
-            started: _,
-            first: _,
-            count: _,
-        } = self;
+        let Reader { placed, .. } = self;
         placed.into_symbols()
     }
 

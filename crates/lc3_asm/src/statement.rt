@@ -1,18 +1,16 @@
 //! Operands of a statement.
-
-ghost use Rattle.std.specs.Prelude.{◌≡◌, ◌<◌, ◌≤◌, IfOk, string_bytes, map, IsAscii, is_some, option_map, Option, Some, None, IfSome, IfNone, nat_abs, true, nat_le, ◌&&◌, length, ◌||◌, ◌-ℤ◌, pos};
+ghost use Rattle.std.specs.Prelude.{◌≡◌, ◌<◌, ◌≤◌, IfOk, string_bytes, map, IsAscii, is_some, option_map, Option, Some, None, IfSome, IfNone, nat_abs, true, nat_le, ◌&&◌, length, ◌||◌, ◌-ℤ◌, pos, find};
 ghost use Rattle.lc3_asm.specs.Views.{token_of, seen_operand};
 ghost use Rattle.lc3_asm.specs.Results.{Gives};
-ghost use Rattle.lc3_table.specs.Words.{upper, register};
+ghost use Rattle.lc3_table.specs.Words.{upper, register, operation, operations, same_name, name, is_label, is_label_byte, has_label_form, is_taken};
 ghost use Rattle.std.specs.List.{list_all};
 ghost use Rattle.lc3_table.specs.Statements.{is_between, characters, onto, fault_in, token_fault, operand_by_register, operand, all_operands, takes_register, takes_label, accepts, forms, token_operation, without_colon};
 ghost use Rattle.lc3_word.specs.Numbers.{number};
 ghost use Rattle.lc3_table.specs.Tokens.{Word};
 
-use crate::fault::LineError;
-use crate::token::Token;
-use crate::word::{is_label, operation, register};
-use lc3_table::{Fault, Form, Operation, escape};
+use crate::line::Token;
+use crate::passes::LineError;
+use lc3_table::{Fault, Form, Operation, escape, operations};
 use lc3_word::{FIRST_DEVICE, Reg, number_of};
 use std::alloc::{AllocError, Global};
 
@@ -133,7 +131,7 @@ pub fn token_fault(tokens: &[Token<'_>]) -> Option<Fault>
     None
 }
 
-fn is_between(low: i64, high: i64, number: i64) -> bool
+pub(crate) fn is_between(low: i64, high: i64, number: i64) -> bool
     ensures value { result ≡ is_between low high number }
 {
     low <= number && number <= high
@@ -213,8 +211,90 @@ pub fn all_operands(
     }
     let mut found = Vec::new(alloc);
     for (i, token) in tokens.iter().enumerate() {
-        let operand = token_operand(alloc, forms[i], *token)?;
-        found.push(operand)?;
+        found.push(token_operand(alloc, forms[i], *token)?)?;
     }
     Ok(found)
+}
+
+/// The register that a word names, in either case.
+#[tactic(auto, unfolding(lc3_table::specs::Words::register))]
+pub fn register(word: &[u8]) -> Option<Reg>
+    ensures value { result ≡ register word.now }
+{
+    match word {
+        [b'R' | b'r', digit @ b'0'..=b'7'] => Reg::new(*digit - b'0'),
+        _ => None,
+    }
+}
+
+#[tactic(auto, unfolding(lc3_table::specs::Words::same_name))]
+fn is_name(name: &str, word: &[u8]) -> bool
+    ensures value { result ≡ same_name name.now word.now }
+{
+    name.as_bytes().eq_ignore_ascii_case(word)
+}
+
+fn operation_shown(word: &[u8]) -> Option<Operation>
+    ensures value { result ≡ find (λ o. same_name (name o) word.now) operations }
+{
+    operations()
+        .iter()
+        .copied()
+        .find(|operation| is_name(operation.name(), word))
+}
+
+/// The operation or directive that a word names, in either case. `BR` alone is `BRnzp`.
+#[tactic(auto, unfolding(lc3_table::specs::Words::operation))]
+pub fn operation(word: &[u8]) -> Option<Operation>
+    ensures value { result ≡ operation word.now }
+{
+    if is_name("BR", word) {
+        return Some(Operation::Branch {
+            negative: true,
+            zero: true,
+            positive: true,
+        });
+    }
+    operation_shown(word)
+}
+
+#[tactic(auto, unfolding(lc3_table::specs::Words::is_label_byte))]
+fn is_label_byte(byte: u8) -> bool
+    ensures value { result ≡ is_label_byte byte }
+{
+    byte.is_ascii_alphanumeric() || byte == b'_'
+}
+
+/// The most characters that a label has.
+pub const LABEL_LENGTH: usize = 80;
+
+fn is_label_bytes(word: &[u8]) -> bool
+    ensures value { result ≡ list_all is_label_byte word.now }
+{
+    word.iter().all(|byte| is_label_byte(*byte))
+}
+
+#[tactic(auto, unfolding(lc3_table::specs::Words::has_label_form, lc3_table::specs::Words::begins_with_digit))]
+fn has_label_form(word: &[u8]) -> bool
+    ensures value { result ≡ has_label_form word.now }
+{
+    let fits = !word.is_empty() && word.len() <= LABEL_LENGTH;
+    fits && is_label_bytes(word) && !matches!(word, [b'0'..=b'9', ..])
+}
+
+#[tactic(auto, unfolding(lc3_table::specs::Words::is_taken))]
+fn is_taken(word: &[u8]) -> bool
+    ensures value { result ≡ is_taken word.now }
+{
+    let is_operand = number_of(word).is_some() || register(word).is_some();
+    is_operand || operation(word).is_some()
+}
+
+/// Whether a word can be a label.
+#[tactic(auto, using(crate::proofs::WordLemmas::label_ascii), unfolding(lc3_table::specs::Words::is_label))]
+pub fn is_label(word: &[u8]) -> bool
+    ensures test { result ≡ is_label word.now }
+    ensures ascii { result ≡ true → IsAscii word.now }
+{
+    has_label_form(word) && !is_taken(word)
 }

@@ -140,11 +140,7 @@ impl Placed {
     pub fn into_symbols(self) -> Symbols
         ensures symbols { result ≡ self.symbols }
     {
-        let Placed {
-            lines: _,
-            symbols,
-            places: _,
-        } = self;
+        let Placed { symbols, .. } = self;
         symbols
     }
 }

@@ -1,8 +1,6 @@
 //! The states of a process, a type each.
 
-mod call;
 mod copies;
-mod end;
 mod outputs;
 mod readers;
 mod run;

@@ -7,10 +7,10 @@ use Rattle.lc3_table.specs.declared.operation.Fault.TheVariants.{NoOrig}
 use Rattle.std.specs.List.{list_any}
 use Rattle.lc3_asm.specs.Texts.{lines, is_origin}
 use Rattle.lc3_asm.specs.Faults.{Reading, reading, has_faults, label_faults, faults_of}
-use Rattle.lc3_asm.specs.declared.fault.LineFault.{LineFault}
-use Rattle.lc3_warnings.specs.declared.warning.Warning.{Warning}
+use Rattle.lc3_asm.specs.declared.passes.LineFault.{LineFault}
+use Rattle.lc3_warnings.specs.declared.texts.Warning.{Warning}
 use Rattle.lc3_warnings.specs.Warnings.{is_accepted}
-use Rattle.lc3_messages.specs.declared.told.Finding.{Finding}
+use Rattle.lc3_messages.specs.declared.source.Finding.{Finding}
 use Rattle.lc3_messages.specs.Private.Told.{AreFrom, finding_of, finding_of_warning, is_error, error_count, Tells}
 
 -- each fault is counted

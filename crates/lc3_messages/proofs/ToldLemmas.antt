@@ -1,8 +1,8 @@
 -- Faults that are told, and what is found.
 use Rattle.std.proofs.Common.{ℕ, ◌≡◌, ◌<◌, ◌+◌, ◌++◌, true, List, [], ◌∷◌, length, take, get_or, inl, inr, refl, ap, arith}
 use Rattle.std.proofs.lemmas.List.{length-append, take_more}
-use Rattle.lc3_asm.specs.declared.fault.LineFault.{LineFault}
-use Rattle.lc3_messages.specs.declared.told.Finding.{Finding}
+use Rattle.lc3_asm.specs.declared.passes.LineFault.{LineFault}
+use Rattle.lc3_messages.specs.declared.source.Finding.{Finding}
 use Rattle.lc3_messages.specs.Private.Told.{names_a_label, finding_of, AreFrom}
 
 -- one fault more that is told

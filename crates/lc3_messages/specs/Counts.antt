@@ -2,7 +2,7 @@
 use Rattle.std.specs.Prelude.{ℕ, Bool, not, List, filter, bytes_eq}
 use Rattle.std.specs.List.{list_any}
 use Rattle.lc3_table.specs.declared.profile.Profile.{Profile}
-use Rattle.lc3_warnings.specs.declared.warning.Warning.{Warning}
+use Rattle.lc3_warnings.specs.declared.texts.Warning.{Warning}
 use Rattle.lc3_warnings.specs.Texts.{warning_name}
 use Rattle.lc3_warnings.specs.Warnings.{warnings}
 

@@ -2,20 +2,10 @@
 #![tactic(auto)]
 
 mod characters;
-mod faulty;
-mod labels;
-mod message;
-mod operands;
 mod operations;
 mod parts;
-mod plain;
-mod references;
 mod report;
 mod source;
-mod strings;
 mod texts;
-mod told;
-mod warned;
-mod words;
 
 pub use report::{Report, Wish, report_on};

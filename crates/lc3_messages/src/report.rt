@@ -4,12 +4,14 @@ ghost use Rattle.lc3_warnings.specs.Warnings.{is_accepted};
 ghost use Rattle.lc3_messages.specs.Counts.{told_warnings};
 ghost use Rattle.lc3_messages.specs.Private.Told.{error_count};
 
-use crate::message::Message;
-use crate::source::{Source, source_of};
+use crate::characters::{Excerpt, picture};
+use crate::operations::{DidYouMean, name_meant, name_of};
+use crate::parts::{NOTHING, Part, Remark, Span, operation_number, parts_of};
+use crate::source::{Finding, Source, What, error_count, findings, source_of};
 use crate::texts::remark;
-use crate::told::{Finding, What, error_count, findings};
-use crate::warned::warning_remark;
+use lc3_spelling::BARE_OPERATIONS;
 use lc3_table::Profile;
+use lc3_warnings::{Kind, push_text};
 use std::alloc::{AllocError, Global};
 use std::fmt;
 use std::fmt::Write;
@@ -150,4 +152,82 @@ pub fn report_on(
         }
         Err(error) => no_text_report(alloc, file, bytes, error.valid_up_to()),
     }
+}
+
+/// The most characters of a line that is written below its message.
+const LENGTH: usize = 200;
+
+/// Writes a line as it is shown, and below it a `^` for each character of a part.
+fn write_marked<W: fmt::Write>(f: &mut fmt::Formatter<W>, line: &str, mark: Span) -> fmt::Result {
+    for character in line.chars() {
+        f.write_char(picture(character))?;
+    }
+    f.write_char('\n')?;
+    for character in line.get(..mark.start).unwrap_or("").chars() {
+        f.write_char(if character == '\t' { '\t' } else { ' ' })?;
+    }
+    for _ in line.get(mark.start..mark.end).unwrap_or("").chars() {
+        f.write_char('^')?;
+    }
+    f.write_char('\n')
+}
+
+/// What is said of a finding in this file and this line.
+#[derive(Clone, Copy)]
+struct Message<'a> {
+    pub file: &'a str,
+    pub line: &'a str,
+    pub finding: Finding,
+    pub remark: &'a Remark,
+}
+
+impl fmt::Display for Message<'_> {
+    fn fmt<W: fmt::Write>(&self, f: &mut fmt::Formatter<W>) -> fmt::Result {
+        let (file, line, mark) = (self.file, self.line, self.remark.mark);
+        let before = line.get(..mark.start).unwrap_or("").chars().count();
+        let column = before.saturating_add(1);
+        write!(f, "{file}:{}:{column}: ", self.finding.line)?;
+        let text = self.remark.text.as_str();
+        match self.finding.what {
+            What::Fault(fault) => write!(f, "error: {text} [{fault:?}]\n"),
+            What::Warning(kind) => write!(f, "warning: {text} [{}]\n", kind.name()),
+        }?;
+        let is_short = line.chars().nth(LENGTH).is_none();
+        if is_short && mark.start < mark.end && mark.end <= line.len() {
+            write_marked(f, line, mark)?;
+        }
+        Ok(())
+    }
+}
+
+/// The token of a line that a warning is about: the first, the number at the end, or the operation.
+fn part_marked(alloc: Global, line: &str, kind: Kind) -> Result<Part<'_>, AllocError> {
+    let parts = parts_of(alloc, line)?;
+    let number = match kind {
+        Kind::Misspelt | Kind::UnusedLabel | Kind::AfterEnd { .. } => 0,
+        Kind::Wraps { .. } | Kind::UnknownTrap | Kind::DecimalOrigin { .. } => {
+            parts.len().saturating_sub(1)
+        }
+        _ => operation_number(&parts),
+    };
+    Ok(parts.get(number).copied().unwrap_or(NOTHING))
+}
+
+/// What is said of a warning of this kind about a line.
+fn warning_remark(source: &Source<'_>, line: &str, kind: Kind) -> Result<Remark, AllocError> {
+    let alloc = source.alloc;
+    let spoken_of = match kind {
+        Kind::LostReturn { writer: other } | Kind::StaleCodes { trap: other } => source.line(other),
+        _ => line,
+    };
+    let word = part_marked(alloc, spoken_of, kind)?.word;
+    let meant = match kind {
+        Kind::Misspelt => name_meant(alloc, word, &BARE_OPERATIONS)?,
+        _ => None,
+    };
+    let shown = format!(in alloc; "{}", Excerpt(name_of(word)))?;
+    let mut text = String::new(alloc);
+    push_text(&mut text, kind, &shown)?;
+    write!(text, "{}", DidYouMean(meant))?;
+    Ok(part_marked(alloc, line, kind)?.remark(text))
 }

@@ -1,14 +1,14 @@
 //! The name that a word is spelled most like.
-ghost use Rattle.std.specs.Prelude.{◌≡◌, ◌≤◌, true, false, option_map, IfOk, IfSome, slice_get};
-ghost use Rattle.lc3_spelling.specs.Edits.{near_edits, IsNearest};
+ghost use Rattle.std.specs.Prelude.{◌≡◌, ◌≤◌, true, false, option_map, IfOk, IfSome, slice_get, length};
+ghost use Rattle.lc3_spelling.specs.Edits.{near_edits, IsNearest, allowed};
 ghost use Rattle.lc3_spelling.specs.Private.Candidates.{IsNearer};
 
-use crate::edits::near_edits;
 use std::alloc::{AllocError, Global};
+use strsim::osa_distance;
 
 /// A name that is near a word.
 #[derive(Clone, Copy)]
-pub(crate) struct Candidate {
+struct Candidate {
     /// Its place among the names.
     index: usize,
     /// How many edits lead to it.
@@ -106,5 +106,66 @@ pub fn suggestion(alloc: Global, word: &str, names: &[&str]) -> Result<Option<us
     match best {
         Some(found) => Ok(Some(found.index)),
         None => Ok(None),
+    }
+}
+
+/// How many edits may lead from a word of this length to a name of that length: two where both have
+/// five characters or more, none where one of them has a single character, or where the lengths are
+/// more than two apart, and else one.
+fn allowed(word: usize, name: usize) -> usize
+    ensures value { result ≡ allowed word name }
+{
+    if word <= 1 || name <= 1 || word.abs_diff(name) > 2 {
+        0
+    } else if word >= 5 && name >= 5 {
+        2
+    } else {
+        1
+    }
+}
+
+/// How many edits lead from a word to a name, where they are some and no more than allowed. An edit
+/// puts a character in, takes one out, changes one, or exchanges two neighbours; no character is
+/// edited twice.
+#[tactic(auto, unfolding(crate::specs::Edits::near_edits))]
+fn near_edits(alloc: Global, word: &str, name: &str) -> Result<Option<usize>, AllocError>
+    ensures value { IfOk result (λ edits. edits ≡ near_edits word.now name.now) }
+{
+    let most = allowed(word.len(), name.len());
+    if most == 0 {
+        return Ok(None);
+    }
+    let edits = osa_distance(alloc, word, name)?;
+    if 1 <= edits && edits <= most {
+        Ok(Some(edits))
+    } else {
+        Ok(None)
+    }
+}
+
+/// The names of the operations and directives, in the order in which the first of several that are
+/// as near is suggested.
+pub const OPERATIONS: [&str; 36] = [
+    "ADD", "AND", "NOT", "BR", "BRN", "BRZ", "BRP", "BRNZ", "BRZP", "BRNP", "BRNZP", "JMP", "JSRR",
+    "JSR", "LD", "LDI", "LEA", "ST", "STI", "LDR", "STR", "TRAP", "RET", "RTI", "NOP", "GETC",
+    "OUT", "PUTS", "IN", "PUTSP", "HALT", ".ORIG", ".FILL", ".BLKW", ".STRINGZ", ".END",
+];
+
+/// Those of operations and directives without operands.
+pub const BARE_OPERATIONS: [&str; 10] = [
+    "RET", "RTI", "NOP", "GETC", "OUT", "PUTS", "IN", "PUTSP", "HALT", ".END",
+];
+
+/// A name as it is shown: the letters of a branch are small.
+pub fn shown(name: &str) -> &str {
+    match name {
+        "BRN" => "BRn",
+        "BRZ" => "BRz",
+        "BRP" => "BRp",
+        "BRNZ" => "BRnz",
+        "BRZP" => "BRzp",
+        "BRNP" => "BRnp",
+        "BRNZP" => "BRnzp",
+        _ => name,
     }
 }

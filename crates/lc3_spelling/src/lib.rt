@@ -2,8 +2,5 @@
 #![tactic(auto)]
 
 mod choice;
-mod edits;
-mod names;
 
-pub use choice::suggestion;
-pub use names::{BARE_OPERATIONS, OPERATIONS, shown};
+pub use choice::{BARE_OPERATIONS, OPERATIONS, shown, suggestion};

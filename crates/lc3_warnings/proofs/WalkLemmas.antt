@@ -7,7 +7,7 @@ use Rattle.lc3_asm.specs.Views.{seen_line}
 use Rattle.lc3_asm.specs.declared.line.Line.{Line as Read}
 use Rattle.lc3_warnings.specs.declared.flow.Flow.{Flow}
 use Rattle.lc3_warnings.specs.declared.flow.Next.{Next}
-use Rattle.lc3_warnings.specs.declared.warning.Warning.{Warning}
+use Rattle.lc3_warnings.specs.declared.texts.Warning.{Warning}
 use Rattle.lc3_warnings.specs.Flows.{flow_of, last_flow, next_from}
 use Rattle.lc3_warnings.specs.Around.{around}
 use Rattle.lc3_asm.specs.Texts.{lines}

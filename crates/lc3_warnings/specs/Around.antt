@@ -5,9 +5,9 @@ use Rattle.lc3_warnings.specs.Flows.{flow_of, last_flow, next_from}
 use Rattle.lc3_warnings.specs.declared.flow.Flow.{Flow}
 use Rattle.lc3_warnings.specs.declared.flow.Flow.TheVariants.{Data, GoesOn}
 use Rattle.lc3_warnings.specs.declared.flow.Next.{Next}
-use Rattle.lc3_warnings.specs.declared.around.Around.{Around}
-use Rattle.lc3_warnings.specs.declared.warning.Kind.{Kind}
-use Rattle.lc3_warnings.specs.declared.warning.Kind.TheVariants as kind
+use Rattle.lc3_warnings.specs.declared.walk.Around.{Around}
+use Rattle.lc3_warnings.specs.declared.texts.Kind.{Kind}
+use Rattle.lc3_warnings.specs.declared.texts.Kind.TheVariants as kind
 
 -- a line between the lines before it and those behind it
 abbrev pub around : List (Line Operand) → Line Operand → List (Line Operand) → Around

@@ -7,8 +7,8 @@ use Rattle.lc3_warnings.specs.Flows.{is_call, trap_flow_of, first_with_words}
 use Rattle.lc3_warnings.specs.Labels.{defines_one}
 use Rattle.lc3_warnings.specs.declared.flow.Flow.{Flow}
 use Rattle.lc3_warnings.specs.declared.flow.Flow.TheVariants.{GoesOn}
-use Rattle.lc3_warnings.specs.declared.warning.Kind.{Kind}
-use Rattle.lc3_warnings.specs.declared.warning.Kind.TheVariants as kind
+use Rattle.lc3_warnings.specs.declared.texts.Kind.{Kind}
+use Rattle.lc3_warnings.specs.declared.texts.Kind.TheVariants as kind
 
 -- whether a line branches by the codes: BR and BRnzp don't
 abbrev pub reads_codes : Line Operand → Bool

@@ -7,14 +7,14 @@ use Rattle.lc3_table.specs.Statements.{Line, LabelAlone, Operates, Operand, Labe
 use Rattle.lc3_table.specs.declared.operation.Fault.{Fault}
 use Rattle.lc3_asm.specs.Texts.{label_of}
 use Rattle.lc3_asm.specs.Faults.{printable_or_blank}
-use Rattle.lc3_asm.specs.declared.fault.LineFault.{LineFault}
+use Rattle.lc3_asm.specs.declared.passes.LineFault.{LineFault}
 use Rattle.lc3_spelling.specs.Edits.{near_edits}
 use Rattle.lc3_warnings.specs.declared.flow.Flow.{Flow}
 use Rattle.lc3_warnings.specs.declared.flow.Flow.TheVariants.{GoesOn, Stops}
 use Rattle.lc3_warnings.specs.declared.flow.Next.{Next}
-use Rattle.lc3_warnings.specs.declared.around.Around.{Around}
-use Rattle.lc3_warnings.specs.declared.warning.Kind.{Kind}
-use Rattle.lc3_warnings.specs.declared.warning.Kind.TheVariants as kind
+use Rattle.lc3_warnings.specs.declared.walk.Around.{Around}
+use Rattle.lc3_warnings.specs.declared.texts.Kind.{Kind}
+use Rattle.lc3_warnings.specs.declared.texts.Kind.TheVariants as kind
 
 -- whether an operand is this label
 abbrev pub is_label : List ℕ → Operand → Bool

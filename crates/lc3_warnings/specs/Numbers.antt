@@ -10,8 +10,8 @@ use Rattle.lc3_table.specs.declared.operation.Form.TheVariants as form
 use Rattle.lc3_table.specs.Tokens.{Token, Word, tokens}
 use Rattle.lc3_table.specs.Statements.{Line, Operates, Operand, Number, forms, option_or, is_between}
 use Rattle.lc3_warnings.specs.Flows.{is_known_trap}
-use Rattle.lc3_warnings.specs.declared.warning.Kind.{Kind}
-use Rattle.lc3_warnings.specs.declared.warning.Kind.TheVariants as kind
+use Rattle.lc3_warnings.specs.declared.texts.Kind.{Kind}
+use Rattle.lc3_warnings.specs.declared.texts.Kind.TheVariants as kind
 
 -- whether a number is written in hexadecimal or binary digits
 unfoldable pub is_in_digits_of_bits : List ℕ → Bool

@@ -10,8 +10,8 @@ use Rattle.lc3_warnings.specs.Flows.{flow_of}
 use Rattle.lc3_warnings.specs.Labels.{defines_one}
 use Rattle.lc3_warnings.specs.declared.flow.Flow.{Flow}
 use Rattle.lc3_warnings.specs.declared.flow.Flow.TheVariants.{Data, Stops}
-use Rattle.lc3_warnings.specs.declared.warning.Kind.{Kind}
-use Rattle.lc3_warnings.specs.declared.warning.Kind.TheVariants as kind
+use Rattle.lc3_warnings.specs.declared.texts.Kind.{Kind}
+use Rattle.lc3_warnings.specs.declared.texts.Kind.TheVariants as kind
 
 -- whether an operand is R7
 abbrev pub is_r7 : Operand → Bool

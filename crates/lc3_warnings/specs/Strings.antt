@@ -6,9 +6,9 @@ use Rattle.lc3_asm.specs.Texts.{label_of}
 use Rattle.lc3_warnings.specs.Flows.{flow_of, first_with_words}
 use Rattle.lc3_warnings.specs.Labels.{is_one_of}
 use Rattle.lc3_warnings.specs.declared.flow.Next.{Next}
-use Rattle.lc3_warnings.specs.declared.around.Around.{Around}
-use Rattle.lc3_warnings.specs.declared.warning.Kind.{Kind}
-use Rattle.lc3_warnings.specs.declared.warning.Kind.TheVariants as kind
+use Rattle.lc3_warnings.specs.declared.walk.Around.{Around}
+use Rattle.lc3_warnings.specs.declared.texts.Kind.{Kind}
+use Rattle.lc3_warnings.specs.declared.texts.Kind.TheVariants as kind
 
 -- whether the first line with words from this one on is a .STRINGZ, where that is so or not behind it
 abbrev pub is_string_from : Line Operand → Bool → Bool

@@ -4,8 +4,8 @@ use Rattle.std.specs.Fmt.{decimal}
 use Rattle.lc3_word.specs.Words.{number_text, hexadecimal_text}
 use Rattle.lc3_table.specs.declared.operation.Form.{Form}
 use Rattle.lc3_table.specs.declared.operation.Form.TheVariants as form
-use Rattle.lc3_warnings.specs.declared.warning.Kind.{Kind}
-use Rattle.lc3_warnings.specs.declared.warning.Kind.TheVariants as kind
+use Rattle.lc3_warnings.specs.declared.texts.Kind.{Kind}
+use Rattle.lc3_warnings.specs.declared.texts.Kind.TheVariants as kind
 
 -- the name of a warning
 abbrev pub warning_name : Kind → List ℕ

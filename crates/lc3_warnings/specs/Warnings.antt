@@ -12,10 +12,10 @@ use Rattle.lc3_warnings.specs.Labels.{named, called, mentioned, misspelt, unused
 use Rattle.lc3_warnings.specs.Returns.{lost_return}
 use Rattle.lc3_warnings.specs.Codes.{stale_codes}
 use Rattle.lc3_warnings.specs.Strings.{strings, loaded_string}
-use Rattle.lc3_warnings.specs.declared.around.Around.{Around}
-use Rattle.lc3_warnings.specs.declared.warning.Kind.{Kind}
-use Rattle.lc3_warnings.specs.declared.warning.Kind.TheVariants as kind
-use Rattle.lc3_warnings.specs.declared.warning.Warning.{Warning}
+use Rattle.lc3_warnings.specs.declared.walk.Around.{Around}
+use Rattle.lc3_warnings.specs.declared.texts.Kind.{Kind}
+use Rattle.lc3_warnings.specs.declared.texts.Kind.TheVariants as kind
+use Rattle.lc3_warnings.specs.declared.texts.Warning.{Warning}
 
 -- a warning of line n, if there is one
 abbrev pub told : ℕ → Option Kind → List Warning

@@ -4,7 +4,7 @@ ghost use Rattle.std.specs.Prelude.{◌≡◌, ◌+◌, map, drop, ◌≤◌, le
 ghost use Rattle.lc3_asm.specs.Views.{seen_line, seen_operand};
 ghost use Rattle.lc3_warnings.specs.Flows.{is_call, is_known_trap, trap_flow_of, flow_of, first_with_words, prints_string, next_from};
 
-use crate::statement::statement_of;
+use crate::names::statement_of;
 use lc3_asm::{Line, Operand};
 use lc3_table::{ConsoleTrap, Operation, is_kernel_vector};
 
@@ -38,10 +38,8 @@ pub fn is_call(vector: i64) -> bool
 pub fn is_known_trap(vector: i64) -> bool
     ensures value { result ≡ is_known_trap vector }
 {
-    match u8::try_from(vector) {
-        Ok(vector) => ConsoleTrap::of_vector(vector).is_some() || is_kernel_vector(vector),
-        Err(_) => false,
-    }
+    u8::try_from(vector).is_ok_and(|it| ConsoleTrap::of_vector(it).is_some()
+        || is_kernel_vector(it))
 }
 
 pub fn trap_flow_of(operands: &[Operand]) -> Flow

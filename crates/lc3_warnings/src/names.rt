@@ -1,12 +1,11 @@
 //! The labels that lines name.
-
-ghost use Rattle.std.specs.Prelude.{◌≡◌, ℕ, List, [], ◌||◌, bytes_eq, string_bytes, map, OnOk, IfOk};
+ghost use Rattle.std.specs.Prelude.{◌≡◌, ℕ, List, [], ◌||◌, bytes_eq, string_bytes, map, OnOk, IfOk, option_map};
 ghost use Rattle.std.specs.List.{list_any};
 ghost use Rattle.lc3_warnings.specs.Private.Names.{is_among};
 ghost use Rattle.lc3_asm.specs.Views.{seen_line, seen_operand};
 ghost use Rattle.lc3_warnings.specs.Labels.{is_label, named, called, defines_one};
+ghost use Rattle.lc3_warnings.specs.Private.Statements.{statement_of};
 
-use crate::statement::statement_of;
 use indexmap::IndexSet;
 use lc3_asm::{Line, Operand};
 use lc3_table::Operation;
@@ -88,4 +87,19 @@ pub fn called(alloc: Global, lines: &[Line]) -> Result<Names, AllocError>
         }
     }
     Ok(names)
+}
+
+/// The operation of a line with its operands, if it has one.
+pub fn statement_of(line: &Line) -> Option<(Operation, &[Operand])>
+    ensures value { option_map (λ s. (s.0, map seen_operand s.1.now)) result
+        ≡ statement_of (seen_line line.now) }
+{
+    match line {
+        Line::Operates {
+            operation,
+            operands,
+            ..
+        } => Some((*operation, operands)),
+        _ => None,
+    }
 }

@@ -6,8 +6,8 @@ ghost use Rattle.lc3_asm.specs.Views.{seen_line, seen_operand};
 ghost use Rattle.lc3_warnings.specs.Numbers.{is_in_digits_of_bits, is_bits_of, wrapped, wrapped_in, number_among, last_word, wraps, unknown_trap, decimal_origin};
 
 use crate::flow::is_known_trap;
-use crate::statement::statement_of;
-use crate::warning::Kind;
+use crate::names::statement_of;
+use crate::texts::Kind;
 use lc3_asm::{Line, Operand, Token, first_token};
 use lc3_table::{Form, Operation, low_word};
 use lc3_word::Off;

@@ -1,9 +1,7 @@
 //! The names and the texts of warnings.
-
 ghost use Rattle.std.specs.Prelude.{◌≡◌, ◌++◌, Some, OnOk, string_bytes};
 ghost use Rattle.lc3_warnings.specs.Texts.{warning_name, field_text, warning_text};
 
-use crate::warning::Kind;
 use lc3_table::Form;
 use lc3_word::Hex;
 use std::alloc::AllocError;
@@ -102,4 +100,42 @@ pub fn push_text(text: &mut String, kind: Kind, word: &str) -> Result<(), AllocE
         ≡ string_bytes text.old ++ warning_text kind word.now) }
 {
     write!(text, "{}", WarningText(kind, word))
+}
+
+/// What a warning says.
+#[derive(Clone, Copy)]
+pub enum Kind {
+    /// The number of an instruction's field means another one, this value; the form says which field it is.
+    Wraps { form: Form, value: i16 },
+    /// The vector of a TRAP is none of those that are known.
+    UnknownTrap,
+    /// `.ORIG` has this address as a decimal number.
+    DecimalOrigin { address: u16 },
+    /// The label that stands alone in the line was meant as an operation.
+    Misspelt,
+    /// No line names the label that the line defines.
+    UnusedLabel,
+    /// Execution begins at data.
+    StartsInData,
+    /// Execution goes on into the data of the line of this number, from 1.
+    RunsIntoData { next: usize },
+    /// Execution goes on behind the last word.
+    RunsPastEnd,
+    /// A subroutine goes back, and the line of this number, from 1, has written R7.
+    LostReturn { writer: usize },
+    /// A branch reads the condition codes from before the trap in the line of this number, from 1.
+    StaleCodes { trap: usize },
+    /// A word of a string is loaded, and the line of this number, from 1, takes the address of a string.
+    LoadedString { next: usize },
+    /// The line stands behind the `.END` of the line of this number, from 1.
+    AfterEnd { end: usize },
+}
+
+/// A warning about a line of a text.
+#[derive(Clone, Copy)]
+pub struct Warning {
+    /// The number of the line, from 1.
+    pub line: usize,
+    /// What is said.
+    pub kind: Kind,
 }

@@ -1,19 +1,26 @@
 //! The warnings of a text.
-
-ghost use Rattle.std.specs.Prelude.{◌≡◌, ◌+◌, ◌++◌, [], map, drop, length, IfOk, OnOk, ◌<◌, ◌^◌};
+ghost use Rattle.std.specs.Prelude.{◌≡◌, ◌+◌, ◌++◌, [], map, drop, length, IfOk, OnOk, ◌<◌, ◌^◌, ℕ, List, ◌||◌, ◌-◌};
 ghost use Rattle.lc3_warnings.specs.Private.Settings.{seen_setting};
 ghost use Rattle.lc3_asm.specs.Texts.{lines};
 ghost use Rattle.lc3_asm.specs.Faults.{reading, faults};
-ghost use Rattle.lc3_asm.specs.Views.{lines_if, seen_line};
+ghost use Rattle.lc3_asm.specs.Views.{lines_if, seen_line, token_of};
 ghost use Rattle.lc3_warnings.specs.Flows.{flow_of, next_from};
-ghost use Rattle.lc3_warnings.specs.Warnings.{lines_told, first_with_token, after_end, is_accepted, warnings};
+ghost use Rattle.lc3_warnings.specs.Warnings.{lines_told, first_with_token, after_end, is_accepted, warnings, setting_of};
+ghost use Rattle.std.specs.List.{list_any};
+ghost use Rattle.lc3_table.specs.Tokens.{tokens};
+ghost use Rattle.lc3_warnings.specs.Private.Names.{is_among};
+ghost use Rattle.lc3_warnings.specs.Labels.{is_mention, faulty_line, mentioned};
+ghost use Rattle.lc3_warnings.specs.Around.{starts_in_data, runs_into_data, runs_past_end};
 
-use crate::around::Around;
+use crate::codes::strings;
 use crate::flow::{Flow, Next, flow_of, next_from};
-use crate::line_kinds::{Standing, push_line};
-use crate::setting::{Settings, setting_of};
-use crate::warning::{Kind, Warning};
-use lc3_asm::{Line, Reader, faults_of, first_line, first_token, line_count};
+use crate::line_kinds::push_line;
+use crate::names::{Names, called, named};
+use crate::texts::{Kind, Warning};
+use lc3_asm::{
+    Line, LineFault, Reader, Token, faults_of, first_line, first_token, is_label, line_count,
+    printable, upper, without_colon,
+};
 use lc3_table::Profile;
 use std::alloc::{AllocError, Global};
 
@@ -49,17 +56,12 @@ fn push_lines<'a>(
         let (bytes, after) = first_line(left);
         let here = flow_of(line);
         let next = next_behind(read, i, first);
-        let standing = Standing {
-            bytes,
-            line,
-            before: &read[..i],
-            around: Around {
-                previous,
-                here,
-                next,
-            },
+        let around = Around {
+            previous,
+            here,
+            next,
         };
-        push_line(found, setting, standing)?;
+        push_line(found, setting, bytes, line, &read[..i], around)?;
         previous = here.or(previous);
         first = next;
         rest = after;
@@ -130,4 +132,139 @@ pub fn warnings(
     let accepted = is_accepted(alloc, text, reader)?;
     let setting = setting_of(alloc, profile, accepted, text.as_bytes(), reader)?;
     warnings_under(alloc, &setting, text.as_bytes(), reader.lines())
+}
+
+/// What the warnings of the lines of a text rest on.
+pub struct Settings {
+    /// The machine that the warnings are about.
+    pub profile: Profile,
+    /// Whether the text has no fault.
+    pub accepted: bool,
+    /// The labels that lines name.
+    pub named: Names,
+    /// The labels that JSRs name.
+    pub called: Names,
+    /// The labels of strings.
+    pub strings: Names,
+    /// The labels that are words of faulty lines.
+    pub mentioned: Names,
+}
+
+impl Drop for Settings {
+    fn drop(self) {
+        let Settings {
+            profile: _,
+            accepted: _,
+            named: _,
+            called: _,
+            strings: _,
+            mentioned: _,
+        } = self;
+    }
+}
+
+/// The setting of a text that was read so, and is accepted or not.
+pub fn setting_of(
+    alloc: Global,
+    profile: Profile,
+    accepted: bool,
+    text: &[u8],
+    reader: &Reader,
+) -> Result<Settings, AllocError>
+    ensures value { IfOk result (λ setting.
+        seen_setting setting ≡ setting_of profile accepted (lines text.now) reader.now) }
+{
+    let lines = reader.lines();
+    Ok(Settings {
+        profile,
+        accepted,
+        named: named(alloc, lines)?,
+        called: called(alloc, lines)?,
+        strings: strings(alloc, lines)?,
+        mentioned: mentioned(alloc, text, reader.faults())?,
+    })
+}
+
+fn faulty_line<'a>(lines: &[&'a [u8]], fault: LineFault) -> &'a [u8]
+    ensures line { result.now ≡ faulty_line (map (λ line. line.now) lines.now) fault }
+{
+    lines
+        .get(fault.line.saturating_sub(1))
+        .copied()
+        .unwrap_or(b"")
+}
+
+/// Adds the label that a token is, with `:` or without.
+fn add_token(names: &mut Names, alloc: Global, token: Token<'_>) -> Result<(), AllocError>
+    ensures added { OnOk result ((name : List ℕ) → is_among names.new name
+        ≡ (is_among names.old name || is_mention name (token_of token.entry))) }
+{
+    match token {
+        Token::Word(word) if !matches!(word, [b'.', ..]) && is_label(without_colon(word)) => {
+            let name = upper(alloc, without_colon(word))?;
+            names.insert(alloc, &name)
+        }
+        _ => Ok(()),
+    }
+}
+
+fn add_tokens(names: &mut Names, alloc: Global, line: &[u8]) -> Result<(), AllocError>
+    ensures added { OnOk result ((name : List ℕ) → is_among names.new name
+        ≡ (is_among names.old name || list_any (is_mention name) (tokens line.now))) }
+{
+    let mut rest = line;
+    while let Some((token, after)) = first_token(rest) {
+        add_token(names, alloc, token)?;
+        rest = after;
+    }
+    Ok(())
+}
+
+/// The labels that are words of the lines with these faults.
+pub fn mentioned(alloc: Global, text: &[u8], faults: &[LineFault]) -> Result<Names, AllocError>
+    ensures all { IfOk result (λ names. is_among names ≡ mentioned (lines text.now) faults.now) }
+{
+    let lines: Vec<&[u8]> = text.split(|byte| *byte == b'\n').collect(alloc)?;
+    let mut names = Names::new(alloc);
+    for fault in faults {
+        let line = printable(alloc, faulty_line(&lines, *fault))?;
+        add_tokens(&mut names, alloc, &line)?;
+    }
+    Ok(names)
+}
+
+/// A line, by what it is to execution, between the lines with words before it and behind it.
+#[derive(Clone, Copy)]
+pub struct Around {
+    /// The last line with words before it.
+    pub previous: Option<Flow>,
+    /// The line itself, if it has words.
+    pub here: Option<Flow>,
+    /// The first line with words behind it.
+    pub next: Option<Next>,
+}
+
+pub fn starts_in_data(around: Around) -> Option<Kind>
+    ensures value { result ≡ starts_in_data around }
+{
+    matches!((around.previous, around.here), (None, Some(Flow::Data))).then_some(Kind::StartsInData)
+}
+
+/// Whether execution goes on behind this line into data.
+pub fn runs_into_data(around: Around) -> Option<Kind>
+    ensures value { result ≡ runs_into_data around }
+{
+    match (around.here, around.next) {
+        (Some(Flow::GoesOn), Some(next)) if matches!(next.flow, Flow::Data) => {
+            Some(Kind::RunsIntoData { next: next.line })
+        }
+        _ => None,
+    }
+}
+
+/// Whether execution goes on behind this line, and it is the last one with words.
+pub fn runs_past_end(around: Around) -> Option<Kind>
+    ensures value { result ≡ runs_past_end around }
+{
+    matches!((around.here, around.next), (Some(Flow::GoesOn), None)).then_some(Kind::RunsPastEnd)
 }

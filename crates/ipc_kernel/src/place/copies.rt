@@ -19,14 +19,6 @@ fn feed_name(name: &Option<Name>, hasher: &mut FoldHasher) {
 /// About how many bytes the entry of a name takes.
 const ENTRY: usize = 128;
 
-/// About how many bytes the entry of a name takes, if there is one, with its text.
-fn entry_size(name: &Option<Name>) -> usize {
-    match name {
-        Some(name) => ENTRY.saturating_add(name.text().len()),
-        None => 0,
-    }
-}
-
 impl Place {
     /// An equal place. Its name, and the words of its messages, are shared.
     pub fn copy(&self, alloc: Global) -> Result<Place, AllocError>
@@ -34,16 +26,14 @@ impl Place {
     {
         Ok(match self {
             Place::Empty => Place::Empty,
-            Place::Mq { name, queue } => {
-                let name = name.clone()?;
-                let queue = queue.copy(alloc)?;
-                Place::Mq { name, queue }
-            }
-            Place::Sem { name, semaphore } => {
-                let name = name.clone()?;
-                let semaphore = semaphore.clone()?;
-                Place::Sem { name, semaphore }
-            }
+            Place::Mq { name, queue } => Place::Mq {
+                name: name.clone()?,
+                queue: queue.copy(alloc)?,
+            },
+            Place::Sem { name, semaphore } => Place::Sem {
+                name: name.clone()?,
+                semaphore: semaphore.clone()?,
+            },
         })
     }
 
@@ -57,40 +47,34 @@ impl Place {
     /// About how many bytes the place takes, with its messages and the entry of its name. The words of
     /// messages are shared.
     pub fn size(&self) -> usize {
-        let held = match self {
-            Place::Empty => 0,
-            Place::Mq { name, queue } => {
-                let messages = queue.attr().2 as usize;
-                entry_size(name).saturating_add(size_of::<Message>().saturating_mul(messages))
-            }
-            Place::Sem { name, .. } => entry_size(name),
+        let (name, messages) = match self {
+            Place::Empty => return size_of::<Place>(),
+            Place::Mq { name, queue } => (name, queue.attr().2 as usize),
+            Place::Sem { name, .. } => (name, 0),
         };
-        size_of::<Place>().saturating_add(held)
-    }
-
-    fn feed(&self, hasher: &mut FoldHasher) {
-        match self {
-            Place::Empty => {}
-            Place::Mq { name, queue } => {
-                hasher.write_u8(1);
-                feed_name(name, hasher);
-                hasher.write_u64(queue.digest());
-            }
-            Place::Sem { name, semaphore } => {
-                hasher.write_u8(2);
-                feed_name(name, hasher);
-                hasher.write_u16(semaphore.value());
-            }
-        }
+        let name = name.as_ref();
+        let entry = name.map_or(0, |name| ENTRY.saturating_add(name.text().len()));
+        size_of::<Place>()
+            .saturating_add(size_of::<Message>().saturating_mul(messages))
+            .saturating_add(entry)
     }
 
     /// A number for what the place holds, and 0 for an empty place.
     pub fn digest(&self) -> u64 {
-        if self.is_empty() {
-            return 0;
-        }
         let mut hasher = FoldHasher::default();
-        self.feed(&mut hasher);
+        match self {
+            Place::Empty => return 0,
+            Place::Mq { name, queue } => {
+                hasher.write_u8(1);
+                feed_name(name, &mut hasher);
+                hasher.write_u64(queue.digest());
+            }
+            Place::Sem { name, semaphore } => {
+                hasher.write_u8(2);
+                feed_name(name, &mut hasher);
+                hasher.write_u16(semaphore.value());
+            }
+        }
         hasher.finish()
     }
 }

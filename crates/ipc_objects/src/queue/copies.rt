@@ -21,12 +21,11 @@ impl Queue {
     pub fn copy(&self, alloc: Global) -> Result<Queue, AllocError>
         ensures equal { IfOk result (λ copy. copy ≡ self.now) }
     {
-        let messages = self.messages.copy(alloc)?;
         Ok(Queue {
             max_messages: self.max_messages,
             message_size: self.message_size,
             count: self.count,
-            messages,
+            messages: self.messages.copy(alloc)?,
         })
     }
 

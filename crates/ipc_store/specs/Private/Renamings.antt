@@ -2,7 +2,7 @@
 use Rattle.std.specs.Prelude.{◌≡◌, ℕ, ◌==◌, ◌<◌, ◌≤◌, List, Some, length, slice_get, unwrap_or, if◌then◌else◌}
 use Rattle.ipc_kernel.specs.Limits.{object_places}
 use Rattle.ipc_kernel.specs.Alike.{IsPermutation}
-use Rattle.ipc_store.specs.declared.renaming.Renaming.{Renaming}
+use Rattle.ipc_store.specs.declared.alike.Renaming.{Renaming}
 
 -- where a list of numbers takes a place; one behind its end stays
 abbrev pub renamed_by : List ℕ → ℕ → ℕ

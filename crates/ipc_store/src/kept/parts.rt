@@ -61,23 +61,17 @@ impl<P: Part> Parts<P> {
         self.parts.len()
     }
 
-    /// The number of an equal part, if one is kept.
-    fn find(&self, part: &P, digest: u64) -> Option<u32>
-        ensures found { IfSome result (λ i. slice_get self.now i ≡ Some part.now) }
-    {
-        self.index.find(digest, |at| match self.get(at) {
-            Some(kept) => kept.is_same(part),
-            None => false,
-        })
-    }
-
     /// Keeps a part; with its number.
     pub(crate) fn keep(&mut self, alloc: Global, part: &P) -> Result<u32, AllocError>
         ensures kept { IfOk result (λ i. slice_get self.new i ≡ Some part.now) }
         ensures grows { Grows self.old self.new }
     {
         let digest = part.digest();
-        if let Some(number) = self.find(part, digest) {
+        let kept = self.index.find(digest, |at| match self.get(at) {
+            Some(kept) => kept.is_same(part),
+            None => false,
+        });
+        if let Some(number) = kept {
             return Ok(number);
         }
         let number = number_of(self.parts.len())?;

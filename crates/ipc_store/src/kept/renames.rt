@@ -48,12 +48,11 @@ impl Renames {
     /// The number that tables may have with the places renamed.
     pub(crate) fn find(&self, tables: u32, taken: Taken) -> Option<u32> {
         let digest = taken.digest(tables);
-        let at = self
-            .index
-            .find(digest, |at| match self.hints.get(at as usize) {
-                Some(hint) => hint.tables == tables && hint.taken == taken,
-                None => false,
-            })?;
+        let at = self.index.find(digest, |at| {
+            self.hints
+                .get(at as usize)
+                .is_some_and(|hint| hint.tables == tables && hint.taken == taken)
+        })?;
         Some(self.hints.get(at as usize)?.renamed)
     }
 

@@ -4,8 +4,8 @@ ghost use Rattle.ipc_store.specs.Private.KeptRows.{AddsRow, row, row_of};
 
 use super::changes::{Change, digest_from};
 use super::parts::number_of;
+use crate::arranging::{are_same, are_with};
 use crate::index::Index;
-use crate::numbers::{are_same, are_with};
 use ipc_kernel::OBJECT_PLACES;
 use std::alloc::{AllocError, Global};
 use std::marker::Model;

@@ -1,5 +1,5 @@
 -- Labels without where they lie in memory.
-use Rattle.lab_debug.specs.declared.label.Label.{Label}
+use Rattle.lab_debug.specs.declared.accepting.Label.{Label}
 use Rattle.lab_debug.specs.Labels.{LabelSeen}
 
 -- a label as the definitions see it

@@ -1,8 +1,8 @@
 -- What reading takes off the bytes that come.
 use Rattle.std.specs.Prelude.{◌≡◌, ℕ, ◌<◌, Option, Some, None, List, [], ◌∷◌, length, ⊤, Bool, IfSome, IsTrue}
 use Rattle.std.specs.Io.KnownBytes.{Consumes, Keeps, IsAtEnd}
-use Rattle.lab_debug.specs.declared.fault.SessionFault.{SessionFault}
-use Rattle.lab_debug.specs.declared.fault.SessionFault.TheVariants.{Read, LineTooLong, NoMemory}
+use Rattle.lab_debug.specs.declared.script.SessionFault.{SessionFault}
+use Rattle.lab_debug.specs.declared.script.SessionFault.TheVariants.{Read, LineTooLong, NoMemory}
 use Rattle.lab_debug.specs.Lines.{line_limit, lines}
 
 -- a line, or none at the end, is taken off the known bytes that come

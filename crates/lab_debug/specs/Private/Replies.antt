@@ -1,6 +1,6 @@
 -- What a line did, as its reply and the world after it tell.
 use Rattle.lab_session.specs.Sessions.{SessionState}
-use Rattle.lab_debug.specs.declared.reply.Reply.{Reply}
+use Rattle.lab_debug.specs.declared.accepting.Reply.{Reply}
 use Rattle.lab_debug.specs.Script.{Effect}
 
 -- the effect of a line with this reply, where this is the world after it

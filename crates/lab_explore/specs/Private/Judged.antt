@@ -8,7 +8,7 @@ use Rattle.lab_conditions.specs.declared.condition.Condition.{Condition}
 use Rattle.lab_conditions.specs.Conditions.{Holds, world_of}
 use Rattle.lab_conditions.specs.Losses.{messages, is_receiving}
 use Rattle.lab_conditions.specs.Refusals.{is_process, is_refused}
-use Rattle.lab_conditions.specs.declared.refusals.Refusal.{Refusal}
+use Rattle.lab_conditions.specs.declared.never.Refusal.{Refusal}
 use Rattle.lab_states.specs.CollapsedStates.{IsButForOutput}
 use Rattle.lab_states.specs.declared.edges.Edge.{Edge}
 use Rattle.lab_search.specs.declared.store.Store.{Store}

@@ -3,7 +3,7 @@ use Rattle.std.specs.Prelude.{ℕ, Bool, List, ◌∷◌, ◌++◌, codes, decim
 use Rattle.serde_json.specs.Data.{Data, boolean}
 use Rattle.serde_json.specs.Written.{compact_text}
 use Rattle.lab_page.specs.Stores.{stores_data}
-use Rattle.lab_page.specs.declared.stores.Stored.{Stored}
+use Rattle.lab_page.specs.declared.run.Stored.{Stored}
 
 -- what stands behind the moments of a run: its end, its schedule, and whether each step with an effect has a moment
 unfoldable pub run_end : Data → Data → Bool → List ℕ

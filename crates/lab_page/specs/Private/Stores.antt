@@ -5,7 +5,7 @@ use Rattle.lab_told.specs.Scenes.{Scene}
 use Rattle.lab_moments.specs.Values.{all_below}
 use Rattle.lab_page.specs.Stores.{origin_at, held_at, changed_words, stored_by}
 use Rattle.lab_page.specs.declared.source.Source.{Source}
-use Rattle.lab_page.specs.declared.stores.Stored.{Stored}
+use Rattle.lab_page.specs.declared.run.Stored.{Stored}
 
 -- the sources of the processes, what the memory of each process holds where its source has words, and the words so far
 pub record Stores : Type 0 where

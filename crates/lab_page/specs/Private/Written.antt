@@ -7,7 +7,7 @@ use Rattle.lab_page.specs.Faults.{IsFault}
 use Rattle.lab_page.specs.Moments.{moment, next_past}
 use Rattle.lab_page.specs.Private.Json.{more_json}
 use Rattle.lab_page.specs.Private.Stores.{Stores, AddsStores}
-use Rattle.lab_page.specs.declared.fault.PageFault.{PageFault}
+use Rattle.lab_page.specs.declared.paging.PageFault.{PageFault}
 use Rattle.lab_page.specs.declared.run.Look.{Look}
 
 -- the JSON of a run and the lines of its trace, as far as its steps are taken, and what is kept of these

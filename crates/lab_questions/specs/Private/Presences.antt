@@ -1,9 +1,9 @@
 -- Objects that are looked for in the worlds of a search.
 use Rattle.std.specs.Prelude.{ℕ, ◌≡◌, ◌⊎◌, All, AllPairs, Contains, List, [], ◌∷◌, ◌++◌, Option, Some, None, slice_get}
-use Rattle.lab_sched.specs.declared.schedule.block.Block.{Block}
+use Rattle.lab_sched.specs.declared.schedule.Block.{Block}
 use Rattle.lab_conditions.specs.declared.never.Never.{Never}
 use Rattle.lab_conditions.specs.declared.never.Never.TheVariants.{Holds, Lost, Refused}
-use Rattle.lab_questions.specs.declared.object.Object.{Object}
+use Rattle.lab_questions.specs.declared.asking.Object.{Object}
 use Rattle.lab_questions.specs.Objects.{presence, StandsBefore}
 
 -- the condition holds of a world exactly where the object is there

@@ -1,10 +1,10 @@
 -- What isn't so, by what was asked, and the commas of a list.
 use Rattle.std.specs.Prelude.{ℕ, Bool, if◌then◌else◌, nat_lt, Option, Some, None, List, [], ◌∷◌, codes, length, map, min, option_map, slice_get, zip}
 use Rattle.std.specs.Option.{option_and_then}
-use Rattle.lab_questions.specs.declared.unmet.Judged.{Judged}
-use Rattle.lab_questions.specs.declared.unmet.Kind.{Kind}
-use Rattle.lab_questions.specs.declared.unmet.Kind.TheVariants.{Words, Outputs, Calls, Conditions}
-use Rattle.lab_questions.specs.declared.unmet.Unmet.{Unmet as Shown}
+use Rattle.lab_questions.specs.declared.called.Judged.{Judged}
+use Rattle.lab_questions.specs.declared.called.Kind.{Kind}
+use Rattle.lab_questions.specs.declared.called.Kind.TheVariants.{Words, Outputs, Calls, Conditions}
+use Rattle.lab_questions.specs.declared.called.Unmet.{Unmet as Shown}
 use Rattle.lab_questions.specs.Findings.{told_of}
 use Rattle.lab_questions.specs.Texts.{Unmet, word_unmet, need_unmet, call_unmet, condition_unmet, unmet_words, unmet_outputs, unmet_calls, unmet_conditions, unmet_lines}
 

@@ -2,7 +2,7 @@
 use Rattle.std.specs.Prelude.{ℕ, ◌≡◌, List, [], ◌∷◌, ◌++◌, length, map, string_bytes}
 use Rattle.lab_worlds.specs.declared.ends.End.{End}
 use Rattle.lab_questions.specs.declared.asked.Show.{Show}
-use Rattle.lab_questions.specs.declared.told.Told.{Told}
+use Rattle.lab_questions.specs.declared.texts.Told.{Told}
 use Rattle.lab_questions.specs.EndTexts.{text_of, told_ends, ends_text, AreTold}
 
 -- the lines, the texts and the numbers of those ends that are told

@@ -34,11 +34,9 @@ impl fmt::Display for Character {
         } else if self.0 == b'\\' {
             write!(f, "\\\\")
         } else if b' ' <= self.0 && self.0 <= b'~' {
-            let character = char::from(self.0);
-            write!(f, "{character}")
+            write!(f, "{}", char::from(self.0))
         } else {
-            let number = Number(self.0);
-            write!(f, "{number}")
+            write!(f, "{}", Number(self.0))
         }
     }
 }
@@ -52,8 +50,7 @@ impl fmt::Display for Characters<'_> {
 
     fn fmt<W: fmt::Write>(&self, f: &mut fmt::Formatter<W>) -> fmt::Result {
         for number in self.0 {
-            let character = Character(*number);
-            write!(f, "{character}")?;
+            write!(f, "{}", Character(*number))?;
         }
         Ok(())
     }
@@ -68,8 +65,7 @@ impl fmt::Display for Text<'_> {
 
     #[tactic(auto, unfolding(crate::specs::Values::text_json))]
     fn fmt<W: fmt::Write>(&self, f: &mut fmt::Formatter<W>) -> fmt::Result {
-        let characters = Characters(self.0);
-        write!(f, "\"{characters}\"")
+        write!(f, "\"{}\"", Characters(self.0))
     }
 }
 
@@ -125,8 +121,7 @@ impl<V: Values + Copy> fmt::Display for Array<V> {
     ghost output = { λ a. Some (array_json (V.values a.0)) };
 
     fn fmt<W: fmt::Write>(&self, f: &mut fmt::Formatter<W>) -> fmt::Result {
-        let values = Listed(self.0);
-        write!(f, "[{values}]")
+        write!(f, "[{}]", Listed(self.0))
     }
 }
 
@@ -139,7 +134,6 @@ impl fmt::Display for StepsValue<'_> {
 
     #[tactic(auto, using(crate::proofs::ScheduleValues::schedule_is_plain))]
     fn fmt<W: fmt::Write>(&self, f: &mut fmt::Formatter<W>) -> fmt::Result {
-        let steps = self.0;
-        write!(f, "\"{steps}\"")
+        write!(f, "\"{}\"", self.0)
     }
 }

@@ -1,7 +1,7 @@
 -- A schedule whose last step is counted anew.
 use Rattle.std.specs.Prelude.{ℕ, ◌≡◌, ◌+◌, ◌++◌, List, [], ◌∷◌, replicate}
 use Rattle.lab_sched.specs.Schedules.{steps_of, total_of, IsSchedule}
-use Rattle.lab_sched.specs.declared.schedule.block.Block.{Block}
+use Rattle.lab_sched.specs.declared.schedule.Block.{Block}
 
 -- a schedule with n steps of the same process in the place of its last one
 pub record IsResized (xs ys : List Block) (n : ℕ) : Type 0 where

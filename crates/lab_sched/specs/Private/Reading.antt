@@ -1,6 +1,6 @@
 -- What a reader of schedules gives.
 use Rattle.std.specs.Prelude.{◌≡◌, Result, Ok, Err}
-use Rattle.lab_sched.specs.declared.schedule.fault.SchedFault.{SchedFault}
+use Rattle.lab_sched.specs.declared.schedule.SchedFault.{SchedFault}
 use Rattle.lab_sched.specs.ScheduleTexts.{Fails}
 
 -- an answer, by what it shows, is what is read, or it is want of memory

@@ -3,9 +3,9 @@ use Rattle.std.specs.Prelude.{ℕ, ◌≡◌, ◌≤◌, ◌++◌, List, [], Som
 use Rattle.ipc_kernel.specs.declared.call.Call.{Call}
 use Rattle.lab_sched.specs.Worlds.{Process, WorldState}
 use Rattle.lab_sched.specs.Execution.{IsExecution}
-use Rattle.lab_sched.specs.declared.entry.Entry.{Entry}
-use Rattle.lab_sched.specs.declared.next.Next.{Next}
-use Rattle.lab_sched.specs.declared.next.Next.TheVariants as next
+use Rattle.lab_sched.specs.declared.stepped.Entry.{Entry}
+use Rattle.lab_sched.specs.declared.calling.Next.{Next}
+use Rattle.lab_sched.specs.declared.calling.Next.TheVariants as next
 use Rattle.ipc_kernel.specs.declared.call.Answer.{Answer}
 use Rattle.ipc_kernel.specs.declared.call.Answer.TheVariants.{Done, Wait}
 use Rattle.lab_sched.specs.declared.stepped.Stepped.{Stepped}

@@ -8,7 +8,7 @@ ghost use Rattle.lab_sched.specs.Private.Settling.{IsNextIn, IsTaken, answer_tol
 ghost use Rattle.ipc_kernel.specs.Limits.{process_max};
 
 use super::World;
-use crate::next::find_next;
+use crate::calling::find_next;
 use crate::{Entry, Next, Schedule, Stepped};
 use ipc_kernel::{Answer, Call};
 

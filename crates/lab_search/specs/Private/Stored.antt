@@ -13,10 +13,10 @@ use Rattle.lab_worlds.specs.Private.Kept.{Keeps}
 use Rattle.lab_worlds.specs.Stepped.{IsReached}
 use Rattle.lab_worlds.specs.Unwaiting.{GoesOn}
 use Rattle.lab_states.specs.Rows.{Row}
-use Rattle.lab_search.specs.declared.known.Mover.{Mover}
-use Rattle.lab_search.specs.declared.making.KeptAttempt.{KeptAttempt}
-use Rattle.lab_search.specs.declared.making.KeptAttempt.TheVariants.{Still, Runs, Came}
-use Rattle.lab_search.specs.declared.rows.Change.{Change}
+use Rattle.lab_search.specs.declared.store.Mover.{Mover}
+use Rattle.lab_search.specs.declared.reduced.KeptAttempt.{KeptAttempt}
+use Rattle.lab_search.specs.declared.reduced.KeptAttempt.TheVariants.{Still, Runs, Came}
+use Rattle.lab_search.specs.declared.moves.Change.{Change}
 use Rattle.lab_search.specs.declared.store.Store.{Store}
 use Rattle.lab_search.specs.declared.store.Next.{Next}
 use Rattle.lab_search.specs.declared.store.Next.TheVariants.{To}

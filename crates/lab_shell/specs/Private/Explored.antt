@@ -4,7 +4,7 @@ use Rattle.std.specs.Io.KnownBytes.{Appends}
 use Rattle.lc3_table.specs.declared.profile.Profile.{Profile}
 use Rattle.lab_sched.specs.Starts.{fresh}
 use Rattle.lab_sched.specs.Worlds.{WorldState}
-use Rattle.lab_sched.specs.declared.fresh.Program.{Program}
+use Rattle.lab_sched.specs.declared.process.Program.{Program}
 use Rattle.lab_sources.specs.declared.source.Source.{Source}
 use Rattle.lab_trace.specs.Traces.{trace_text}
 use Rattle.lab_places.specs.Placed.{SourceSeen}

@@ -4,7 +4,7 @@ use Rattle.serde_json.specs.Data.{Data}
 use Rattle.serde_json.specs.Written.{compact_text}
 use Rattle.lab_sched.specs.Starts.{fresh}
 use Rattle.lab_sched.specs.Worlds.{WorldState}
-use Rattle.lab_sched.specs.declared.schedule.block.Block.{Block}
+use Rattle.lab_sched.specs.declared.schedule.Block.{Block}
 use Rattle.lab_worlds.specs.declared.ends.End.{End}
 use Rattle.lab_questions.specs.EndTexts.{told_end}
 use Rattle.lab_questions.specs.declared.answers.Answers.{Answers}
@@ -14,7 +14,7 @@ use Rattle.lab_page.specs.Runs.{run_data}
 use Rattle.lab_page.specs.Sources.{programs, sources_shown}
 use Rattle.lab_page.specs.Stores.{stores_of}
 use Rattle.lab_page.specs.Worlds.{Worlds}
-use Rattle.lab_page.specs.declared.asked.Asked.{Asked}
+use Rattle.lab_page.specs.declared.ends.Asked.{Asked}
 use Rattle.lab_page.specs.declared.ends.Extent.{Extent}
 use Rattle.lab_page.specs.declared.source.Source.{Source}
 use Rattle.lab_shell.specs.declared.ends_page.Explored.{Explored}

@@ -8,10 +8,10 @@ use Rattle.lab_sched.specs.LocalRun.{Leads, weight, steps}
 use Rattle.lab_sched.specs.History.{IsLegal, replay}
 use Rattle.lab_sched.specs.Held.{process_view}
 use Rattle.lab_sched.specs.Starts.{initial_world}
-use Rattle.lab_sched.specs.declared.entry.Entry.{Entry}
+use Rattle.lab_sched.specs.declared.stepped.Entry.{Entry}
 use Rattle.lab_sched.specs.declared.process.Process.{Process as ProcessValue}
 use Rattle.lab_sched.specs.declared.trace.TracedCall.{TracedCall}
-use Rattle.lab_threads.specs.declared.worker_result.WorkerResult.{WorkerResult}
+use Rattle.lab_threads.specs.declared.spawning.WorkerResult.{WorkerResult}
 use Rattle.lab_threads.specs.Private.WorkerResults.{AreWorkerResults}
 
 -- the processes where the workers stopped, over the kernel after the history

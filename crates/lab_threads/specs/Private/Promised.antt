@@ -2,8 +2,8 @@
 use Rattle.std.specs.Prelude.{ℕ, ◌≡◌, List, map}
 use Rattle.std.specs.declared.thread.PromisedHandle.{PromisedHandle}
 use Rattle.lab_sched.specs.declared.process.Process.{Process}
-use Rattle.lab_threads.specs.declared.worker_result.WorkerResult.{WorkerResult}
-use Rattle.lab_threads.specs.declared.worker_result.WorkerPromise.{WorkerPromise}
+use Rattle.lab_threads.specs.declared.spawning.WorkerResult.{WorkerResult}
+use Rattle.lab_threads.specs.declared.spawning.WorkerPromise.{WorkerPromise}
 
 -- where the worker began, and how many steps it may take
 abbrev pub promise_of : PromisedHandle WorkerResult WorkerPromise → Process × ℕ

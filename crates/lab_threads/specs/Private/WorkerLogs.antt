@@ -2,7 +2,7 @@
 use Rattle.std.specs.Prelude.{ℕ, ◌+◌}
 use Rattle.lab_sched.specs.Worlds.{Process}
 use Rattle.lab_sched.specs.LocalRun.{IsLocalRun, steps}
-use Rattle.lab_threads.specs.declared.worker_log.WorkerLog.{WorkerLog}
+use Rattle.lab_threads.specs.declared.spawning.WorkerLog.{WorkerLog}
 
 -- wherever a process began that came to x by the trace of the one log, it came to y by that of the
 -- other

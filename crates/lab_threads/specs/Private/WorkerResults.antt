@@ -3,7 +3,7 @@ use Rattle.std.specs.Prelude.{ℕ, ◌≡◌, ◌+◌, List, Some, slice_get, le
 use Rattle.lab_sched.specs.LocalRun.{IsLocalRun, steps}
 use Rattle.lab_sched.specs.Held.{process_view, IsHeld}
 use Rattle.lab_sched.specs.declared.process.Process.{Process}
-use Rattle.lab_threads.specs.declared.worker_result.WorkerResult.{WorkerResult}
+use Rattle.lab_threads.specs.declared.spawning.WorkerResult.{WorkerResult}
 
 -- a process came from its start by its trace, the steps of the trace and those that are left make
 -- the limit, and the process is ready for the reply that it may wait for

@@ -6,7 +6,7 @@ use Rattle.lab_told.specs.Scenes.{Scene}
 use Rattle.lab_trace.specs.Forms.{Form}
 use Rattle.lab_trace.specs.Lines.{line}
 use Rattle.lab_trace.specs.Private.Faults.{IsFault}
-use Rattle.lab_trace.specs.declared.fault.TraceFault.{TraceFault}
+use Rattle.lab_trace.specs.declared.tracing.TraceFault.{TraceFault}
 
 module _ {D : Type 0} (contents : D → Option (List ℕ)) where
   -- the line of the next step, of process p

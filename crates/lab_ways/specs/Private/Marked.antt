@@ -9,7 +9,7 @@ use Rattle.lab_search.specs.declared.store.Store.{Store}
 use Rattle.lab_search.specs.Stored.{IsAt}
 use Rattle.lab_ways.specs.declared.wanted.Wanted.{Wanted}
 use Rattle.lab_ways.specs.declared.marking.Marks.{Marks}
-use Rattle.lab_ways.specs.declared.watching.WatchedWalk.{WatchedWalk}
+use Rattle.lab_ways.specs.declared.walking.WatchedWalk.{WatchedWalk}
 use Rattle.lab_ways.specs.Wanted.{next_in, is_allowed, is_accepted}
 use Rattle.lab_ways.specs.Ways.{state_after, BreaksAtLast, RestsUnaccepted}
 

@@ -3,7 +3,7 @@ use Rattle.std.specs.Prelude.{ℕ, ◌≡◌, List, Result, Ok, Err}
 use Rattle.std.specs.declared.vec.Vec.{Vec}
 use Rattle.lc3_asm.specs.Texts.{LineWords, At, words_of, rows_of, IsFault}
 use Rattle.lc3_asm.specs.declared.assembled.Row.{Row}
-use Rattle.lc3_asm.specs.declared.fault.AsmFault.{AsmFault}
+use Rattle.lc3_asm.specs.declared.passes.AsmFault.{AsmFault}
 
 -- lines have words, all these together, and these rows
 abbrev pub AreLaid : List ℕ → List Row → Result (List LineWords) At → Type 0

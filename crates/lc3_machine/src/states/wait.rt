@@ -1,5 +1,4 @@
 //! A process that waits.
-
 ghost use Rattle.std.specs.Prelude.{◌≡◌};
 ghost use Rattle.lc3_machine.specs.declared.want.Want.TheVariants.{Trap};
 ghost use Rattle.lc3_machine.specs.Process.{Stops};
@@ -7,10 +6,10 @@ ghost use Rattle.lc3_machine.specs.Effects.{next_step};
 ghost use Rattle.lc3_machine.specs.Reply.{CanTake, process_after_effect};
 ghost use Rattle.lc3_machine.specs.Steps.{AsksTrap};
 
-use super::{AtCall, Running, Waiting};
 use crate::effect::Effect;
 use crate::machine::Machine;
-use crate::want::Want;
+use crate::states::{AtCall, Ended, Running, Waiting};
+use crate::want::{How, Want};
 
 impl Waiting {
     /// The process as it stands before its trap.
@@ -57,5 +56,22 @@ impl Waiting {
         ensures same { result.now ≡ self.now }
     {
         self.call.machine()
+    }
+}
+
+impl Ended {
+    /// How the process ended.
+    pub fn how(&self) -> How
+        ensures value { result ≡ self.now.how }
+    {
+        self.how
+    }
+
+    /// The machine of the process, which shows what it holds.
+    #[inline(always)]
+    pub fn machine(&self) -> &Machine
+        ensures process { result.now.process ≡ self.now.process }
+    {
+        &self.machine
     }
 }

@@ -4,11 +4,11 @@ use Rattle.std.specs.List.{count_by}
 use Rattle.std.specs.List.Sorted.{IsPermutation}
 use Rattle.lc3_table.specs.declared.operation.Fault.{Fault as Kind}
 use Rattle.lc3_table.specs.declared.operation.Fault.TheVariants as fault
-use Rattle.lc3_asm.specs.declared.fault.LineFault.{LineFault}
-use Rattle.lc3_warnings.specs.declared.warning.Warning.{Warning as Told}
-use Rattle.lc3_messages.specs.declared.told.Finding.{Finding}
-use Rattle.lc3_messages.specs.declared.told.What.{What}
-use Rattle.lc3_messages.specs.declared.told.What.TheVariants.{Fault, Warning}
+use Rattle.lc3_asm.specs.declared.passes.LineFault.{LineFault}
+use Rattle.lc3_warnings.specs.declared.texts.Warning.{Warning as Told}
+use Rattle.lc3_messages.specs.declared.source.Finding.{Finding}
+use Rattle.lc3_messages.specs.declared.source.What.{What}
+use Rattle.lc3_messages.specs.declared.source.What.TheVariants.{Fault, Warning}
 
 -- whether a fault is about a label that a line names, or defines again: it may be one only because an earlier line is faulty
 abbrev pub names_a_label : Kind → Bool

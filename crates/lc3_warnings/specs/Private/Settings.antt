@@ -1,7 +1,7 @@
 -- What the code's settings say, in the words of the definitions.
 use Rattle.lc3_warnings.specs.Warnings.{Setting}
 use Rattle.lc3_warnings.specs.Private.Names.{is_among}
-use Rattle.lc3_warnings.specs.declared.setting.Settings.{Settings}
+use Rattle.lc3_warnings.specs.declared.walk.Settings.{Settings}
 
 -- the setting, with the labels as what they contain
 abbrev pub seen_setting : Settings → Setting

@@ -8,7 +8,7 @@ use Rattle.lab_told.specs.Scenes.{scene_at}
 use Rattle.lab_told.specs.Tallies.{new_tally}
 use Rattle.lab_page.specs.Faults.{IsFault}
 use Rattle.lab_page.specs.Stores.{stores_from}
-use Rattle.lab_page.specs.declared.stores.Stored.{Stored}
+use Rattle.lab_page.specs.declared.run.Stored.{Stored}
 use Rattle.lab_page.proofs.StoreLemmas.{stores-shown}
 use Rattle.lab_page.proofs.RunLemmas.{run-first, trace-first}
 use Rattle.lab_page.proofs.FaultLemmas.{fault_explains}

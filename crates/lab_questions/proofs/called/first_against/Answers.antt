@@ -1,6 +1,6 @@
 use Rattle.std.proofs.Common.{◌≡◌, List, Option, Some, below_more, slice_get, arith, ap, sym, ◌∙◌}
 use Rattle.std.proofs.lemmas.Option.{slice_get-get_or, slice_get_within}
-use Rattle.lab_sched.specs.declared.schedule.block.Block.{Block}
+use Rattle.lab_sched.specs.declared.schedule.Block.{Block}
 use Rattle.lab_ways.specs.declared.ways.Ways.{Ways}
 use Rattle.lab_ways.specs.declared.ways.Ways.TheVariants.{Without}
 use Rattle.lab_questions.proofs.called.first_against.Goals as goal

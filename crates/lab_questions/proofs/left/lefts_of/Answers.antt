@@ -1,7 +1,11 @@
-use Rattle.std.proofs.Common.{◌≡◌, ◌+◌, ◌∙◌, ap, arith, false, map, option_copied, string_bytes, subst, sym, true}
+use Rattle.std.proofs.Common.{◌≡◌, ◌+◌, ◌∙◌, Bool, ap, arith, false, length, map, option_copied, rules, string_bytes, subst, sym, tests, true, unwrap_or}
 use Rattle.ipc_kernel.specs.Places.{place_at}
 use Rattle.std.proofs.lemmas.Grind.{common_steps}
+use Rattle.std.proofs.lemmas.Iterator.{YieldsList-from_slice}
+use Rattle.std.proofs.lemmas.Iterator.Search.{position_from_yields_List}
 use Rattle.lab_questions.specs.Left.{is_text, left_lines}
+use Rattle.lab_questions.specs.Orders.{comes_before}
+use Rattle.lab_questions.specs.declared.left.Left.{Left}
 use Rattle.lab_questions.specs.Private.Lefts.{place_for, AreLeft}
 use Rattle.lab_questions.proofs.LeftOrder.{found-for, lefts-none, lefts-more, lefts-same, no-lines, queue-is, text_is}
 use Rattle.lab_questions.proofs.ListLemmas.{none_unless}
@@ -34,9 +38,10 @@ loop-place-preserved c =
     let is = queue-is p (option_copied c.in-Some.name) c.in-Some.queue.now (sym (rw c.in-Some.is at c.queue_at.ensures.held)) in
     let told = c.in_ok-lines.ensures.lines ∙ ap left_lines is in
     let some : is_text (left_lines p) ≡ true = sym (ap is_text told) ∙ grind (arith, text_is, common_steps) in
-    let at : c.index_for-at.result ≡ place_for (string_bytes lines) (map (λ l. string_bytes l.lines) olds) =
-    c.index_for-at.ensures.index ∙ found-for c.deref-in-loop-place.result.now c.deref.result.now
-    ∙ ap (λ t. place_for t (map (λ l. string_bytes l.lines) c.deref.result.now)) c.deref-in-loop-place.ensures
-    ∙ ap (λ ls. place_for (string_bytes lines) (map (λ l. string_bytes l.lines) ls)) c.deref.ensures.value in
+    let test : Left → Bool = λ l. comes_before (string_bytes lines) (string_bytes l.lines) in
+    let at : c.unwrap_or-at.result ≡ place_for (string_bytes lines) (map (λ l. string_bytes l.lines) olds) =
+    c.unwrap_or-at.ensures ∙ ap (λ n. unwrap_or c.position.result n) (omega (arith, c.len.ensures))
+    ∙ ap (λ o. unwrap_or o (length olds)) (position_from_yields_List test _ _ c.position.result c.position.ensures.ran (YieldsList-from_slice olds cc) (λ x b q k. search (rules, tests)))
+    ∙ found-for (string_bytes lines) olds in
     subst (AreLeft k (place + 1)) (sym c.in_ok-insert.ensures.items)
-    (lefts-more k place olds c.index_for-at.result (record { lines = lines; name = c.in-Some.name; queue = c.in-Some.queue }) told is some at c.loop-place.invariant)
+    (lefts-more k place olds c.unwrap_or-at.result (record { lines = lines; name = c.in-Some.name; queue = c.in-Some.queue }) told is some at c.loop-place.invariant)

@@ -1,6 +1,6 @@
 use Rattle.std.proofs.Common.{ap, ◌≡◌, [], drop, get_or, arith}
 use Rattle.std.proofs.lemmas.List.{drop_all, drop_more}
-use Rattle.lab_sched.specs.declared.schedule.block.Block.{Block}
+use Rattle.lab_sched.specs.declared.schedule.Block.{Block}
 use Rattle.lab_sched.specs.Schedules.{steps_of}
 use Rattle.lab_session.proofs.PlayLemmas.{stop-yes, stop-no, block-on, block-met, blocks-start, blocks-done}
 use Rattle.lab_session.proofs.stepping.advance.Goals as goal

@@ -1,6 +1,6 @@
 use Rattle.std.proofs.Common.{rules, ap, ◌∙◌, ◌+◌, ◌≡◌, [], drop, get_or, length, arith}
 use Rattle.std.proofs.lemmas.List.{drop_all, drop_more}
-use Rattle.lab_sched.specs.declared.schedule.block.Block.{Block}
+use Rattle.lab_sched.specs.declared.schedule.Block.{Block}
 use Rattle.lab_sched.specs.Schedules.{steps_of}
 use Rattle.lab_session.proofs.BlockLemmas.{count-more, count-none}
 use Rattle.lab_session.proofs.stepping.step_count.Goals as goal

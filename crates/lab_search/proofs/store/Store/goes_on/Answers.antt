@@ -1,5 +1,5 @@
 use Rattle.std.proofs.lemmas.Bool.{not-true}
-use Rattle.lab_search.specs.declared.known.Mover.{Mover}
+use Rattle.lab_search.specs.declared.store.Mover.{Mover}
 use Rattle.lab_search.specs.declared.store.Next.TheVariants.{Limit}
 use Rattle.lab_search.proofs.Growths.{grows_same}
 use Rattle.lab_search.proofs.StepsOfRows.{move_from, next_of}

@@ -1,5 +1,5 @@
 use Rattle.std.proofs.Common.{subst}
-use Rattle.lab_search.specs.declared.making.KeptAttempt.TheVariants.{Still, Runs, Came}
+use Rattle.lab_search.specs.declared.reduced.KeptAttempt.TheVariants.{Still, Runs, Came}
 use Rattle.lab_search.specs.declared.store.Next.TheVariants as next
 use Rattle.lab_search.specs.Private.Stored.{IsKeptAttempt}
 use Rattle.lab_search.specs.Stored.{IsKernel}

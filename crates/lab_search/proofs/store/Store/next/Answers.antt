@@ -1,5 +1,5 @@
 use Rattle.std.proofs.Common.{subst}
-use Rattle.lab_search.specs.declared.known.Mover.{Mover}
+use Rattle.lab_search.specs.declared.store.Mover.{Mover}
 use Rattle.lab_search.specs.Stored.{IsExactly}
 use Rattle.lab_worlds.proofs.Pushes.{all_at}
 use Rattle.lab_search.proofs.Growths.{HasWorld}

@@ -1,9 +1,9 @@
 use Rattle.std.proofs.Common.{inl, refl, subst, sym}
 use Rattle.lab_sched.specs.Held.{process_view, IsHeld}
 use Rattle.lab_states.specs.CollapsedStates.{kept_behind}
-use Rattle.lab_worlds.specs.declared.trying.Attempt.TheVariants as attempt
+use Rattle.lab_worlds.specs.declared.random_walker.Attempt.TheVariants as attempt
 use Rattle.lab_worlds.specs.Stepped.{IsReady, IsStepped}
-use Rattle.lab_search.specs.declared.making.KeptAttempt.TheVariants.{Still, Runs, Came}
+use Rattle.lab_search.specs.declared.reduced.KeptAttempt.TheVariants.{Still, Runs, Came}
 use Rattle.lab_search.specs.declared.store.Store.{Store}
 use Rattle.lab_search.specs.Private.Stored.{output_at}
 use Rattle.lab_search.proofs.Growths.{grown_by, kept_same, later_by, still_known}

@@ -10,7 +10,7 @@ returns c = record {
       let told = c.in-Ok.ensures.told in
       let one = c.calls_of.ensures.count c.args.pid (asked_by (slice_get c.args.self.now.world.processes c.args.pid)) (step_effect_in c.args.self.now.world c.args.pid) told in
       let sum = c.in-Some.ensures in
-      walk_more start c.args.self.now _ c.args.pid c.in-Ok.stepped h c.in-Ok.ensures.world told (c.changes.ensures.effective c.if-not-changes.false) c.in_ok-push.ensures.steps
+      walk_more start c.args.self.now _ c.args.pid c.in-Ok.stepped h c.in-Ok.ensures.world told c.in_default-stepped.not-Same c.in_ok-push.ensures.steps
       (omega (arith, sum, one));
   world = c.in-Ok.ensures.world;
   steps = c.in_ok-push.ensures.steps;

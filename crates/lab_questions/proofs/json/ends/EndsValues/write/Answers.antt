@@ -4,7 +4,7 @@ use Rattle.std.proofs.lemmas.Option.{MatchOption-at_none, slice_get_past}
 use Rattle.lab_worlds.proofs.Pushes.{got}
 use Rattle.lab_questions.specs.Findings.{end_or_null}
 use Rattle.lab_questions.proofs.ListLemmas.{none_unless}
-use Rattle.lab_questions.proofs.ValueLemmas.{end_at}
+use Rattle.lab_questions.proofs.ValueLemmas.{end_at, end_written}
 use Rattle.lab_questions.proofs.json.ends.EndsValues.write.Goals as goal
 
 pub returns-in_default : goal.returns-in_default
@@ -29,6 +29,7 @@ returns g c =
     let there : slice_get a.exploration.ends.items number ≡ Some end = got c.deref.result.now a.exploration.ends.items number end c.deref.ensures.value found.0 (found.1 end) in
     record {
       value = λ plain ok. has_written_of_eq _ _ _ _ _
-          (sym (end_at a.asked.show a.exploration.ends.items a.told.items c.args.place number c.requires.there c.index.ensures
-          ∙ ap (end_or_null a.asked.show (c.args.place + 1)) there)) (c.fmt.ensures.writes plain ok);
+          (end_written a.asked.show (c.args.place + 1) end c.word-verdict.result.now c.kernel.result.now c.blocks-2.result.now c.word-verdict.ensures.word c.kernel.ensures.kernel c.blocks-2.ensures.value
+          ∙ sym (end_at a.asked.show a.exploration.ends.items a.told.items c.args.place number c.requires.there c.index.ensures
+          ∙ ap (end_or_null a.asked.show (c.args.place + 1)) there)) (c.write-2.ensures.writes plain ok);
     }

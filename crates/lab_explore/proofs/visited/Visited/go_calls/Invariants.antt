@@ -1,5 +1,0 @@
-use Rattle.lab_worlds.specs.Walked.{KeepsStart}
-use Rattle.lab_explore.proofs.visited.Visited.go_calls.Given as goal
-
-abbrev pub invariant-loop-call : goal.invariant-loop-call
-invariant-loop-call l = KeepsStart l.fn.walk l.walk

@@ -1,0 +1,21 @@
+use Rattle.std.proofs.Common.{◌≡◌, None, IfSome, rules}
+use Rattle.lab_sched.specs.Worlds.{WorldState}
+use Rattle.lab_worlds.specs.Ends.{IsEnd}
+use Rattle.lab_worlds.specs.Unwaiting.{unwaiting, NoneGoesOn}
+use Rattle.lab_search.specs.Stored.{IsAt, IsLike}
+use Rattle.lab_explore.specs.Visits.{start_of}
+use Rattle.lab_explore.proofs.MetWorlds.{is_start}
+use Rattle.lab_pictures.proofs.DrawnRows.{node_made}
+use Rattle.lab_pictures.proofs.picture.node_at.Goals as goal
+
+pub returns : goal.returns
+returns c =
+    let visited = c.args.visited.now in
+    let end = c.if-may_rest.end in
+    let ends : IfSome end (λ e. IsEnd (start_of visited) e) = search rules in
+    let row : IfSome end (λ e. IsLike visited.store c.args.at (unwaiting e.world)) = search rules in
+    let none : end ≡ None → (w : WorldState) → IsAt visited.store c.args.at w → NoneGoesOn w → ⊥ = search rules in
+    record {
+      node = node_made (start_of visited) visited.store c.args.depth c.args.at c.in_ok-walk.walk end (is_start visited.processes.items c.requires.visited.starts).consistent c.requires.store c.in_ok-walk.ensures.walk
+          c.in_ok-walk.ensures.row (c.has_calls.ensures.yes c.if-not-has_calls.false) ends row none;
+    }

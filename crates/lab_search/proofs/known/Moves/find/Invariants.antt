@@ -1,4 +1,0 @@
-use Rattle.lab_search.proofs.known.Moves.find.Given as goal
-
-abbrev pub decreases-loop-number : goal.decreases-loop-number
-decreases-loop-number l = l.number

@@ -1,5 +1,0 @@
-use Rattle.std.proofs.Common.{rules}
-use Rattle.lab_states.proofs.depths.are_near.Goals as goal
-
-pub returns : goal.returns
-returns c = record { yes = λ is k d below. search (rules, c.all.ensures.yes is k d below) }

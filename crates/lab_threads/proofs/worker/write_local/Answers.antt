@@ -1,4 +1,0 @@
-use Rattle.lab_threads.proofs.worker.write_local.Goals as goal
-
-pub returns-clause-alone : goal.returns-clause-alone
-returns-clause-alone g c x y local s before = c.add_local.ensures.alone s x y before local

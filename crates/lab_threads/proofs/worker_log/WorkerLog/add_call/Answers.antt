@@ -1,4 +1,0 @@
-use Rattle.lab_threads.proofs.worker_log.WorkerLog.add_call.Goals as goal
-
-pub returns-clause-alone : goal.returns-clause-alone
-returns-clause-alone c x y told s before = c.add_call.ensures.alone s x y before told

@@ -1,5 +1,0 @@
-use Rattle.lab_worlds.specs.Segments.{KeepsSegment}
-use Rattle.lab_worlds.proofs.segments.FairSegment.take_on.Given as goal
-
-abbrev pub invariant-loop : goal.invariant-loop
-invariant-loop l = KeepsSegment l.fn.self l.self
