@@ -9,5 +9,5 @@ mod reading;
 
 pub use condition::{Condition, Part, Relation, State};
 pub use judging::{call_of, is_receiving, messages_in};
-pub use never::{Never, Refusal};
+pub use never::{Never, Refusal, error_told};
 pub use reading::ReadFault;

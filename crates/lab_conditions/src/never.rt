@@ -2,7 +2,7 @@
 ghost use Rattle.std.specs.Prelude.{◌≡◌, ◌↔◌, None, Err, false, map, IfOk, IsTrue, Some};
 ghost use Rattle.lab_conditions.specs.declared.reading.ReadFault.TheVariants.{NoCondition};
 ghost use Rattle.lab_conditions.specs.Written.{words, condition_in, are_lost, refusal_in, Writes, never_text, NamesOnlyIn, refused_in};
-ghost use Rattle.lab_conditions.specs.Refusals.{error_told, is_process, is_refused};
+ghost use Rattle.lab_conditions.specs.Refusals.{error_told, is_error, is_process, is_refused};
 
 use crate::reading::{is_word, process_in, spaced, words_of};
 use crate::{Condition, ReadFault};
@@ -122,7 +122,8 @@ pub struct Refusal {
     pub error: Option<Errno>,
 }
 
-fn error_told(stepped: &Stepped) -> Option<u16>
+/// The number of the error with which a step is refused, by what is told of it.
+pub fn error_told(stepped: &Stepped) -> Option<u16>
     ensures number { result ≡ error_told stepped.now }
 {
     match stepped {
@@ -140,14 +141,23 @@ impl Refusal {
         self.process.is_none_or(|process| pid == process)
     }
 
+    /// Whether the error with a number is meant.
+    pub fn is_error(&self, number: u16) -> bool
+        ensures value { result ≡ is_error self.now.error number }
+    {
+        match self.error {
+            Some(error) => number == error.number(),
+            None => number != Errno::Again.number(),
+        }
+    }
+
     /// Whether a step of which this is told is a call that is refused so.
     pub fn is_refused(&self, stepped: &Stepped) -> bool
         ensures value { result ≡ is_refused self.now stepped.now }
     {
-        match (error_told(stepped), self.error) {
-            (Some(number), Some(error)) => number == error.number(),
-            (Some(number), None) => number != Errno::Again.number(),
-            (None, _) => false,
+        match error_told(stepped) {
+            Some(number) => self.is_error(number),
+            None => false,
         }
     }
 }

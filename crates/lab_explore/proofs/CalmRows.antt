@@ -1,5 +1,5 @@
 -- What is found of a process over a kernel is so in the world of each row that has both.
-use Rattle.std.proofs.Common.{ℕ, ◌≡◌, ◌<◌, List, Option, Some, None, refl, ap, subst, ◌∙◌, option_map, slice_get, length, map, arith}
+use Rattle.std.proofs.Common.{ℕ, ◌≡◌, ◌<◌, false, List, Option, Some, None, refl, ap, subst, ◌∙◌, option_map, slice_get, length, map, arith}
 use Rattle.std.proofs.lemmas.List.{length-map}
 use Rattle.std.proofs.lemmas.Option.{slice_get-map}
 use Rattle.lab_sched.specs.declared.process.Process.{Process as Kept}
@@ -10,12 +10,17 @@ use Rattle.lab_sched.proofs.ListPlaces.{get_past}
 use Rattle.lab_conditions.specs.declared.never.Refusal.{Refusal}
 use Rattle.lab_states.specs.Rows.{Row}
 use Rattle.lab_search.specs.declared.store.Store.{Store}
-use Rattle.lab_search.specs.Stored.{IsState, IsAt}
+use Rattle.lab_search.specs.Stored.{IsState, IsAt, AreErrorsAt}
+use Rattle.lab_sched.specs.declared.stepped.Stepped.{Stepped}
+use Rattle.lab_conditions.specs.Refusals.{is_refused}
+use Rattle.lab_worlds.specs.declared.errors.Errors.{Errors}
+use Rattle.lab_worlds.specs.Errors.{HasErrorAmong, IsAnsweredToCall}
 use Rattle.lab_worlds.specs.Calls.{Both}
 use Rattle.lab_worlds.proofs.AfterLocalSteps.{same_some}
 use Rattle.lab_explore.specs.declared.refusals.Alone.{Alone}
 use Rattle.lab_explore.specs.Private.Judged.{IsQuiet, IsCalm, IsCalmAt, BeginsQuietly}
 use Rattle.lab_explore.proofs.MetWorlds.{state_at}
+use Rattle.lab_explore.proofs.QuietSteps.{calm_among}
 
 -- what is calm apart from the others is calm there
 pub calm_there : (r : Refusal) (t : Store) (at pid : ℕ) (a : Alone) → a.pid ≡ pid
@@ -24,6 +29,13 @@ pub calm_there : (r : Refusal) (t : Store) (at pid : ℕ) (a : Alone) → a.pid 
 calm_there r t at pid a same there calm meant w s here found =
     let is = there w s here found in
     subst (λ k. IsCalm r k pid s) is.0 (subst (λ x. IsCalm r a.kernel pid x) is.1 (subst (λ n. IsCalm r a.kernel n (process_view a.process)) same calm))
+
+-- what is known to be refused with no error that is meant is calm
+pub calm_known : (r : Refusal) (t : Store) (at pid n : ℕ) (es : Errors) → AreErrorsAt t at pid n es → ((told : Stepped) → HasErrorAmong es told → is_refused r told ≡ false) → IsCalmAt r t at pid
+calm_known r t at pid n es known not meant w s here found =
+    let h = known w here in
+    let same : h.0 ≡ s = same_some h.0 s (slice_get w.processes pid) h.1 found in
+    calm_among r es n w.kernel pid s not (subst (λ x. IsAnsweredToCall w.kernel pid x n es) same h.2)
 
 -- a row has no more processes than that
 pub calm_row : (r : Refusal) (t : Store) (at count : ℕ) → ((x : Row) × (slice_get t.rows at ≡ Some x) × (count ≡ length x.states)) → ((p : ℕ) → p < count → IsCalmAt r t at p)

@@ -3,7 +3,7 @@ ghost use Rattle.std.specs.Prelude.{◌≡◌, ◌<◌, ℕ, Some, None, IfOk, I
 ghost use Rattle.lab_sched.specs.Worlds.{Process as Seen, WorldState};
 ghost use Rattle.lab_sched.specs.Held.{process_view, IsHeld, local_told, HasStepped};
 ghost use Rattle.lab_search.specs.Stored.{IsAt};
-ghost use Rattle.lab_explore.specs.Visits.{start_of};
+ghost use Rattle.lab_explore.specs.Visits.{start_of, IsVisited};
 ghost use Rattle.lab_explore.specs.declared.refusals.Found.TheVariants.{Calm};
 ghost use Rattle.lab_explore.specs.Private.Judged.{IsCalmAt, BeginsQuietly, NoneRefuses, IsQuiet, IsCalm};
 ghost use Rattle.ipc_traps.specs.Asked.{Request};
@@ -56,8 +56,21 @@ impl Visited {
         }
     }
 
+    /// Whether no call is refused so in the step of process `pid` from the world of a row and in all its
+    /// local steps then, as far as the search knows their errors.
+    fn is_calm(&self, refusal: &Refusal, at: usize, pid: u32) -> bool
+        requires visited { IsVisited self.now }
+        ensures calm { IsTrue result → IsTrue self.now.complete
+            → IsCalmAt refusal.now self.now.store at pid }
+    {
+        match self.store.known_steps(at, pid) {
+            Some(steps) => !steps.errors.may_be(refusal),
+            None => false,
+        }
+    }
+
     /// The refused call of process `pid` from the world of a row on, up to its next call, if its calls
-    /// are meant.
+    /// are meant. Its steps are taken again only if one of them may be refused so, as far as is known.
     fn refusal_of(
         &self,
         alloc: Global,
@@ -65,13 +78,18 @@ impl Visited {
         at: usize,
         pid: u32,
     ) -> Result<Option<Turn>, ExploreFault>
+        requires visited { IsVisited self.now }
         ensures calm { IfOk result (λ turn. turn ≡ None → IsTrue self.now.complete
             → IsCalmAt refusal.now self.now.store at pid) }
     {
         if !refusal.is_process(pid as usize) {
             return Ok(None);
         }
-        let most = self.store.known_steps(at, pid).unwrap_or(0);
+        if self.is_calm(refusal, at, pid) {
+            return Ok(None);
+        }
+        let known = self.store.known_steps(at, pid);
+        let most = known.map_or(0, |steps| steps.taken);
         let mut alone = alone_at(&self.store, alloc, at, pid)?;
         let found = alone.look(alloc, refusal, most.saturating_add(1))?;
         self.turn_of(found, Some(at), pid as usize)
@@ -84,6 +102,7 @@ impl Visited {
         refusal: &Refusal,
         at: usize,
     ) -> Result<Option<Turn>, ExploreFault>
+        requires visited { IsVisited self.now }
         ensures calm { IfOk result (λ turn. turn ≡ None → IsTrue self.now.complete
             → (p : ℕ) → IsCalmAt refusal.now self.now.store at p) }
     {
@@ -139,6 +158,7 @@ impl Visited {
         alloc: Global,
         refusal: &Refusal,
     ) -> Result<Option<Turn>, ExploreFault>
+        requires visited { IsVisited self.now }
         ensures none { IfOk result (λ turn. turn ≡ None → IsTrue self.now.complete
             → NoneRefuses refusal.now (start_of self.now) self.now.store) }
     {

@@ -12,8 +12,9 @@ impl Visited {
     /// How many local steps process `pid` takes after its step from the world of a row. The move must
     /// have been made.
     pub(crate) fn steps_after(&self, at: u32, pid: u8) -> Result<u32, ExploreFault> {
-        self.store
-            .known_steps(at as usize, pid as u32)
+        let known = self.store.known_steps(at as usize, pid as u32);
+        known
+            .map(|steps| steps.taken)
             .ok_or(ExploreFault::Unvouched)
     }
 

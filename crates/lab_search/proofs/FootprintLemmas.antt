@@ -23,18 +23,36 @@ use Rattle.lab_search.specs.declared.footprints.Footprint.{Footprint}
 use Rattle.lab_worlds.specs.Operands.{IsStepAlike}
 use Rattle.lab_search.specs.Stored.{IsState, IsExactly, IsNext, IsMove, AreParts, IsEffect, IsFootprintEffect}
 use Rattle.lab_worlds.specs.Stepped.{IsReached}
+use Rattle.lab_worlds.specs.declared.errors.Errors.{Errors}
+use Rattle.lab_worlds.specs.Errors.{HasErrorAmong, AreLocalAmong, IsAnswered, IsAnsweredToCall}
 use Rattle.lab_search.specs.Private.Stored.{IsMoveFrom, IsChanged, IsNextBy, Grows}
 use Rattle.lab_search.specs.Private.FootprintEffect.{HasFootprint, IsOutcome}
 use Rattle.lab_worlds.proofs.AfterLocalSteps.{same_some}
 use Rattle.lab_search.proofs.Growths.{state_grows, state_kept}
 use Rattle.lab_worlds.proofs.StepsOnObjects.{steps_by_operand, steps_settled}
 
+-- a step that is alike has the errors of the other
+answered_alike : (k j : KernelState) (p q : ℕ) (s : Process) (i n : ℕ) (es : Errors) (u : Process) → IsStepAlike k j p q s i → IsAnswered j q s n es u → IsAnswered k p s n es u
+answered_alike k j p q s i n es u there h = record {
+  step = subst (HasErrorAmong es) (sym there.told) h.step;
+  after = subst (λ x. AreLocalAmong es n x u) (sym there.process) h.after;
+}
+
 -- what comes of a step over one kernel comes of it over another, where it is alike
 outcome_over : (t : Store) (k j : KernelState) (p q : ℕ) (s : Process) (i : ℕ) (e : Effect) → IsStepAlike k j p q s i → IsStepAlike j k q p s i → IsOutcome t j q s i e → IsEffect t k p s i e
 outcome_over t k j p q s i Nothing there back h = λ goes. h (back.goes_on goes)
 outcome_over t k j p q s i Limit there back h = there.goes_on h
-outcome_over t k j p q s i (To tables object state taken) there back h =
-    (h.0, h.1, h.2, h.3, h.4, there.kernel h.0 h.1 h.5, subst (λ u. IsReached u h.2) (sym there.process) h.6, there.goes_on h.7)
+outcome_over t k j p q s i (To tables object state taken errors) there back h = (
+  h.0,
+  h.1,
+  h.2,
+  h.3,
+  h.4,
+  there.kernel h.0 h.1 h.5,
+  subst (λ u. IsReached u h.2) (sym there.process) h.6,
+  there.goes_on h.7,
+  answered_alike k j p q s i taken errors h.2 there h.8,
+)
 
 -- a process stands at one call
 stands_once : (s : Process) (c d : Call) → StandsAt s c → StandsAt s d → c ≡ d
@@ -77,15 +95,16 @@ footprint_effect_made t u k p s footprint e g settled state has made =
     )
 
 -- what a process does next by the effect of its call, where a kernel is kept that is alike the one after it
-pub next_by_changed : (t u : Store) (m : Mover) (i kernel tables object state taken : ℕ) → Grows t u → IsChanged t.kernels u.kernels m i object tables kernel
-    → IsNextBy t u m i (To tables object state taken) (next.To kernel state taken)
-next_by_changed t u m i kernel tables object state taken g there k s at settled h =
+pub next_by_changed : (t u : Store) (m : Mover) (i kernel tables object state taken : ℕ) (errors : Errors) → Grows t u → IsChanged t.kernels u.kernels m i object tables kernel
+    → IsNextBy t u m i (To tables object state taken errors) (next.To kernel state taken errors)
+next_by_changed t u m i kernel tables object state taken errors g there k s at settled h =
     let kept = there k h.1 h.0 at h.3.1 h.3.0 (subst IsSettled h.5 (steps_settled k m.pid s settled)) in (
       h.2,
       (kept.0, kept.1, subst (λ j. IsAlike j kept.0) (sym h.5) kept.2, kept.3),
       state_grows t u state h.2 g h.4,
       h.6,
       h.7,
+      h.8,
     )
 
 -- a call works on an object also where more is kept
@@ -118,12 +137,12 @@ move_by_footprint t u m n footprint e j g exact same has h by =
 pub effect_goes_on : (t : Store) (k : KernelState) (p : ℕ) (s : Process) (i : ℕ) (e : Effect) → (e ≡ Nothing → ⊥) → IsEffect t k p s i e → IsNext t k p s next.Limit
 effect_goes_on t k p s i Nothing some h = absurd (some refl)
 effect_goes_on t k p s i Limit some h = h
-effect_goes_on t k p s i (To tables object state taken) some h = h.7
+effect_goes_on t k p s i (To tables object state taken errors) some h = h.7
 
 next_goes_on : (t : Store) (k : KernelState) (p : ℕ) (s : Process) (n : Next) → (n ≡ next.Nothing → ⊥) → IsNext t k p s n → IsNext t k p s next.Limit
 next_goes_on t k p s next.Nothing some h = absurd (some refl)
 next_goes_on t k p s next.Limit some h = h
-next_goes_on t k p s (next.To kernel state taken) some h = h.4
+next_goes_on t k p s (next.To kernel state taken errors) some h = h.4
 
 pub move_goes_on : (t : Store) (m : Mover) (n : Next) → (n ≡ next.Nothing → ⊥) → IsMoveFrom t m n → IsMoveFrom t m next.Limit
 move_goes_on t m n some h k s at settled here = next_goes_on t k m.pid s n some (h k s at settled here)
@@ -137,3 +156,20 @@ pub move_of_ended : (t : Store) (m : Mover) → ((s : Kept) → slice_get t.stat
 move_of_ended t m ended k s at settled here =
     let kept = state_kept t m.state s here in
     ended_still k m.pid s (subst HasEnded kept.2 (ended kept.0 kept.1))
+
+-- the errors of a step and of all its local steps, by what comes of it
+pub effect_to : (t : Store) (k : KernelState) (p : ℕ) (s : Process) (i tables object state taken : ℕ) (errors : Errors) → IsEffect t k p s i (To tables object state taken errors) → IsAnsweredToCall k p s taken errors
+effect_to t k p s i tables object state taken errors h = (h.2, h.8, h.6.ahead.at_call)
+
+pub next_to : (t : Store) (k : KernelState) (p : ℕ) (s : Process) (kernel state taken : ℕ) (errors : Errors) → IsNext t k p s (next.To kernel state taken errors) → IsAnsweredToCall k p s taken errors
+next_to t k p s kernel state taken errors h = (h.0, h.5, h.3.ahead.at_call)
+
+-- by the effect of the call at which a process stands
+pub errors_by_footprint : (t : Store) (m : Mover) (n : ℕ) (es : Errors) (footprint : Footprint) (e : Effect) → footprint.state ≡ m.state
+    → ((k : KernelState) → IsExactly t m.kernel k → HasFootprint t k m.pid footprint) → IsFootprintEffect t footprint e
+    → ((u : Store) (k : KernelState) (p : ℕ) (s : Process) (i : ℕ) → IsEffect u k p s i e → IsAnsweredToCall k p s n es)
+    → (k : KernelState) (s : Process) → IsExactly t m.kernel k → IsSettled k → IsState t m.state s → IsAnsweredToCall k m.pid s n es
+errors_by_footprint t m n es footprint e same operand h answered k s at settled here =
+    let there = same_footprint t k m.pid footprint h.0 h.1 h.2 h.3 h.4 h.5 h.6 (operand k at) in
+    let s-is : h.0 ≡ s = same_some h.0 s (option_map process_view (slice_get t.states.processes m.state)) (subst (λ i. IsState t i h.0) same h.4) here in
+    subst (λ x. IsAnsweredToCall k m.pid x n es) s-is (answered t k m.pid h.0 footprint.place (h.7 k m.pid settled there.0 there.1))

@@ -87,7 +87,7 @@ pub kernel_grows : (t u : Store) (i : ℕ) (k : KernelState) → Grows t u → I
 kernel_grows t u i k g h = (h.0, g.kernels.kernels i h.0 h.1, h.2, h.3)
 
 next_grows : (t u : Store) (k : KernelState) (p : ℕ) (s : Process) (n : Next) → Grows t u → IsNext t k p s n → IsNext u k p s n
-next_grows t u k p s (To kernel state taken) g h = (h.0, kernel_grows t u kernel _ g h.1, state_grows t u state h.0 g h.2, h.3, h.4)
+next_grows t u k p s (To kernel state taken errors) g h = (h.0, kernel_grows t u kernel _ g h.1, state_grows t u state h.0 g h.2, h.3, h.4, h.5)
 next_grows t u k p s _ g h = h
 
 pub move_grows : (t u : Store) (m : Mover) (n : Next) → Grows t u → IsMove t m n → IsMove u m n
@@ -130,8 +130,8 @@ parts_grow : (t u : Store) (tables object : ℕ) (x : OpenTables) (o : Place) �
 parts_grow t u tables object x o g h = (g.kernels.tables tables x h.0, g.kernels.objects object o h.1)
 
 pub effect_grows : (t u : Store) (k : KernelState) (p : ℕ) (s : Process) (i : ℕ) (e : Effect) → Grows t u → IsEffect t k p s i e → IsEffect u k p s i e
-effect_grows t u k p s i (effect.To tables object state taken) g h =
-    (h.0, h.1, h.2, parts_grow t u tables object h.0 h.1 g h.3, state_grows t u state h.2 g h.4, h.5, h.6, h.7)
+effect_grows t u k p s i (effect.To tables object state taken errors) g h =
+    (h.0, h.1, h.2, parts_grow t u tables object h.0 h.1 g h.3, state_grows t u state h.2 g h.4, h.5, h.6, h.7, h.8)
 effect_grows t u k p s i _ g h = h
 
 pub footprint_effect_grows : (t u : Store) (x : Footprint) (e : Effect) → Grows t u → IsFootprintEffect t x e → IsFootprintEffect u x e

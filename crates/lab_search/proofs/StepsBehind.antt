@@ -24,8 +24,8 @@ use Rattle.ipc_traps.specs.Reply.{service_asked, four_words_address, after_call,
 use Rattle.lc3_machine.specs.Reply.{IsWritableIf, with_words_if}
 use Rattle.lab_sched.specs.declared.process.Process.{Process as Kept}
 use Rattle.lab_sched.specs.declared.process.Process.TheVariants as kept
-use Rattle.lab_sched.specs.Worlds.{Process, Running, Waiting, Ended, NextAction, moves, calls, action_for, next_action, process_after_reply_to, process_after_answer, StepEffect, nothing, local_step, kernel_step, retry, first_try, step_effect, process_after, kernel_after}
-use Rattle.lab_sched.specs.Held.{process_view, IsHeld, step_of}
+use Rattle.lab_sched.specs.Worlds.{Process, Running, Waiting, Ended, machine_of, NextAction, moves, calls, action_for, next_action, process_after_reply_to, process_after_answer, StepEffect, nothing, local_step, kernel_step, retry, first_try, step_effect, process_after, kernel_after}
+use Rattle.lab_sched.specs.Held.{process_view, IsHeld, asked_by, local_told, stepped_of, step_of}
 use Rattle.lab_sched.specs.LocalRun.{IsLocalStep, AreLocal}
 use Rattle.lab_worlds.specs.Calls.{IsAtCall}
 use Rattle.lab_worlds.specs.Unwaiting.{GoesOn}
@@ -39,6 +39,9 @@ use Rattle.lab_search.specs.declared.reduced.KeptAttempt.{KeptAttempt}
 use Rattle.lab_search.specs.Private.Stored.{IsKeptStep, IsKeptAttempt, output_at}
 use Rattle.lab_search.specs.Stored.{IsState, IsExactly, IsStore}
 use Rattle.lab_worlds.specs.Stepped.{IsReady, IsReached, IsStepped}
+use Rattle.lab_worlds.specs.declared.errors.Errors.{Errors}
+use Rattle.lab_worlds.specs.Errors.{HasErrorAmong, IsLocalStepAmong, AreLocalAmong, IsAnswered}
+use Rattle.lc3_machine.proofs.Runs.{steps_map}
 use Rattle.lab_worlds.proofs.Pushes.{all_at}
 use Rattle.lab_states.proofs.SilentProcesses.{same_trap, seen_output}
 
@@ -190,6 +193,44 @@ reached_behind s u o h = record {
   few = h.few;
 }
 
+-- what is told of its steps
+asked_told : (r : Request) (o : List ℕ) → local_told (Some (request_behind o r)) ≡ local_told (Some r)
+asked_told (Local q) o = refl
+asked_told _ o = refl
+
+machine_seen : (s : Process) (o : List ℕ) → machine_of (behind o s) ≡ machine_behind o (machine_of s)
+machine_seen (Running m) o = refl
+machine_seen (Waiting m c) o = refl
+machine_seen (Ended e) o = refl
+
+same_asked : (s : Process) (o : List ℕ) → asked_by (Some (behind o s)) ≡ Some (request_behind o (next_request (machine_of s)))
+same_asked s o = ap (λ m. Some (next_request m)) (machine_seen s o) ∙ ap (λ r. Some r) (asked_behind (machine_of s) o)
+
+same_local_told : (s : Process) (o : List ℕ) → local_told (asked_by (Some (behind o s))) ≡ local_told (asked_by (Some s))
+same_local_told s o = ap local_told (same_asked s o) ∙ asked_told (next_request (machine_of s)) o
+
+effect_told : (r : Request) (t : StepEffect) (o : List ℕ) → stepped_of (Some (request_behind o r)) (effect_behind o t) ≡ stepped_of (Some r) t
+effect_told r nothing o = refl
+effect_told r (local_step n) o = asked_told r o
+effect_told r (kernel_step m c Wait) o = refl
+effect_told r (kernel_step m c (Done a)) o = refl
+
+told_behind : (k : KernelState) (p : ℕ) (s : Process) (o : List ℕ) → (step_of k p (behind o s)).told ≡ (step_of k p s).told
+told_behind k p s o =
+    ap (λ q. stepped_of q (step_effect k p (Some (behind o s)))) (same_asked s o) ∙ ap (λ t. stepped_of (Some (request_behind o (next_request (machine_of s)))) t) (same_step k p s o)
+    ∙ effect_told (next_request (machine_of s)) (step_effect k p (Some s)) o
+
+-- and so are the errors of its steps
+among_behind : (es : Errors) (n : ℕ) (s u : Process) (o : List ℕ) → AreLocalAmong es n s u → AreLocalAmong es n (behind o s) (behind o u)
+among_behind es n s u o h =
+    steps_map (IsLocalStepAmong es) (IsLocalStepAmong es) (behind o) (λ x y step. (local_behind x y o step.0, subst (HasErrorAmong es) (sym (same_local_told x o)) step.1)) n s u h
+
+answered_same : (k : KernelState) (p : ℕ) (s : Process) (n : ℕ) (es : Errors) (u : Process) (o : List ℕ) → IsAnswered k p s n es u → IsAnswered k p (behind o s) n es (behind o u)
+answered_same k p s n es u o h = record {
+  step = subst (HasErrorAmong es) (sym (told_behind k p s o)) h.step;
+  after = subst (λ x. AreLocalAmong es n x (behind o u)) (sym (process_behind k p s o)) (among_behind es n (step_of k p s).process u o h.after);
+}
+
 -- the same pages are ready
 abbrev held_behind : List ℕ → Held → Held
 held_behind o h = record { process = machine_behind o h.process; ready = h.ready }
@@ -252,6 +293,7 @@ stepped_behind k p s (Came made) o h = (
   subst (λ x. IsReached x (process_view (kept_behind o made.process))) (sym (process_behind k p s o))
       (subst (λ x. IsReached (behind o (step_of k p s).process) x) (sym (seen_behind made.process o)) (reached_behind (step_of k p s).process (process_view made.process) o h.2)),
   subst (λ X. X) (sym (same_goes k p s o)) h.3,
+  subst (λ x. IsAnswered k p (behind o s) made.taken made.errors x) (sym (seen_behind made.process o)) (answered_same k p s made.taken made.errors (process_view made.process) o h.4),
 )
 
 -- the state behind an output that is kept

@@ -3,7 +3,7 @@ use Rattle.std.proofs.Common.{ℕ, zero, ◌≡◌, ◌<◌, ◌≤◌, length, 
 use Rattle.std.specs.Option.{option_map}
 use Rattle.std.proofs.lemmas.Bool.{cases_lt}
 use Rattle.std.proofs.lemmas.Option.{slice_get_past}
-use Rattle.ipc_kernel.specs.Kernel.{IsSettled}
+use Rattle.ipc_kernel.specs.Kernel.{KernelState, IsSettled}
 use Rattle.lab_sched.specs.Worlds.{Process, WorldState, StepEffect, step_effect, step_effect_in, process_after, kernel_after, after, step}
 use Rattle.lab_sched.specs.Held.{process_view}
 use Rattle.lab_sched.proofs.WorldLemmas.{after_effect}
@@ -18,7 +18,9 @@ use Rattle.lab_search.specs.declared.store.Next.TheVariants.{Nothing, Limit, To}
 use Rattle.lab_worlds.specs.Calls.{IsAtCall, IsAhead, Both, Alongside}
 use Rattle.lab_worlds.specs.Unwaiting.{GoesOn, NoneGoesOn}
 use Rattle.lab_worlds.specs.Stepped.{IsReady, IsReached, AreReached}
-use Rattle.lab_search.specs.Stored.{IsState, IsRow, IsAt, LeadsTo, IsStore, IsExactly, IsNext, IsMove, IsNextAt, HasEdge, HasEdgeIfEnabled, IsExpanded}
+use Rattle.lab_worlds.specs.declared.errors.Errors.{Errors}
+use Rattle.lab_worlds.specs.Errors.{IsAnsweredToCall}
+use Rattle.lab_search.specs.Stored.{IsState, IsRow, IsAt, LeadsTo, IsStore, IsExactly, IsNext, IsMove, IsNextAt, AreErrorsAt, HasEdge, HasEdgeIfEnabled, IsExpanded}
 use Rattle.lab_search.specs.Private.Stored.{Grows, IsLater, IsMoveFrom, IsStep, IsKeptStep, IsKeptAttempt, changed}
 use Rattle.lab_worlds.proofs.Pushes.{alongside_set, get_pushed, all_at}
 use Rattle.lab_worlds.proofs.AfterLocalSteps.{same_some}
@@ -57,6 +59,14 @@ next_of t i m n placed move w here =
     let s = process_at t placed.0 w m.pid m.state is placed.3 in
     (s.0, s.1, move w.kernel s.0 (subst (λ k. IsExactly t k w.kernel) placed.2 is.kernel) is.settled s.2)
 
+-- what the errors are of a move, for a world
+pub errors_of : (t : Store) (i : ℕ) (m : Mover) (n : ℕ) (es : Errors) → (r : Row) × (slice_get t.rows i ≡ Some r) × (r.kernel ≡ m.kernel) × (slice_get r.states m.pid ≡ Some m.state)
+    → ((k : KernelState) (s : Process) → IsExactly t m.kernel k → IsSettled k → IsState t m.state s → IsAnsweredToCall k m.pid s n es) → AreErrorsAt t i m.pid n es
+errors_of t i m n es placed errors w here =
+    let is = row_at t i placed.0 w placed.1 here in
+    let s = process_at t placed.0 w m.pid m.state is placed.3 in
+    (s.0, s.1, errors w.kernel s.0 (subst (λ k. IsExactly t k w.kernel) placed.2 is.kernel) is.settled s.2)
+
 -- a move over a kernel and in a state that are kept is the move from there
 pub move_from : (t : Store) (m : Mover) (n : Next) → IsMove t m n → IsMoveFrom t m n
 move_from t m n h k s at settled here =
@@ -65,13 +75,13 @@ move_from t m n h k s at settled here =
     subst (λ j. IsNext t j m.pid s n) k-is (subst (λ x. IsNext t h.0 m.pid x n) s-is (h.4 (subst IsSettled (sym k-is) settled)))
 
 -- what a process does next, where that is a step
-pub next_to : (t : Store) (i p kernel state taken : ℕ) (n : Next) → n ≡ To kernel state taken → IsNextAt t i p n → IsStep t (record { at = i; pid = p; kernel = kernel; state = state })
-next_to t i p kernel state taken n is next = (taken, subst (λ m. IsNextAt t i p m) is next)
+pub next_to : (t : Store) (i p kernel state taken : ℕ) (errors : Errors) (n : Next) → n ≡ To kernel state taken errors → IsNextAt t i p n → IsStep t (record { at = i; pid = p; kernel = kernel; state = state })
+next_to t i p kernel state taken errors n is next = (taken, errors, subst (λ m. IsNextAt t i p m) is next)
 
 -- the world after a step, by its row
-moved : (t : Store) (c : Change) (r : Row) (w : WorldState) (taken : ℕ) (s : Process) → IsStore t → IsRow t r w → slice_get w.processes c.pid ≡ Some s → IsNext t w.kernel c.pid s (To c.kernel c.state taken)
+moved : (t : Store) (c : Change) (r : Row) (w : WorldState) (taken : ℕ) (errors : Errors) (s : Process) → IsStore t → IsRow t r w → slice_get w.processes c.pid ≡ Some s → IsNext t w.kernel c.pid s (To c.kernel c.state taken errors)
     → (v : WorldState) × IsRow t (changed r c) v × AreReached (step w c.pid) v
-moved t c r w taken s is row here next = (v, to, ahead)
+moved t c r w taken errors s is row here next = (v, to, ahead)
   where
     i : (i : ℕ) × (slice_get r.states c.pid ≡ Some i) × IsState t i s
     i = both_right (IsState t) s (slice_get r.states c.pid) (subst (λ o. Both (IsState t) (slice_get r.states c.pid) o) here (row.states c.pid))
@@ -129,7 +139,7 @@ all_expanded_in t u at count pid is g row all expanded_in =
 pub goes_on : (t : Store) (w : WorldState) (at p : ℕ) (next : Next) → IsAt t at w → IsNextAt t at p next → (next ≡ Nothing → ⊥) → GoesOn (step_effect_in w p)
 goes_on t w at p Nothing here m some = absurd (some refl)
 goes_on t w at p Limit here m some = let n = m w here in subst (λ o. GoesOn (step_effect w.kernel p o)) (sym n.1) n.2
-goes_on t w at p (To kernel state taken) here m some = let n = m w here in subst (λ o. GoesOn (step_effect w.kernel p o)) (sym n.1) n.2.4
+goes_on t w at p (To kernel state taken errors) here m some = let n = m w here in subst (λ o. GoesOn (step_effect w.kernel p o)) (sym n.1) n.2.4
 
 -- the world of a row, and that of the row that is changed, to which a process goes on
 world_after : (t : Store) (c : Change) (r : Row) → IsStore t → IsStep t c → slice_get t.rows c.at ≡ Some r
@@ -137,9 +147,9 @@ world_after : (t : Store) (c : Change) (r : Row) → IsStore t → IsStep t c �
 world_after t c r is step there =
     let w = all_at (HasWorld t) t.rows c.at r is.rows there in
     let here : IsAt t c.at w.0 = (r, there, w.1) in
-    let next = step.1 w.0 here in
-    let m = moved t c r w.0 step.0 next.0 is w.1 next.1 next.2 in
-    (w.0, m.0, here, m.1, m.2, goes_on t w.0 c.at c.pid (To c.kernel c.state step.0) here step.1 (λ none. absurd (cc)))
+    let next = step.2 w.0 here in
+    let m = moved t c r w.0 step.0 step.1 next.0 is w.1 next.1 next.2 in
+    (w.0, m.0, here, m.1, m.2, goes_on t w.0 c.at c.pid (To c.kernel c.state step.0 step.1) here step.2 (λ none. absurd (cc)))
 
 -- where that row is kept
 pub leads_after : (t u : Store) (c : Change) (j : ℕ) → IsStore t → Grows t u → IsStep t c → (r : Row) × (slice_get t.rows c.at ≡ Some r) × (slice_get u.rows j ≡ Some (changed r c)) → LeadsTo u c.at c.pid j

@@ -14,6 +14,8 @@ use Rattle.lab_worlds.specs.Calls.{AreAlike, Alongside}
 use Rattle.lab_worlds.specs.Closed.{HasAdvance}
 use Rattle.lab_worlds.specs.Unwaiting.{GoesOn}
 use Rattle.lab_worlds.specs.Stepped.{IsReady, IsReached, AreReached}
+use Rattle.lab_worlds.specs.declared.errors.Errors.{Errors}
+use Rattle.lab_worlds.specs.Errors.{IsAnswered, IsAnsweredToCall}
 use Rattle.lab_states.specs.Rows.{Row}
 use Rattle.lab_states.specs.declared.edges.Edge.{Edge}
 use Rattle.lab_search.specs.declared.store.Move.{Move}
@@ -59,13 +61,15 @@ LeadsTo t i p j =
 abbrev pub IsKernel : Store → ℕ → KernelState → Type 0
 IsKernel t i k = (j : KernelState) × IsExactly t i j × IsAlike k j × IsSettled j
 
--- what a step of process p makes of it and of the kernel, and of it then all its local steps
+-- what a step of process p makes of it and of the kernel, and of it then all its local steps; and the errors of those of these
+-- steps that are refused
 abbrev pub IsNext : Store → KernelState → ℕ → Process → Next → Type 0
 IsNext t k p s Nothing = GoesOn (step_effect k p (Some s)) → ⊥
 IsNext t k p s Limit = GoesOn (step_effect k p (Some s))
-IsNext t k p s (To kernel state taken) =
+IsNext t k p s (To kernel state taken errors) =
     (u : Process) × IsKernel t kernel (step_of k p s).kernel × IsState t state u
     × IsReached (step_of k p s).process u × GoesOn (step_effect k p (Some s))
+    × IsAnswered k p s taken errors u
 
 -- the same where the kernel, if it is settled, and the process are given by their places
 abbrev pub IsMove : Store → Mover → Next → Type 0
@@ -83,14 +87,14 @@ AreParts t tables object x o =
     (slice_get t.kernels.tables tables ≡ Some x) × (slice_get t.kernels.objects object ≡ Some o)
 
 -- what a step of process p makes of its tables, of the object in a place, and of it then all its
--- local steps; of the kernel nothing else is changed
+-- local steps, with the errors of those that are refused; of the kernel nothing else is changed
 abbrev pub IsEffect : Store → KernelState → ℕ → Process → ℕ → Effect → Type 0
 IsEffect t k p s i outcome.Nothing = GoesOn (step_effect k p (Some s)) → ⊥
 IsEffect t k p s i outcome.Limit = GoesOn (step_effect k p (Some s))
-IsEffect t k p s i (outcome.To tables object state taken) =
+IsEffect t k p s i (outcome.To tables object state taken errors) =
     (x : OpenTables) × (o : Place) × (u : Process) × AreParts t tables object x o × IsState t state u
     × ((step_of k p s).kernel ≡ with_operand k p i o x) × IsReached (step_of k p s).process u
-    × GoesOn (step_effect k p (Some s))
+    × GoesOn (step_effect k p (Some s)) × IsAnswered k p s taken errors u
 
 -- that comes of a step at the call, over whatever kernel in which it works on the object in the place
 abbrev pub IsFootprintEffect : Store → Footprint → Effect → Type 0
@@ -121,6 +125,12 @@ abbrev pub IsNextAt : Store → ℕ → ℕ → Next → Type 0
 IsNextAt t i p next =
     (w : WorldState) → IsAt t i w
     → (s : Process) × (slice_get w.processes p ≡ Some s) × IsNext t w.kernel p s next
+
+-- the step of process p from the world of row number i and the n local steps after it, which are all, have no errors but these
+abbrev pub AreErrorsAt : Store → ℕ → ℕ → ℕ → Errors → Type 0
+AreErrorsAt t i p n es =
+    (w : WorldState) → IsAt t i w
+    → (s : Process) × (slice_get w.processes p ≡ Some s) × IsAnsweredToCall w.kernel p s n es
 
 -- an edge from row number i, of process p, leads to the world after a step of p and then all its
 -- local steps

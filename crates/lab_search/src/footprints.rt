@@ -1,16 +1,19 @@
 //! Footprints of steps at calls that work on one object, and the effects that a search has made.
-ghost use Rattle.std.specs.Prelude.{◌≡◌, [], false, IfSome, IsTrue, OnOk, IfOk};
+ghost use Rattle.std.specs.Prelude.{ℕ, ◌≡◌, [], false, IfSome, IsTrue, OnOk, IfOk};
 ghost use Rattle.lab_search.specs.declared.store.Store.{Store as Kept};
 ghost use Rattle.lab_search.specs.declared.footprints.Effect.TheVariants.{Nothing};
-ghost use Rattle.lab_search.specs.Stored.{IsFootprintEffect, AreFootprintEffects, IsExactly, IsStore, AreKnown};
+ghost use Rattle.lab_search.specs.Stored.{IsFootprintEffect, AreFootprintEffects, IsExactly, IsStore, AreKnown, IsEffect};
+ghost use Rattle.lab_sched.specs.Worlds.{Process as Seen};
+ghost use Rattle.lab_worlds.specs.Errors.{IsAnsweredToCall};
 ghost use Rattle.ipc_kernel.specs.Kernel.{KernelState};
 ghost use Rattle.ipc_store.specs.Kept.{GrowsKept};
 ghost use Rattle.lab_search.specs.Private.Stored.{IsLater, IsMoveFrom, IsChanged, IsNextBy};
 ghost use Rattle.lab_search.specs.Private.FootprintEffect.{HasFootprint};
 
-use crate::store::{Mover, Next, Store};
+use crate::store::{KnownSteps, Mover, Next, Store};
 use ipc_store::{Index, Kernels};
 use lab_states::digest_of;
+use lab_worlds::Errors;
 use std::alloc::{AllocError, Global};
 use std::mem::size_of;
 
@@ -31,12 +34,14 @@ pub enum Effect {
     Nothing,
     /// More local steps than the process may take.
     Limit,
-    /// The tables, the object and the state then, after so many local steps.
+    /// The tables, the object and the state then, after so many local steps, and the errors of those of
+    /// these steps that are refused.
     To {
         tables: u32,
         object: u32,
         state: u32,
         taken: u32,
+        errors: Errors,
     },
 }
 
@@ -76,11 +81,18 @@ impl Effect {
         matches!(self, Effect::Nothing)
     }
 
-    /// How many local steps the process takes then, if it goes on to its next call.
-    pub(crate) fn steps(self) -> Option<u32> {
+    /// The local steps of the process then, if it comes to a call.
+    pub(crate) fn steps(self) -> Option<KnownSteps>
+        ensures steps { IfSome result (λ steps. (t : Kept) (k : KernelState) (p : ℕ) (s : Seen) (i : ℕ)
+            → IsEffect t k p s i self → IsAnsweredToCall k p s steps.taken steps.errors) }
+    {
         match self {
-            Effect::To { taken, .. } => Some(taken),
-            _ => None,
+            Effect::Nothing => Some(KnownSteps {
+                taken: 0,
+                errors: Errors::No,
+            }),
+            Effect::Limit => None,
+            Effect::To { taken, errors, .. } => Some(KnownSteps { taken, errors }),
         }
     }
 }
@@ -194,6 +206,7 @@ impl Store {
                 object,
                 state,
                 taken,
+                errors,
             } => {
                 let Some(kernel) = keep_changed(&mut self.kernels, mover, place, object, tables)?
                 else {
@@ -203,6 +216,7 @@ impl Store {
                     kernel,
                     state,
                     taken,
+                    errors,
                 }))
             }
         }

@@ -9,4 +9,4 @@ mod store;
 
 pub use moves::both;
 pub use search::{Search, search_all};
-pub use store::Store;
+pub use store::{KnownSteps, Store};

@@ -2,11 +2,11 @@
 ghost use Rattle.std.specs.Prelude.{◌≡◌, ◌<◌, IsTrue, IfOk, IfSome, OnOk, Some, length, slice_get, slice_set};
 ghost use Rattle.lab_sched.specs.Worlds.{WorldState};
 ghost use Rattle.lab_search.specs.declared.store.Next.TheVariants.{Limit};
-ghost use Rattle.lab_search.specs.Stored.{IsStore, AreKnown, LeadsTo, HasEdge, IsNextAt, IsAt, HasEdgeIfEnabled, IsExpanded, IsRow};
+ghost use Rattle.lab_search.specs.Stored.{IsStore, AreKnown, LeadsTo, HasEdge, IsNextAt, AreErrorsAt, IsAt, HasEdgeIfEnabled, IsExpanded, IsRow};
 ghost use Rattle.lab_search.specs.Private.Stored.{IsLater, IsAfter, IsStep};
 ghost use Rattle.lab_states.specs.Rows.{Row, row_of};
 
-use crate::store::{Mover, Next, Store};
+use crate::store::{KnownSteps, Mover, Next, Store};
 use ipc_store::are_with;
 use lab_states::{Edge, Parent, digest_after, digest_of, place_of};
 use lab_worlds::{ExploreFault, Limits};
@@ -55,9 +55,12 @@ impl Store {
             == Some(false)))
     }
 
-    /// How many local steps process `pid` takes after its step from the world of a row, as far as that
-    /// is known.
-    pub fn known_steps(&self, at: usize, pid: u32) -> Option<u32> {
+    /// The local steps that process `pid` takes after its step from the world of a row, up to its next
+    /// call, as far as these are known.
+    pub fn known_steps(&self, at: usize, pid: u32) -> Option<KnownSteps>
+        ensures steps { AreKnown self.now → IfSome result (λ steps.
+            AreErrorsAt self.now at pid steps.taken steps.errors) }
+    {
         let (kernel, state) = self.places(at, pid)?;
         let mover = Mover { kernel, pid, state };
         if let Some(footprint) = self.footprint_at(mover) {
@@ -65,10 +68,8 @@ impl Store {
                 return effect.steps();
             }
         }
-        match self.moves.find(mover)? {
-            Next::To { taken, .. } => Some(taken),
-            _ => None,
-        }
+        let next = self.made_next(mover)?;
+        next.steps()
     }
 
     pub(crate) fn next(&mut self, at: usize, pid: u32, most: u32) -> Result<Next, ExploreFault>

@@ -14,7 +14,7 @@ use crate::footprints::{Effect, Footprint};
 use crate::store::{Mover, Next, Store};
 use ipc_kernel::{Call, Kernel};
 use lab_states::{CollapsedState, place_of};
-use lab_worlds::{Attempt, ExploreFault, Limits, Made, try_step};
+use lab_worlds::{Attempt, Errors, ExploreFault, Limits, Made, try_step};
 
 impl Store {
     /// Whether the step of a process in a state over a kernel, which are kept, depends on no other's.
@@ -98,11 +98,13 @@ pub enum KeptAttempt {
     Still,
     /// More local steps than the process may take.
     Runs,
-    /// The kernel after it, and the place of the state of the process after so many local steps.
+    /// The kernel after it, and the place of the state of the process after so many local steps, with
+    /// the errors of those of these steps that are refused.
     Came {
         kernel: Kernel,
         state: u32,
         taken: u32,
+        errors: Errors,
     },
 }
 
@@ -129,6 +131,7 @@ impl Store {
                     kernel,
                     process,
                     taken,
+                    errors,
                 } = made;
                 let behind = CollapsedState { before, process };
                 let state = self.states.keep_behind(self.alloc, behind)?;
@@ -136,6 +139,7 @@ impl Store {
                     kernel,
                     state,
                     taken,
+                    errors,
                 })
             }
         }
@@ -154,12 +158,14 @@ impl Store {
                 kernel,
                 state,
                 taken,
+                errors,
             } => {
                 let number = self.keep_alike(&kernel)?;
                 Ok(Next::To {
                     kernel: number,
                     state,
                     taken,
+                    errors,
                 })
             }
         }
@@ -187,6 +193,7 @@ impl Store {
                 kernel,
                 state,
                 taken,
+                errors,
             } => {
                 let number = self.keep_kernel(&kernel)?;
                 let Some(tables) = self.kernels.tables_at(number, mover.pid as usize) else {
@@ -200,6 +207,7 @@ impl Store {
                     object,
                     state,
                     taken,
+                    errors,
                 })
             }
         }

@@ -1,8 +1,10 @@
 //! The state space as it is stored.
-ghost use Rattle.std.specs.Prelude.{◌≡◌, false, IsTrue, IfOk, OnOk, ◌<◌, [], IfSome};
-ghost use Rattle.ipc_kernel.specs.Kernel.{IsSettled};
+ghost use Rattle.std.specs.Prelude.{ℕ, ◌≡◌, false, IsTrue, IfOk, OnOk, ◌<◌, [], IfSome};
+ghost use Rattle.ipc_kernel.specs.Kernel.{KernelState, IsSettled};
 ghost use Rattle.lab_search.specs.declared.store.Next.TheVariants.{Nothing};
-ghost use Rattle.lab_search.specs.Stored.{IsExactly, IsKernel, IsStore, IsMove, AreMoves};
+ghost use Rattle.lab_search.specs.Stored.{IsExactly, IsKernel, IsStore, IsMove, AreMoves, IsNext};
+ghost use Rattle.lab_sched.specs.Worlds.{Process as Seen};
+ghost use Rattle.lab_worlds.specs.Errors.{IsAnsweredToCall};
 ghost use Rattle.lab_search.specs.Private.Stored.{IsLater};
 ghost use Rattle.lab_search.specs.declared.store.Store.{Store as Kept};
 
@@ -10,6 +12,7 @@ use crate::footprints::Footprints;
 use ipc_kernel::Kernel;
 use ipc_store::{Index, Kernels, arranged};
 use lab_states::{Edges, Parents, Rows, States, place_of as number_of, put};
+use lab_worlds::Errors;
 use std::alloc::{AllocError, Global};
 use std::mem::size_of;
 
@@ -21,8 +24,21 @@ pub enum Next {
     /// More local steps than it may take.
     Limit,
     /// A step of the kernel, and then so many local steps; the places of the kernel and of its
-    /// state then.
-    To { kernel: u32, state: u32, taken: u32 },
+    /// state then, and the errors of those of these steps that are refused.
+    To {
+        kernel: u32,
+        state: u32,
+        taken: u32,
+        errors: Errors,
+    },
+}
+
+/// So many local steps after a step, up to the next call, and the errors with which calls are refused in
+/// all these.
+#[derive(Clone, Copy, Drop)]
+pub struct KnownSteps {
+    pub taken: u32,
+    pub errors: Errors,
 }
 
 impl Next {
@@ -31,6 +47,21 @@ impl Next {
         ensures no { result ≡ false → self ≡ Nothing → ⊥ }
     {
         matches!(self, Next::Nothing)
+    }
+
+    /// The local steps of the process then, if it comes to a call.
+    pub(crate) fn steps(self) -> Option<KnownSteps>
+        ensures steps { IfSome result (λ steps. (t : Kept) (k : KernelState) (p : ℕ) (s : Seen)
+            → IsNext t k p s self → IsAnsweredToCall k p s steps.taken steps.errors) }
+    {
+        match self {
+            Next::Nothing => Some(KnownSteps {
+                taken: 0,
+                errors: Errors::No,
+            }),
+            Next::Limit => None,
+            Next::To { taken, errors, .. } => Some(KnownSteps { taken, errors }),
+        }
     }
 }
 

@@ -26,11 +26,11 @@ fn go_to_edge(
 {
     let pid = edge.pid as usize;
     walk.go_on(pid, number_at(local, pid))?;
-    let taken = visited
+    let known = visited
         .store
-        .known_steps(edge.from as usize, edge.pid as u32)
-        .ok_or(ExploreFault::Unvouched)?;
-    put(local, pid, taken);
+        .known_steps(edge.from as usize, edge.pid as u32);
+    let steps = known.ok_or(ExploreFault::Unvouched)?;
+    put(local, pid, steps.taken);
     Ok(())
 }
 

@@ -4,6 +4,7 @@ pub mod UnwaitingWorlds
 pub mod FewestCalls
 pub mod HeldAdvances
 mod StepsToCalls
+pub mod ErrorLemmas
 pub mod Pushes
 pub mod WalkLemmas
 pub mod FairLassos

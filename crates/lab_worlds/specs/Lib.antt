@@ -7,6 +7,7 @@ pub mod Lassos
 pub mod Fairness
 pub mod Reached
 pub mod Operands
+pub mod Errors
 pub mod Stepped
 pub mod Walked
 pub mod Segments

@@ -12,10 +12,11 @@ use Rattle.lab_worlds.specs.Unwaiting.{GoesOn}
 
 -- process s takes its step as p over kernel k and as q over kernel j: it goes on over k where it does
 -- over j, becomes the same, and what it leaves in place i and in the tables of q over j it leaves in
--- place i and in the tables of p over k, of which it changes nothing else
+-- place i and in the tables of p over k, of which it changes nothing else; and the same is told of it
 pub record IsStepAlike (k j : KernelState) (p q : ℕ) (s : Process) (i : ℕ) : Type 0 where
   pub goes_on : GoesOn (step_effect j q (Some s)) → GoesOn (step_effect k p (Some s))
   pub process : (step_of k p s).process ≡ (step_of j q s).process
+  pub told : (step_of k p s).told ≡ (step_of j q s).told
   pub kernel : (t : OpenTables) (o : Place) → HasOperand (step_of j q s).kernel q i t o
       → (step_of k p s).kernel ≡ with_operand k p i o t
 

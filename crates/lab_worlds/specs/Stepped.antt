@@ -9,6 +9,7 @@ use Rattle.lab_worlds.specs.declared.random_walker.Attempt.{Attempt}
 use Rattle.lab_worlds.specs.declared.random_walker.Attempt.TheVariants.{Still, Runs, Came}
 use Rattle.lab_worlds.specs.Calls.{IsAtCall, IsAhead, Alongside}
 use Rattle.lab_worlds.specs.Unwaiting.{GoesOn}
+use Rattle.lab_worlds.specs.Errors.{IsAnswered}
 
 -- a state that is kept is at a call, and ready for the reply to it
 abbrev pub IsReady : Kept → Type 0
@@ -26,7 +27,7 @@ pub record AreReached (w v : WorldState) : Type 0 where
   pub processes : Alongside IsReached w.processes v.processes
 
 -- what a step of process p makes of it and of the kernel, and of it then all its local steps, as
--- they are
+-- they are, with the errors of those that are refused
 abbrev pub IsStepped : KernelState → ℕ → Process → Attempt → Type 0
 IsStepped k p s Still = GoesOn (step_effect k p (Some s)) → ⊥
 IsStepped k p s Runs = GoesOn (step_effect k p (Some s))
@@ -34,3 +35,4 @@ IsStepped k p s (Came made) =
     (made.kernel ≡ (step_of k p s).kernel) × IsReady made.process
     × IsReached (step_of k p s).process (process_view made.process)
     × GoesOn (step_effect k p (Some s))
+    × IsAnswered k p s made.taken made.errors (process_view made.process)

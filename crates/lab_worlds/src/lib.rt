@@ -4,6 +4,7 @@
 mod ahead;
 mod closed_walks;
 mod ends;
+mod errors;
 mod exploration;
 pub mod laws;
 mod random;
@@ -13,6 +14,7 @@ mod walking;
 pub use ahead::{Ahead, advance, are_alike, copy_before_wait};
 pub use closed_walks::{ClosedWalk, FairSegment, WalkPart};
 pub use ends::{End, end_of};
+pub use errors::Errors;
 pub use exploration::{Exploration, ExploreFault, Lasso, Limits, Observer, Workers};
 pub use random::{Walks, walk_randomly};
 pub use random_walker::{Attempt, Made, discard, try_step};

@@ -8,6 +8,7 @@ ghost use Rattle.lab_worlds.specs.Unwaiting.{GoesOn};
 ghost use Rattle.lab_worlds.specs.Stepped.{IsStepped};
 
 use crate::ahead::{Ahead, advance, run_on};
+use crate::errors::Errors;
 use crate::exploration::ExploreFault;
 use crate::walking::copies;
 use ipc_kernel::{Kernel, PROCESS_MAX};
@@ -179,12 +180,14 @@ impl RandomWalker {
     }
 }
 
-/// A kernel and a process after a step of it, and so many local steps.
+/// A kernel and a process after a step of it, and so many local steps, with the errors of those of
+/// all these that are refused.
 #[derive(Drop)]
 pub struct Made {
     pub kernel: Kernel,
     pub process: Process,
     pub taken: u32,
+    pub errors: Errors,
 }
 
 /// What came of a step.
@@ -229,6 +232,7 @@ pub fn try_step(
         return Err(ExploreFault::Unvouched);
     }
     let stepped = take_step(alloc, &mut process, &mut kernel, pid)?;
+    let errors = Errors::of(&stepped);
     if !goes_on(stepped) {
         return Ok(Attempt::Still);
     }
@@ -240,6 +244,7 @@ pub fn try_step(
         kernel,
         process: ahead.process,
         taken: ahead.taken,
+        errors: errors.and(ahead.errors),
     }))
 }
 

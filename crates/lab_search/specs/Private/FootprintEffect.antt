@@ -10,6 +10,7 @@ use Rattle.lab_sched.specs.Held.{step_of}
 use Rattle.lab_conditions.specs.Conditions.{StandsAt}
 use Rattle.lab_worlds.specs.Unwaiting.{GoesOn}
 use Rattle.lab_worlds.specs.Stepped.{IsReached}
+use Rattle.lab_worlds.specs.Errors.{IsAnswered}
 use Rattle.lab_search.specs.declared.store.Store.{Store}
 use Rattle.lab_search.specs.declared.footprints.Effect.{Effect}
 use Rattle.lab_search.specs.declared.footprints.Effect.TheVariants.{Nothing, Limit, To}
@@ -32,7 +33,7 @@ pub record HasFootprint (t : Store) (k : KernelState) (p : ℕ) (footprint : Foo
 abbrev pub IsOutcome : Store → KernelState → ℕ → Process → ℕ → Effect → Type 0
 IsOutcome t k p s i Nothing = GoesOn (step_effect k p (Some s)) → ⊥
 IsOutcome t k p s i Limit = GoesOn (step_effect k p (Some s))
-IsOutcome t k p s i (To tables object state taken) =
+IsOutcome t k p s i (To tables object state taken errors) =
     (x : OpenTables) × (o : Place) × (u : Process) × AreParts t tables object x o × IsState t state u
     × HasOperand (step_of k p s).kernel p i x o × IsReached (step_of k p s).process u
-    × GoesOn (step_effect k p (Some s))
+    × GoesOn (step_effect k p (Some s)) × IsAnswered k p s taken errors u

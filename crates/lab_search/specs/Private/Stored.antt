@@ -11,6 +11,8 @@ use Rattle.lab_sched.specs.Held.{step_of}
 use Rattle.lab_worlds.specs.Calls.{IsAhead, Alongside}
 use Rattle.lab_worlds.specs.Private.Kept.{Keeps}
 use Rattle.lab_worlds.specs.Stepped.{IsReached}
+use Rattle.lab_worlds.specs.declared.errors.Errors.{Errors}
+use Rattle.lab_worlds.specs.Errors.{IsAnswered}
 use Rattle.lab_worlds.specs.Unwaiting.{GoesOn}
 use Rattle.lab_states.specs.Rows.{Row}
 use Rattle.lab_search.specs.declared.store.Mover.{Mover}
@@ -38,7 +40,7 @@ IsAfter t c j =
 
 -- the process goes on so from the world of the row at its place
 abbrev pub IsStep : Store → Change → Type 0
-IsStep t c = (taken : ℕ) × IsNextAt t c.at c.pid (To c.kernel c.state taken)
+IsStep t c = (taken : ℕ) × (errors : Errors) × IsNextAt t c.at c.pid (To c.kernel c.state taken errors)
 
 -- nothing is lost
 pub record Grows (t u : Store) : Type 0 where
@@ -77,9 +79,10 @@ IsNextBy t u m i effect next =
 abbrev pub IsKeptStep : Store → KernelState → ℕ → Process → KeptAttempt → Type 0
 IsKeptStep t k p s Still = GoesOn (step_effect k p (Some s)) → ⊥
 IsKeptStep t k p s Runs = GoesOn (step_effect k p (Some s))
-IsKeptStep t k p s (Came kernel state taken) =
+IsKeptStep t k p s (Came kernel state taken errors) =
     (u : Process) × (kernel ≡ (step_of k p s).kernel) × IsState t state u
     × IsReached (step_of k p s).process u × GoesOn (step_effect k p (Some s))
+    × IsAnswered k p s taken errors u
 
 -- the same where the kernel, which is settled, and the process are given by their places in a store, and what comes of the step
 -- by its place in a later one

@@ -15,5 +15,5 @@ returns-in-Some c =
     record {
       later = later;
       next = rw c.in-To.is
-          (next_by_changed t _ m c.args.place c.in-Some.kernel c.in-To.tables c.in-To.object c.in-To.state c.in-To.taken later.grows (rw c.in-Some.is at c.in_ok-kernel-in-To.ensures.alike));
+          (next_by_changed t _ m c.args.place c.in-Some.kernel c.in-To.tables c.in-To.object c.in-To.state c.in-To.taken c.in-To.errors later.grows (rw c.in-Some.is at c.in_ok-kernel-in-To.ensures.alike));
     }

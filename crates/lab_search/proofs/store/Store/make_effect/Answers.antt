@@ -38,6 +38,6 @@ returns-in-Some-object_at-clause-footprint_effect c =
     let x = c.in-Some.ensures.tables kernel at in
     let q = c.in-Some-object_at.ensures.object kernel at in
     let has : HasOperand kernel pid place x.0 q.0 = record { tables = x.2; object = q.2 } in
-    footprint_effect_made t v h.0 pid h.1 c.args.footprint (effect.To c.in-Some.tables c.in-Some-object_at.object c.in-Came.state c.in-Came.taken)
+    footprint_effect_made t v h.0 pid h.1 c.args.footprint (effect.To c.in-Some.tables c.in-Some-object_at.object c.in-Came.state c.in-Came.taken c.in-Came.errors)
     (grows_more t u v first.grows then.grows) h.4 h.3 (c.requires.operand h.0 h.2)
-    (x.0, q.0, made.0, (x.1, q.1), state_grows u v c.in-Came.state made.0 then.grows made.2, subst (λ j. HasOperand j pid place x.0 q.0) made.1 has, made.3, made.4)
+    (x.0, q.0, made.0, (x.1, q.1), state_grows u v c.in-Came.state made.0 then.grows made.2, subst (λ j. HasOperand j pid place x.0 q.0) made.1 has, made.3, made.4, made.5)

@@ -28,6 +28,6 @@ returns-in_ok-number-in-Came-clause-next c =
     let v = c.keep_alike.new.self in
     let number = c.in_ok-number-in-Came.number in
     let then = c.in_ok-number-in-Came.ensures.later.grows in
-    move_of_attempt t u v c.args.mover (Came c.in-Came.kernel c.in-Came.state c.in-Came.taken) (next.To number c.in-Came.state c.in-Came.taken) (grows_more t u v c.in_ok-try_move.ensures.later.grows then)
+    move_of_attempt t u v c.args.mover (Came c.in-Came.kernel c.in-Came.state c.in-Came.taken c.in-Came.errors) (next.To number c.in-Came.state c.in-Came.taken c.in-Came.errors) (grows_more t u v c.in_ok-try_move.ensures.later.grows then)
     (subst (IsKeptAttempt t u c.args.mover) c.in-Came.is c.in_ok-try_move.ensures.attempt)
-    (λ made. (made.0, subst (IsKernel v number) made.1 c.in_ok-number-in-Came.ensures.kernel, state_grows u v c.in-Came.state made.0 then made.2, made.3, made.4))
+    (λ made. (made.0, subst (IsKernel v number) made.1 c.in_ok-number-in-Came.ensures.kernel, state_grows u v c.in-Came.state made.0 then made.2, made.3, made.4, made.5))

@@ -35,7 +35,7 @@ returns-in_ok-state-in-Came c =
     let states = grown_by IsReady t.states.processes _ whole (ready_behind made.process (output_at t c.in-Some.collapsed.now.before) stepped.1) state.ensures.kept in
     record {
       later = later_by t u c.requires.store (kept_same t.kernels) states (inl refl) (inl refl) (still_known t c.requires.store);
-      attempt = attempt_behind t u c.args.mover c.in-Some.collapsed.now c.in_ok-process.process k c.in_ok-try_step.field-0 (attempt.Came made) (Came made.kernel state.state made.taken) c.in_ok-process.ensures.equal
+      attempt = attempt_behind t u c.args.mover c.in-Some.collapsed.now c.in_ok-process.process k c.in_ok-try_step.field-0 (attempt.Came made) (Came made.kernel state.state made.taken made.errors) c.in_ok-process.ensures.equal
           (rw c.in-Some-2.is at c.in_ok-kernel.ensures.kept) (rw c.in-Some-2.is at c.in_ok-kernel.ensures.settled) c.in-Some.ensures.whole c.in_ok-try_step.ensures.stepped c.in-Came.is
-          (λ h. (process_view whole, h.0, state.ensures.state, h.2, h.3));
+          (λ h. (process_view whole, h.0, state.ensures.state, h.2, h.3, h.4));
     }

@@ -6,7 +6,7 @@ use Rattle.lab_search.proofs.store.Store.try_process.Goals as goal
 use Rattle.lab_search.proofs.store.Store.try_process.Goals.{else-onward-via-then-onward+else-to-at, else-onward-via-else-onward}
 
 pub keep_after-requires-clause-step : goal.keep_after-requires-clause-step
-keep_after-requires-clause-step c = next_to c.next.new.self c.args.at c.args.pid c.in-To.kernel c.in-To.state _ c.in_ok-next.next c.in-To.is c.in_ok-next.ensures.next
+keep_after-requires-clause-step c = next_to c.next.new.self c.args.at c.args.pid c.in-To.kernel c.in-To.state _ _ c.in_ok-next.next c.in-To.is c.in_ok-next.ensures.next
 
 pub add_edge-requires-clause-leads : goal.add_edge-requires-clause-leads
 add_edge-requires-clause-leads c = rw c.in-Some.is at c.in_ok-to.ensures.row
