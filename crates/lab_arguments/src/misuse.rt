@@ -1,6 +1,7 @@
 //! What is wrong with words that the parser of commands takes one by one.
 
 use crate::request::Refusal;
+use lc3_spelling::is_unseen;
 use std::alloc::Global;
 use std::fmt;
 
@@ -47,7 +48,7 @@ impl fmt::Display for Misuse<'_> {
     }
 }
 
-/// A word of the user as messages show it: a control character is an escape, as `\n` or `\u{1b}`, so that a word is never
+/// A word of the user as messages show it: a character that nobody sees is an escape, as `\n` or `\u{1b}`, so that a word is never
 /// more than its place in a line.
 #[derive(Clone, Copy)]
 pub struct Shown<'a>(pub &'a str);
@@ -55,7 +56,7 @@ pub struct Shown<'a>(pub &'a str);
 impl fmt::Display for Shown<'_> {
     fn fmt<W: fmt::Write>(&self, f: &mut fmt::Formatter<W>) -> fmt::Result {
         for character in self.0.chars() {
-            if character.is_control() {
+            if is_unseen(character) {
                 write!(f, "{}", character.escape_default())?;
             } else {
                 f.write_char(character)?;

@@ -56,19 +56,4 @@ impl Question<'_> {
     pub fn judges(&self) -> bool {
         self.required.is_some() || !self.outputs.is_empty() || !self.never.is_empty()
     }
-
-    /// Whether more is asked than the ends, or ends that have one verdict.
-    pub fn asks_more(&self) -> bool {
-        self.required.are_more_than_a_verdict()
-            || !self.outputs.is_empty()
-            || !self.waiters.is_empty()
-            || !self.never.is_empty()
-            || self.fair
-            || self.out
-            || self.left
-            || self.first
-            || self.random.is_some()
-            || self.json
-            || matches!(self.schedule, Some(Choice::Bad))
-    }
 }

@@ -44,11 +44,6 @@ impl Requirements {
     pub fn lets_wait(self) -> bool {
         matches!(self.rest, Some(Rest::Ended | Rest::Halted))
     }
-
-    /// Whether it isn't just that each end has the verdict `ended`, or `stuck`, or nothing.
-    pub fn are_more_than_a_verdict(self) -> bool {
-        self.empty || self.same || matches!(self.rest, Some(Rest::Halted))
-    }
 }
 
 /// The words of a text, between commas.

@@ -18,7 +18,7 @@ Example:
 };
 
 /// The commands, in the order of help. Each example works as it stands.
-const COMMANDS: &[CommandRow] = &[
+pub(crate) const COMMANDS: &[CommandRow] = &[
     CommandRow {
         name: "asm",
         about: "Assembles a source and writes its object file",
@@ -100,7 +100,8 @@ Example:
 
 /// The machine of a source.
 const MACHINE: &str =
-    "The machine that the warnings are about: a is the book's; in b a trap leaves R7";
+    "The machine that the warnings are about: a is the book's second edition; in b, that of its third edition and of lc3tools, \
+LEA sets no codes and a trap leaves R7";
 
 /// The programs of a laboratory.
 const GIVEN: &str =
@@ -130,7 +131,8 @@ macro_rules! rows_of {
         rows! {
             "PROGRAM", Takes::Places, $given;
             "profile", Takes::Profile,
-                "The machine: a is the book's; in b LEA sets no codes and a trap leaves R7";
+                "The machine: a is the book's second edition; in b, that of its third edition and of lc3tools, \
+LEA sets no codes and a trap leaves R7";
             "notes", Takes::Nothing,
                 "Tells calls that were refused, and warnings of sources, on standard error, as at a terminal";
             "quiet", Takes::Nothing, "Tells no notes and no advice, also at a terminal";

@@ -1,14 +1,17 @@
 -- What is asked of conditions, and of calls.
-use Rattle.std.proofs.Common.{◌≡◌, ℕ, Bool, ◌+◌, ◌<◌, ◌≤◌, true, false, List, [], ◌∷◌, ◌++◌, Some, None, Bor, length, take, get_or, sym, subst, All, Any, arith}
-use Rattle.std.proofs.lemmas.List.{take_all}
+use Rattle.std.proofs.Common.{◌≡◌, ◌∙◌, ℕ, ◌+◌, ◌<◌, ◌≤◌, true, false, List, [], ◌∷◌, ◌++◌, Some, None, Bor, length, map, take, get_or, append-nil, ap, sym, subst, All, Any, flat_map, arith}
+use Rattle.std.proofs.lemmas.List.{map-append, take_all, take_more}
 use Rattle.std.proofs.lemmas.Grind.{common_steps}
 use Rattle.std.proofs.lemmas.List.Elements.{All-more, All-weaker}
 use Rattle.std.proofs.lemmas.List.Quantifiers.{Any-push}
+use Rattle.std.proofs.lemmas.Option.{slice_get-get_or}
 use Rattle.lab_conditions.specs.declared.never.Never.{Never}
 use Rattle.lab_conditions.specs.declared.never.Never.TheVariants.{Holds, Lost, Refused}
 use Rattle.lab_conditions.specs.Written.{words, condition_in, are_lost, refusal_in, Writes}
-use Rattle.lab_ways.specs.declared.wanted.Wanted.{Wanted}
-use Rattle.lab_commands.specs.Private.Inquiries.{IsAsked, AsksSo, IsAskedOfCalls}
+use Rattle.lab_worlds.specs.Calls.{Alongside}
+use Rattle.lab_worlds.proofs.Pushes.{alongside_push}
+use Rattle.lab_questions.proofs.ListLemmas.{flat_map-next}
+use Rattle.lab_commands.specs.Asking.{IsAsked}
 
 -- what is among some is among them with others behind
 any_with : {A : Type 0} (P : A → Type 0) (xs ys : List A) → Any P xs → Any P (xs ++ ys)
@@ -33,13 +36,36 @@ pub asked_unread : (nevers : List Never) (text : List ℕ) → condition_in text
     → IsAsked nevers text
 asked_unread nevers text none lost refused n w = absurd (writes_none text n none lost refused w)
 
--- what is asked of calls stays asked, where more is
-pub called_with : (never : Bool) (wanted more : List Wanted) (text : List ℕ) → IsAskedOfCalls never wanted text → IsAskedOfCalls never (wanted ++ more) text
-called_with never wanted more text asked w = any_with (AsksSo never text) wanted more (asked w)
+-- where nothing is added, nothing stands beside it
+pub along_same : {A B : Type 0} (R : A → B → Type 0) (xs more : List A) (ys : List B) → more ≡ [] → Alongside R xs ys → Alongside R (xs ++ more) ys
+along_same R xs more ys none along = subst (λ zs. Alongside R zs ys) (sym (ap (λ m. xs ++ m) none ∙ append-nil xs)) along
 
--- it is asked where it stands behind others
-pub called_last : (never : Bool) (wanted : List Wanted) (one : Wanted) (text : List ℕ) → AsksSo never text one → IsAskedOfCalls never (wanted ++ one ∷ []) text
-called_last never wanted one text asks w = Any-push (AsksSo never text) wanted one asks
+-- one of each is added
+pub along_with : {A B : Type 0} (R : A → B → Type 0) (xs more : List A) (ys news : List B) (x : A) (y : B) → more ≡ x ∷ [] → news ≡ ys ++ y ∷ [] → R x y
+    → Alongside R xs ys → Alongside R (xs ++ more) news
+along_with R xs more ys news x y one pushed here along =
+    subst (λ m. Alongside R (xs ++ m) news) (sym one) (subst (Alongside R (xs ++ x ∷ [])) (sym pushed) (alongside_push R xs ys x y along here))
+
+-- what the words so far and one more add
+pub along_next : {A B X : Type 0} (R : A → B → Type 0) (f : X → List A) (before : List A) (words : List X) (i : ℕ) (d x : X) (olds news : List B)
+    → i < length words → x ≡ get_or words i d → Alongside R (before ++ flat_map f (take i words)) olds
+    → ((front : List A) → Alongside R front olds → Alongside R (front ++ f x) news) → Alongside R (before ++ flat_map f (take (i + 1) words)) news
+along_next R f before words i d x olds news within is along adds =
+    subst (λ zs. Alongside R zs news) (flat_map-next f before words i x (slice_get-get_or words i d within ∙ ap Some (sym is))) (adds (before ++ flat_map f (take i words)) along)
+
+-- all words, where there are no more
+pub along_all : {A B X : Type 0} (R : A → B → Type 0) (f : X → List A) (before : List A) (words : List X) (i : ℕ) (ys : List B) → length words ≤ i
+    → Alongside R (before ++ flat_map f (take i words)) ys → Alongside R (before ++ flat_map f words) ys
+along_all R f before words i ys done along = subst (λ ws. Alongside R (before ++ flat_map f ws) ys) (take_all i words done) along
+
+-- one more beside the words so far
+pub along_map : {A B X : Type 0} (R : A → B → Type 0) (f : X → A) (words : List X) (i : ℕ) (d : X) (olds news : List B) (y : B) → i < length words
+    → Alongside R (map f (take i words)) olds → R (f (get_or words i d)) y → news ≡ olds ++ y ∷ [] → Alongside R (map f (take (i + 1) words)) news
+along_map R f words i d olds news y within along here pushed =
+    let x = get_or words i d in
+    let more : map f (take (i + 1) words) ≡ map f (take i words) ++ f x ∷ [] = ap (map f) (take_more words i d within) ∙ map-append f (take i words) (x ∷ []) in
+    subst (λ zs. Alongside R zs news) (sym more)
+    (subst (Alongside R (map f (take i words) ++ f x ∷ [])) (sym pushed) (alongside_push R (map f (take i words)) olds (f x) y along here))
 
 -- of all these words it stays asked
 pub still_asked : {W : Type 0} (P : List W → List ℕ → Type 0) → ((ws more : List W) (text : List ℕ) → P ws text → P (ws ++ more) text)

@@ -1,6 +1,6 @@
+pub mod Asking
 pub mod Complaints
 pub mod Found
 pub mod Plain
 pub mod Runs
 pub mod Told
-pub mod Private

@@ -37,8 +37,17 @@ pub(crate) fn line_on(
     if word.is_none() && may_end {
         return None;
     }
-    unknown(alloc, word, place.text(), meant)
+    let text = match (place, word) {
+        (Place::Start, Some(word)) if OF_ENDS.contains(&word) => {
+            "of ends --require is asked, as --require halted"
+        }
+        _ => place.text(),
+    };
+    unknown(alloc, word, text, meant)
 }
+
+/// Words that people write of ends, where a condition stands.
+const OF_ENDS: [&str; 6] = ["stuck", "deadlock", "halted", "empty", "same", "endless"];
 
 /// Says that a word isn't understood, or is missing, what may stand there, and what was meant, if that is known, where memory
 /// allows it.

@@ -1,7 +1,9 @@
 //! The command `check`: all messages about sources.
 ghost use Rattle.std.specs.Prelude.{◌≡◌, true, false, IfOk, OnOk, OnErr, string_bytes};
 ghost use Rattle.std.specs.Option.{option_map, option_copied};
-ghost use Rattle.lab_commands.specs.Complaints.{asks_verdict_alone, failure_of, complains};
+ghost use Rattle.lab_commands.specs.Complaints.{are_judged, complains};
+ghost use Rattle.lab_sched.specs.Worlds.{WorldState};
+ghost use Rattle.lab_commands.specs.Found.{IsFound, HoldsAll};
 ghost use Rattle.lab_commands.specs.Told.{numbered_end, IsChosen, Tells, HasTold, HasBegun};
 
 use crate::advice::advice_line;
@@ -12,7 +14,7 @@ use crate::job::{Job, Progress};
 use lab_arguments::{Choice, Shown};
 use lab_io::Output;
 use lab_places::{Numbered, placed};
-use lab_questions::{Answers, Failure, Word, answers_json};
+use lab_questions::{Answers, Failure, answers_json};
 use lab_worlds::End;
 use lc3_messages::{Report, Wish, report_on};
 use lc3_table::Profile;
@@ -81,7 +83,8 @@ pub fn check_sources<T: Files, E: Write, P>(
 }
 
 /// Writes what was found, with where processes stand in these sources, says which objects that conditions name nobody opens,
-/// and complains where memory was refused on the way, or not all is as it has to be.
+/// and complains where memory was refused on the way, or not all is as it has to be. Where it doesn't complain, all that was asked
+/// is so, whatever steps are taken.
 #[tactic(auto, using(crate::proofs::TellingLemmas::nothing_told, crate::proofs::TellingLemmas::has_told, crate::proofs::TellingLemmas::has_begun, crate::proofs::TellingLemmas::all_begun))]
 pub fn tell_ends<T, W: Write, P: Progress>(
     job: &Job<'_, T, P>,
@@ -95,6 +98,8 @@ pub fn tell_ends<T, W: Write, P: Progress>(
     ensures prefix { OnErr result (HasBegun sources.now search.now
         (W.contents output.old.device) (W.contents output.new.device)) }
     ensures passes { OnOk result (complains search.now ≡ false) }
+    ensures holds { OnOk result ((start : WorldState) → IsFound start search.now
+        → HoldsAll start search.now.answers) }
 {
     write_bytes(&told_of(job.alloc, sources, search)?, output)?;
     for object in &search.answers.unopened {
@@ -154,35 +159,15 @@ fn numbered_end(found: &Answers, number: usize) -> Option<&End>
     found.end(number.checked_sub(1)?)
 }
 
-/// Whether no more is required than that each end has one verdict, be what is told of the ends as it may.
-fn is_of_verdict(search: &Search) -> bool
-    ensures alone { result ≡ asks_verdict_alone search.now }
+/// Whether something has to be so.
+fn are_judged(found: &Answers) -> bool
+    ensures judged { result ≡ are_judged found.now }
 {
-    let asked = &search.answers.asked;
-    search.inquiry.reach.walks.is_none()
+    let asked = &found.asked;
+    !(found.answers.is_empty()
         && asked.outputs.is_empty()
-        && asked.waiters.is_empty()
         && asked.never.is_empty()
-        && asked.wanted.is_empty()
-        && matches!(asked.words.as_slice(), [Word::Ended] | [Word::Stuck])
-}
-
-/// Why not all is shown to be as it is required. Of a verdict alone what wasn't visited counts first, and then what never ends;
-/// but a search that ended with what it found was to visit no more.
-fn failure_of(search: &Search) -> Option<Failure>
-    ensures failure { result ≡ failure_of search.now }
-{
-    let found = &search.answers.exploration;
-    if !is_of_verdict(search) {
-        return search.answers.failure;
-    }
-    if !found.complete && !search.inquiry.reach.is_stage {
-        return Some(Failure::Incomplete);
-    }
-    match found.lasso {
-        Some(_) => Some(Failure::Endless),
-        None => search.answers.failure,
-    }
+        && asked.wanted.is_empty())
 }
 
 /// Complains where something has to be so and isn't, or where memory was refused on the way.
@@ -192,14 +177,12 @@ fn complain(alloc: Global, search: &Search) -> Result<(), Complaint<'static>>
 {
     let asked = &search.answers.asked;
     let refused = search.answers.exploration.refused;
-    let judges = asked.judges();
-    match failure_of(search) {
+    let judges = are_judged(&search.answers);
+    match search.answers.failure {
         Some(Failure::Incomplete) if refused => Err(Reason::NoMemory.at("run")),
         Some(Failure::Incomplete) if judges => Err(unmet(alloc, "incomplete", "")),
         Some(Failure::Incomplete) | None => Ok(()),
         Some(Failure::Endless) => Err(unmet(alloc, "endless", "")),
-        Some(Failure::Not(Word::Ended)) if is_of_verdict(search) => Err(unmet(alloc, "stuck", "")),
-        Some(Failure::Not(Word::Stuck)) if is_of_verdict(search) => Err(unmet(alloc, "ended", "")),
         Some(Failure::Not(word)) => Err(unmet(alloc, "not ", word.text())),
         Some(Failure::Output(number)) => {
             let need = asked.outputs.get(number);

@@ -1,6 +1,8 @@
 //! The command `explore`, and what a search took.
 ghost use Rattle.std.specs.Prelude.{◌≡◌, IfOk, IfSome, ◌≤◌, None, IsTrue};
 ghost use Rattle.lab_sched.specs.Starts.{fresh};
+ghost use Rattle.lab_arguments.specs.declared.question.Question.{Question as Questioned};
+ghost use Rattle.lab_commands.specs.Asking.{AsksFor, IsAskedBy};
 ghost use Rattle.lab_commands.specs.Found.{IsFound, IsFoundBy};
 ghost use Rattle.lab_commands.specs.Told.{names_no_limit, limit_of_worlds};
 
@@ -43,6 +45,7 @@ pub fn find_ends<'a, T: Threads + Sync, P: Progress>(
     question: &Question<'a>,
 ) -> Result<Search, Complaint<'a>>
     ensures found { IfOk result (λ s. IsFound (fresh profile given.now.programs.items) s) }
+    ensures asked { IfOk result (λ s. IsAskedBy question.now s.answers) }
 {
     let inquiry = inquiry_of(question);
     if question.first {
@@ -76,6 +79,7 @@ fn searched<'a, T: Threads + Sync, P: Progress>(
     inquiry: Inquiry,
 ) -> Result<Search, Complaint<'a>>
     ensures found { IfOk result (λ s. IsFound (fresh profile given.now.programs.items) s) }
+    ensures asked { IfOk result (λ s. IsAskedBy question.now s.answers) }
 {
     let asked = asked_of(job.alloc, question, given.sources.as_slice())?;
     let fresh = laboratory(job.alloc, given.programs.as_slice(), profile)?;
@@ -91,7 +95,6 @@ fn searched<'a, T: Threads + Sync, P: Progress>(
 
 /// Visits every interleaving of the programs of a laboratory, which is given twice, or takes the walks of an inquiry, and judges
 /// what is asked.
-#[tactic(auto, using(crate::proofs::FoundLemmas::are_walked))]
 fn explore<T: Threads + Sync, P: Progress>(
     job: &Job<'_, T, P>,
     fresh: Fresh,
@@ -101,6 +104,8 @@ fn explore<T: Threads + Sync, P: Progress>(
 ) -> Result<Answers, ExploreFault>
     requires same { again ≡ fresh }
     ensures found { IfOk result (λ a. IsFoundBy inquiry.now.reach.walks fresh a) }
+    ensures asked { IfOk result (λ a. (question : Questioned)
+        → AsksFor question asked.words.items asked → IsAskedBy question a) }
 {
     let Reach { limits, walks, .. } = inquiry.reach;
     match walks {

@@ -4,10 +4,12 @@ ghost use Rattle.std.specs.Char.{to_ascii_lowercase};
 ghost use Rattle.std.specs.Io.KnownBytes.{Appends};
 ghost use Rattle.lab_io.specs.Device.{AppendsPrefix};
 
+use crate::advice::advice_line;
 use crate::complaint::{At, Complaint, Reason};
-use lab_arguments::Shown;
+use lab_arguments::{Shown, program_of};
 use lab_hex::{CliFault, read_whole};
 use lab_io::{Input, Output};
+use lab_sched::Schedule;
 use lc3_obj::{ObjFault, write_image};
 use lc3_word::Image;
 use std::alloc::Global;
@@ -59,20 +61,50 @@ pub fn read_code<'a, T: Files>(
     match read_file(rt, alloc, name) {
         Err(CliFault::Read) => {
             let complaint = Complaint::new(alloc, name, CliFault::Read);
-            Err(complaint.followed(source_meant(rt, alloc, name)))
+            Err(complaint.followed(meaning_of(rt, alloc, name)))
         }
         outcome => outcome.at(alloc, name),
     }
 }
 
-/// The line that names the source which was meant by a name without its `.asm`, where that is there and memory allows it.
+/// The line that says what was meant by the name of a file that can't be read, if that is known and memory allows it: a source
+/// by its name without `.asm`, a program by its word with console input, or a schedule.
+fn meaning_of<T: Files>(rt: &T, alloc: Global, name: &str) -> Option<String> {
+    if let Some(text) = source_meant(rt, alloc, name) {
+        return Some(text);
+    }
+    let (program, _) = program_of(name);
+    if program.len() < name.len() && is_file(rt, program) {
+        let told = format_args!("{}: no console input is taken here", Shown(name));
+        return advice_line(alloc, told, Some(program)).ok();
+    }
+    schedule_meant(alloc, name)
+}
+
+/// The line on a name without the ending of a source that is there.
 fn source_meant<T: Files>(rt: &T, alloc: Global, name: &str) -> Option<String> {
     let source = format!(in alloc; "{name}.asm").ok()?;
     if !is_file(rt, &source) {
         return None;
     }
-    let (name, source) = (Shown(name), Shown(&source));
-    format!(in alloc; "lc3lab: {name}: did you mean {source}?\n").ok()
+    format!(in alloc;
+        "lc3lab: {}: did you mean {}?\n",
+        Shown(name),
+        Shown(&source)
+    )
+    .ok()
+}
+
+/// The line on a schedule that stands in the place of a file.
+fn schedule_meant(alloc: Global, name: &str) -> Option<String> {
+    if !name.contains('*') || Schedule::read(alloc, name).is_err() {
+        return None;
+    }
+    let word = Shown(name);
+    let told = format_args!(
+        "{word}: is a schedule; step and trace read one from standard input, as echo '{word}' | lc3lab trace PROGRAM"
+    );
+    advice_line(alloc, told, None).ok()
 }
 
 /// The bytes of a file, at most 4,000,000: a file with more is refused as too large.

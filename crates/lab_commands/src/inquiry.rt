@@ -1,8 +1,9 @@
 //! What is asked of an exploration, read from words.
-ghost use Rattle.std.specs.Prelude.{◌≡◌, ◌++◌, List, true, false, length, All, IfOk, OnOk};
+ghost use Rattle.std.specs.Prelude.{◌≡◌, ◌++◌, Bool, List, Ok, Err, None, ℕ, flat_map, map, All, IfOk, IfSome, OnOk};
 ghost use Rattle.lab_conditions.specs.declared.never.Never.{Never as Condemned};
-ghost use Rattle.lab_commands.specs.Private.Inquiries.{required_words, IsAsked, IsAskedOfCalls, AsksSo};
-ghost use Rattle.lab_ways.specs.declared.wanted.Wanted.{Wanted as Sought};
+ghost use Rattle.lab_conditions.specs.declared.reading.ReadFault.TheVariants.{NoCondition};
+ghost use Rattle.lab_worlds.specs.Calls.{Alongside};
+ghost use Rattle.lab_commands.specs.Asking.{required_words, output_if, call_if, process_alone, waiter_at, waiter_in, AsksFor, IsAsked, AsksSo, IsNeeded, IsSaid, IsSought, MayBe};
 
 use crate::advice::{line_on, meant_by};
 use crate::complaint::{Complaint, Misuse};
@@ -11,11 +12,11 @@ use crate::places::Place;
 use crate::resolving::{need_in, outlined};
 use lab_arguments::{Choice, Question, Requirements, Rest, is_of_calls};
 use lab_conditions::{Condition, Never, Part, ReadFault, State};
-use lab_questions::{Asked, CallWord, Reach, Show, Waiter, Word, read_calls};
+use lab_questions::{Asked, CallWord, OutputNeed, Reach, Show, Waiter, Word, read_calls};
 use lab_sources::Source;
 use lab_ways::Wanted;
 use lab_worlds::{Limits, Walks};
-use lc3_word::unsigned;
+use lc3_word::{unsigned, words_between};
 use std::alloc::{AllocError, Global};
 
 const MEGABYTE: usize = 1_048_576;
@@ -62,29 +63,14 @@ pub fn asked_of<'a>(
     question: &Question<'a>,
     sources: &[Option<Source>],
 ) -> Result<Asked, Complaint<'a>>
-    ensures words { IfOk result (λ asked. asked.words.items
-        ≡ required_words question.now.required) }
-    ensures waiters { IfOk result (λ asked.
-        length asked.waiters.items ≡ length question.now.waiters.items) }
-    ensures never { IfOk result (λ asked.
-        All (λ word. IsAsked asked.never.items word.now) question.now.never.items) }
-    ensures calls { IfOk result (λ asked. All (λ word.
-        IsAskedOfCalls false asked.wanted.items word.now) question.now.outputs.items) }
-    ensures never_called { IfOk result (λ asked. All (λ word.
-        IsAskedOfCalls true asked.wanted.items word.now) question.now.never.items) }
-    ensures fair { IfOk result (λ asked. asked.fair ≡ question.now.fair) }
-    ensures out { IfOk result (λ asked. asked.show.out ≡ question.now.out) }
-    ensures left { IfOk result (λ asked. asked.show.left ≡ question.now.left) }
+    ensures asked { IfOk result (λ asked. AsksFor question.now asked.words.items asked) }
 {
     let count = sources.len();
     let outputs = question.outputs.as_slice();
     let never = question.never.as_slice();
-    let needs = outputs.iter().copied().filter(|word| !is_of_calls(word));
     let mut asked = Asked {
         words: words_required(alloc, question.required)?,
-        outputs: needs
-            .map(|word| need_in(alloc, word, count))
-            .try_collect(alloc)?,
+        outputs: needs_of(alloc, outputs, count)?,
         waiters: waiters_of(alloc, question.waiters.as_slice(), sources)?,
         never: nevers_of(alloc, never, sources)?,
         call_words: Vec::new(alloc),
@@ -94,7 +80,7 @@ pub fn asked_of<'a>(
             out: question.out,
             left: question.left,
         },
-        plain: !question.asks_more(),
+        plain: false,
     };
     push_calls(
         &mut asked.call_words,
@@ -193,28 +179,77 @@ fn words_required(alloc: Global, required: Requirements) -> Result<Vec<Word>, Al
     Ok(words)
 }
 
+/// What words require of outputs, but those that are of calls.
+fn needs_of<'a>(
+    alloc: Global,
+    words: &[&'a str],
+    count: usize,
+) -> Result<Vec<OutputNeed>, Complaint<'a>>
+    ensures needs { IfOk result (λ needs. Alongside IsNeeded
+        (flat_map (λ word. output_if word.now) words.now) needs.items) }
+{
+    let mut needs = Vec::new(alloc);
+    for word in words {
+        push_need(&mut needs, word, count)?;
+    }
+    Ok(needs)
+}
+
+/// Adds what a word requires of outputs, unless it is of calls.
+fn push_need<'a>(
+    needs: &mut Vec<OutputNeed>,
+    word: &'a str,
+    count: usize,
+) -> Result<(), Complaint<'a>>
+    ensures need { OnOk result ((before : List (List ℕ)) → Alongside IsNeeded before needs.old.items
+        → Alongside IsNeeded (before ++ output_if word.now) needs.new.items) }
+{
+    if is_of_calls(word) {
+        return Ok(());
+    }
+    needs.push(need_in(*needs.allocator(), word, count)?)?;
+    Ok(())
+}
+
+/// The processes that may wait by words, each as its word writes it, or as it is meant where it has labels.
 fn waiters_of<'a>(
     alloc: Global,
     words: &[&'a str],
     sources: &[Option<Source>],
 ) -> Result<Vec<Waiter>, Complaint<'a>>
-    ensures count { IfOk result (λ waiters. length waiters.items ≡ length words.now) }
+    ensures waiters { IfOk result (λ waiters. Alongside MayBe
+        (map (λ word. word.now) words.now) waiters.items) }
 {
     let mut waiters = Vec::new(alloc);
     for word in words {
-        let labelled = Labelled {
-            alloc,
-            sources,
-            word: *word,
-            unfit: Misuse::UnfitWaiter,
-        };
-        let text = labelled.resolved(word)?;
-        match read_waiter(alloc, &text)? {
-            Some(waiter) => waiters.push(waiter)?,
-            None => return Err(labelled.reversed(&text)),
-        }
+        let waiter = waiter_of(alloc, word, sources)?;
+        waiters.push(waiter)?;
     }
     Ok(waiters)
+}
+
+/// The process that may wait by a word.
+fn waiter_of<'a>(
+    alloc: Global,
+    word: &'a str,
+    sources: &[Option<Source>],
+) -> Result<Waiter, Complaint<'a>>
+    ensures waiter { IfOk result (λ waiter. MayBe word.now waiter) }
+{
+    if let Some(waiter) = read_waiter(alloc, word)? {
+        return Ok(waiter);
+    }
+    let labelled = Labelled {
+        alloc,
+        sources,
+        word,
+        unfit: Misuse::UnfitWaiter,
+    };
+    let text = labelled.resolved(word)?;
+    match read_waiter(alloc, &text)? {
+        Some(waiter) => Ok(waiter),
+        None => Err(labelled.reversed(&text)),
+    }
 }
 
 fn nevers_of<'a>(
@@ -277,7 +312,10 @@ fn never_in<'a>(labelled: &Labelled<'_, 'a>, text: &str) -> Result<Never, Compla
     }
 }
 
-fn read_or_none<T: Drop>(read: Result<T, ReadFault>) -> Result<Option<T>, AllocError> {
+fn read_or_none<T: Drop>(read: Result<T, ReadFault>) -> Result<Option<T>, AllocError>
+    ensures some { IfOk result (λ found. IfSome found (λ value. read ≡ Ok value)) }
+    ensures none { IfOk result (λ found. found ≡ None → read ≡ Err NoCondition) }
+{
     match read {
         Ok(read) => Ok(Some(read)),
         Err(ReadFault::NoCondition) => Ok(None),
@@ -285,17 +323,21 @@ fn read_or_none<T: Drop>(read: Result<T, ReadFault>) -> Result<Option<T>, AllocE
     }
 }
 
-/// `P`, which may wait anywhere, or `P at A` or `P at A-B`, if a text is that.
-fn read_waiter(alloc: Global, text: &str) -> Result<Option<Waiter>, AllocError> {
-    if let Some(process) = unsigned(10, text.trim_matches(' ').as_bytes()) {
-        return Ok(Some(Waiter {
-            process: process as usize,
-            first: 0,
-            last: 0xFFFF,
-        }));
+/// The process that one word names, if it is alone.
+fn process_alone(words: &[&[u8]]) -> Option<usize>
+    ensures process { result ≡ process_alone (map (λ word. word.now) words.now) }
+{
+    match words {
+        [word] => unsigned(10, word).map(|number| number as usize),
+        _ => None,
     }
-    let condition = read_or_none(Condition::read(alloc, text))?;
-    Ok(condition.and_then(|condition| match condition.parts.as_slice() {
+}
+
+/// The process of a condition that it stands at a place, if a condition is that.
+fn waiter_at(parts: &[Part]) -> Option<Waiter>
+    ensures waiter { result ≡ waiter_at parts.now }
+{
+    match parts {
         [
             Part::Of {
                 process,
@@ -307,7 +349,25 @@ fn read_waiter(alloc: Global, text: &str) -> Result<Option<Waiter>, AllocError> 
             last: *last,
         }),
         _ => None,
-    }))
+    }
+}
+
+/// `P`, which may wait anywhere, or `P at A` or `P at A-B`, if a text is that.
+fn read_waiter(alloc: Global, text: &str) -> Result<Option<Waiter>, AllocError>
+    ensures waiter { IfOk result (λ read. read ≡ waiter_in text.now) }
+{
+    let words = words_between(alloc, b" ", text.as_bytes())?;
+    if let Some(process) = process_alone(&words) {
+        return Ok(Some(Waiter {
+            process,
+            first: 0,
+            last: 0xFFFF,
+        }));
+    }
+    match read_or_none(Condition::read(alloc, text))? {
+        Some(condition) => Ok(waiter_at(&condition.parts)),
+        None => Ok(None),
+    }
 }
 
 /// Adds what words of `--require`, or of `--never`, ask of the calls of so many processes: as they say it, and as what has to be
@@ -319,10 +379,14 @@ fn push_calls<'a>(
     never: bool,
     count: usize,
 ) -> Result<(), Complaint<'a>>
-    ensures more { OnOk result ((more : List Sought)
-        × (wanted.new.items ≡ wanted.old.items ++ more)) }
-    ensures each { OnOk result (
-        All (λ word. IsAskedOfCalls never wanted.new.items word.now) words.now) }
+    ensures said { OnOk result ((before : List (Bool × List ℕ))
+        → Alongside IsSaid before texts.old.items
+        → Alongside IsSaid (before ++ flat_map (λ word. call_if never word.now) words.now)
+        texts.new.items) }
+    ensures sought { OnOk result ((before : List (Bool × List ℕ))
+        → Alongside IsSought before wanted.old.items
+        → Alongside IsSought (before ++ flat_map (λ word. call_if never word.now) words.now)
+        wanted.new.items) }
 {
     for word in words {
         push_call(texts, wanted, word, never, count)?;
@@ -330,7 +394,6 @@ fn push_calls<'a>(
     Ok(())
 }
 
-#[tactic(auto, using(crate::proofs::AskedLemmas::called_last))]
 fn push_call<'a>(
     texts: &mut Vec<CallWord>,
     wanted: &mut Vec<Wanted>,
@@ -338,9 +401,12 @@ fn push_call<'a>(
     never: bool,
     count: usize,
 ) -> Result<(), Complaint<'a>>
-    ensures more { OnOk result ((more : List Sought)
-        × (wanted.new.items ≡ wanted.old.items ++ more)) }
-    ensures asked { OnOk result (IsAskedOfCalls never wanted.new.items word.now) }
+    ensures said { OnOk result ((before : List (Bool × List ℕ))
+        → Alongside IsSaid before texts.old.items
+        → Alongside IsSaid (before ++ call_if never word.now) texts.new.items) }
+    ensures sought { OnOk result ((before : List (Bool × List ℕ))
+        → Alongside IsSought before wanted.old.items
+        → Alongside IsSought (before ++ call_if never word.now) wanted.new.items) }
 {
     if !is_of_calls(word) {
         return Ok(());

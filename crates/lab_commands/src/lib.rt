@@ -30,4 +30,4 @@ pub use inquiry::{Inquiry, refuse_question};
 pub use job::{Job, Progress, Texts};
 pub use programs::{Programs, laboratory, read_programs};
 pub use run::run_given;
-pub use step::{read_schedule, report_given};
+pub use step::{process_advice, read_schedule, report_given};

@@ -1,5 +1,7 @@
 //! Conditions with addresses in the place of labels, and conditions that speak of labels of no process, as such that name
 //! processes.
+ghost use Rattle.std.specs.Prelude.{IfOk};
+ghost use Rattle.lab_commands.specs.Asking.{IsNeeded};
 
 use crate::advice::{reached, unknown, words_of};
 use crate::complaint::{Complaint, Misuse};
@@ -175,7 +177,9 @@ pub(crate) fn need_in<'a>(
     alloc: Global,
     word: &'a str,
     count: usize,
-) -> Result<OutputNeed, Complaint<'a>> {
+) -> Result<OutputNeed, Complaint<'a>>
+    ensures need { IfOk result (IsNeeded word.now) }
+{
     let Some(need) = OutputNeed::read(alloc, word)? else {
         return Err(Misuse::NoOutput.of(word).followed(advice_on(alloc, word)));
     };

@@ -6,7 +6,7 @@ ghost use Rattle.lab_sched.specs.Schedules.{steps_of};
 ghost use Rattle.lab_texts.specs.Reports.{report_text};
 ghost use Rattle.lab_commands.specs.Runs.{IsReport};
 
-use crate::advice::unknown;
+use crate::advice::{advice_line, unknown};
 use crate::complaint::{At, Complaint, Reason};
 use crate::job::{Job, Progress, StepCount};
 use crate::programs::{Programs, laboratory};
@@ -45,8 +45,32 @@ fn plain_report<T, P: Progress>(
     let mut count = StepCount::new(job.alloc, job.progress, schedule.total());
     let outcome = world.run_watched(schedule, &mut count);
     count.clear();
-    outcome.at(job.alloc, "run")?;
-    Ok(report_text(job.alloc, &world)?)
+    match outcome {
+        Ok(()) => Ok(report_text(job.alloc, &world)?),
+        Err(stop) => {
+            let complaint = Complaint::new(job.alloc, "run", stop);
+            Err(complaint.followed(process_advice(job, schedule, programs.len())))
+        }
+    }
+}
+
+/// The line that says, where somebody looks, which processes there are, if a block of a schedule names none of so many.
+pub fn process_advice<T, P: Progress>(
+    job: &Job<'_, T, P>,
+    schedule: &Schedule,
+    count: usize,
+) -> Option<String> {
+    if !job.advises() {
+        return None;
+    }
+    let block = schedule.blocks().iter().find(|block| block.pid >= count)?;
+    let last = count.saturating_sub(1);
+    let told = match last {
+        0 => format!(in job.alloc; "{block}: names no process; there is process 0 alone"),
+        1 => format!(in job.alloc; "{block}: names no process; there are processes 0 and 1"),
+        _ => format!(in job.alloc; "{block}: names no process; there are processes 0 to {last}"),
+    };
+    advice_line(job.alloc, told.ok()?, None).ok()
 }
 
 /// The schedule that a whole input writes. Where a word of it is no block, and somebody looks, a line says what one is.

@@ -10,7 +10,7 @@ mod script;
 
 pub use lab_session::Session;
 pub use lab_texts::{dis_text, mem_text, mqs_text, procs_text, regs_text, sems_text, status_text};
-pub use script::{SessionFault, session, session_over};
+pub use script::{Audience, Nobody, SessionFault, session, session_over};
 
 /// The most bytes of a line, without its line feed.
 pub const LINE_LIMIT: usize = 65_536;

@@ -21,11 +21,26 @@ use std::io::{Read, Write};
 use std::marker::Model;
 use thiserror::Error;
 
-fn perform_lines<R: Read, W: Write>(
+/// Who hears what the lines of a session are answered.
+pub trait Audience {
+    /// Hears a line, without its line feed, and the text that was written for it.
+    fn hear(&self, line: &[u8], text: &[u8]);
+}
+
+/// An audience of nobody.
+#[derive(Clone, Copy)]
+pub struct Nobody;
+
+impl Audience for Nobody {
+    fn hear(&self, _line: &[u8], _text: &[u8]) {}
+}
+
+fn perform_lines<R: Read, W: Write, A: Audience>(
     alloc: Global,
     state: &mut Session,
     input: &mut Input<R>,
     output: &mut Output<W>,
+    audience: &A,
 ) -> Result<(), SessionFault>
     ensures written { IfSome (R.remaining input.old.device) (λ bytes. OnOk result (Appends
         (W.contents output.old.device) (W.contents output.new.device)
@@ -48,6 +63,7 @@ fn perform_lines<R: Read, W: Write>(
         let Ok(()) = output.write_all(reply.text.as_slice()) else {
             return Err(SessionFault::Write);
         };
+        audience.hear(&line, &reply.text);
         if reply.ends {
             return Ok(());
         }
@@ -62,12 +78,13 @@ fn perform_lines<R: Read, W: Write>(
     }
 }
 
-/// Carries out the lines of a script, and writes the text of each before the next is read.
-pub fn session_over<R: Read, W: Write>(
+/// Carries out the lines of a script, and writes the text of each before the next is read. The audience hears it then.
+pub fn session_over<R: Read, W: Write, A: Audience>(
     alloc: Global,
     state: Session,
     input: &mut Input<R>,
     output: &mut Output<W>,
+    audience: &A,
 ) -> Result<Session, SessionFault>
     ensures written { IfSome (R.remaining input.old.device) (λ bytes. OnOk result (Appends
         (W.contents output.old.device) (W.contents output.new.device)
@@ -82,7 +99,7 @@ pub fn session_over<R: Read, W: Write>(
         input.new.failed output.new.failed) }
 {
     let mut state = state;
-    perform_lines(alloc, &mut state, input, output)?;
+    perform_lines(alloc, &mut state, input, output, audience)?;
     Ok(state)
 }
 
@@ -108,7 +125,7 @@ pub fn session<R: Read, W: Write>(
         input.new.failed output.new.failed) }
 {
     let start = Session::of_world(alloc, world, "")?;
-    let last = session_over(alloc, start, input, output)?;
+    let last = session_over(alloc, start, input, output, &Nobody)?;
     Ok(last.into_world())
 }
 

@@ -2,7 +2,7 @@
 ghost use Rattle.std.specs.Prelude.{◌≡◌, ◌++◌, OnOk, string_bytes};
 ghost use Rattle.lab_notes.specs.Texts.{more_text};
 ghost use Rattle.ipc_names.specs.declared.errno.Errno.TheVariants.{Invalid};
-ghost use Rattle.lab_notes.specs.Private.Why.{range_text, long_name_text, has_attributes, fault_text, size_fault, why_text};
+ghost use Rattle.lab_notes.specs.Private.Why.{range_text, long_name_text, has_attributes, fault_text, no_create_text, size_fault, why_text};
 
 use crate::rows::{Refusal, Registers};
 use ipc_errors::error_name;
@@ -53,7 +53,10 @@ pub fn push_why(text: &mut String, refusal: &Refusal) -> Result<(), AllocError>
     let is_on_queues = refusal.service.is_on_queues();
     let kind = if is_on_queues { "queue" } else { "semaphore" };
     match refusal.error {
-        Errno::NoEntry => write!(text, "no {kind} is called {object}"),
+        Errno::NoEntry => {
+            write!(text, "no {kind} is called {object}")?;
+            push_no_create(text, refusal.service, refusal.registers.r1)
+        }
         Errno::BadDescriptor => {
             let fault = match refusal.service {
                 Service::MqSend if refusal.is_open => "is not open to send",
@@ -75,6 +78,20 @@ pub fn push_why(text: &mut String, refusal: &Refusal) -> Result<(), AllocError>
             let (length, fault) = (refusal.registers.r2, size_fault(refusal.service));
             write!(text, "length {length}: {fault}")
         }
+    }
+}
+
+/// Adds that the flags of an open have no O_CREAT, with which it makes what isn't there.
+fn push_no_create(text: &mut String, service: Service, flags: u16) -> Result<(), AllocError>
+    ensures text { OnOk result (string_bytes text.new ≡ string_bytes text.old
+        ++ no_create_text service flags) }
+{
+    let flags = Hex(flags);
+    match service {
+        Service::MqOpen | Service::SemOpen => {
+            write!(text, ", and the flags {flags} have no O_CREAT, x40")
+        }
+        _ => Ok(()),
     }
 }
 

@@ -10,8 +10,8 @@ ghost use Rattle.lab_shell.specs.Private.Runs.{start_of};
 use crate::given::{Given, page_files};
 use lab_arguments::{Manner, Page, Setup, program_of};
 use lab_commands::{
-    At, Complaint, Debugged, Job, Progress, debug_given, messages_if, read_schedule, report_given,
-    run_given, standing_at, write_bytes,
+    At, Complaint, Debugged, Job, Progress, debug_given, messages_if, process_advice,
+    read_schedule, report_given, run_given, standing_at, write_bytes,
 };
 use lab_io::{Input, Output, Prompt};
 use lab_notes::{Refusal, noted, push_more, push_note};
@@ -46,7 +46,7 @@ pub fn step_programs<'j, 'a, T: Files, R: Read, W: Write, P: Progress>(
 }
 
 /// Reads the files of the programs, then a schedule from the input, and writes what happens as the laboratory of these programs
-/// runs by that schedule, and before it the page, where one is asked for.
+/// runs by that schedule, before it the page, where one is asked for, and behind it notes, where these are told.
 pub fn trace_programs<'j, 'a, T: Files, R: Read, W: Write, P: Progress>(
     job: &'j Job<'j, T, P>,
     setup: &'j Setup<'a>,
@@ -65,9 +65,15 @@ pub fn trace_programs<'j, 'a, T: Files, R: Read, W: Write, P: Progress>(
     };
     let given = Given::read(job, setup, files, input)?;
     let schedule = read_schedule(job, input)?;
-    match page {
-        Some(page) => write_bytes(&given.write_page(page.file, &schedule)?, output),
-        None => given.write_trace(&schedule, output),
+    match given.write_trace_with(page, &schedule, output) {
+        Ok(()) => {
+            given.tell_notes(&[&schedule]);
+            Ok(())
+        }
+        Err(complaint) => {
+            let count = given.programs.programs.len();
+            Err(complaint.followed(process_advice(job, &schedule, count)))
+        }
     }
 }
 
@@ -136,6 +142,25 @@ fn tell_debugged<T, P: Progress>(
         notes.tell(start, &schedule)?;
     }
     Ok(())
+}
+
+impl<'a, T: Files, P> Given<'_, 'a, T, P> {
+    /// Writes the page of a run by a schedule, where one is asked for, and then what happens in that run.
+    fn write_trace_with<W: Write>(
+        &self,
+        page: Option<&Page<'a>>,
+        schedule: &Schedule,
+        output: &mut Output<W>,
+    ) -> Result<(), Complaint<'a>>
+        ensures trace { OnOk result (Appends (W.contents output.old.device)
+            (W.contents output.new.device) (trace_text (start_of self.now)
+            self.now.programs.sources.items (steps_of schedule.now))) }
+    {
+        match page {
+            Some(page) => write_bytes(&self.write_page(page.file, schedule)?, output),
+            None => self.write_trace(schedule, output),
+        }
+    }
 }
 
 impl<'j, 'a, T, P> Given<'j, 'a, T, P> {

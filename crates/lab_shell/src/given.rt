@@ -4,7 +4,7 @@ ghost use Rattle.lab_shell.specs.Private.Runs.{start_of};
 
 use lab_arguments::{Console, Setup, program_of};
 use lab_commands::{
-    At, Complaint, Job, Misuse, Programs, Progress, Reason, has_source_name, is_same_file,
+    At, Complaint, Job, Misuse, Programs, Progress, Reason, has_source_name, is_file, is_same_file,
     laboratory, read_programs, read_source,
 };
 use lab_io::Input;
@@ -65,9 +65,12 @@ impl<T, P> Given<'_, '_, T, P> {
     }
 }
 
+/// The name of standard input, as a file is named.
+const STANDARD_INPUT: &str = "/dev/stdin";
+
 /// The source file of each process for a page, where one of the words names one: each word is `P=FILE`, and no two name one
-/// process; without a page there are none. Refuses a page that would replace a file of the run, a program, an input file or a
-/// source, or has the name of a source.
+/// process; without a page there are none. Refuses a page that would replace a file of the run, a program, an input file, a
+/// source or the file that is standard input, or has the name of a source.
 pub fn page_files<'a, T: Files, P>(
     job: &Job<'_, T, P>,
     setup: &Setup<'a>,
@@ -79,11 +82,12 @@ pub fn page_files<'a, T: Files, P>(
     };
     let files = source_files(job.alloc, words, setup.programs.len())?;
     let is_page = |file: &str| is_same_file(job.rt, page, file);
+    let is_input = is_file(job.rt, page) && is_page(STANDARD_INPUT);
     let is_of_program = setup.programs.iter().any(|word| {
         let (program, console) = program_of(word);
         is_page(program) || matches!(console, Console::File(input) if is_page(input))
     });
-    if is_of_program || files.iter().any(|file| file.is_some_and(is_page)) {
+    if is_input || is_of_program || files.iter().any(|file| file.is_some_and(is_page)) {
         return Err(Misuse::OwnFile.of(page));
     }
     if has_source_name(page) {

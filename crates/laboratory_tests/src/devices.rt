@@ -3,7 +3,7 @@
 ghost use Rattle.std.specs.Prelude.{◌≤◌};
 
 use crate::programs::{FIRST, SECOND, start_session};
-use lab_debug::{SessionFault, session_over};
+use lab_debug::{Nobody, SessionFault, session_over};
 use lab_io::{Input, Output, SlowIn, SlowOut};
 use lab_sched::FreshFault;
 use std::alloc::Global;
@@ -52,6 +52,7 @@ fn read_once(alloc: Global, before: usize) -> Result<Option<Vec<u8>>, FreshFault
         start,
         &mut Input::new(SlowIn::new(SCRIPT, 1, before)),
         &mut Output::new(&mut text),
+        &Nobody,
     );
     match end {
         Err(SessionFault::Read) => Ok(Some(text)),
@@ -91,6 +92,7 @@ fn write_once(
         start,
         &mut Input::new(SCRIPT),
         &mut Output::new(SlowOut::new(room, most, before)),
+        &Nobody,
     );
     match end {
         Ok(_) => Ok(None),

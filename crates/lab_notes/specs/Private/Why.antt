@@ -6,7 +6,7 @@ use Rattle.ipc_names.specs.Flags.{has_flag, o_creat}
 use Rattle.ipc_traps.specs.Names.{is_in_memory}
 use Rattle.ipc_traps.specs.Services.{is_on_queues}
 use Rattle.ipc_traps.specs.declared.service.Service.{Service}
-use Rattle.ipc_traps.specs.declared.service.Service.TheVariants.{MqOpen, MqSend, MqReceive, MqGetattr, MqSetattr, SemGetvalue}
+use Rattle.ipc_traps.specs.declared.service.Service.TheVariants.{MqOpen, MqSend, MqReceive, MqGetattr, MqSetattr, SemOpen, SemGetvalue}
 use Rattle.ipc_names.specs.declared.errno.Errno.{Errno}
 use Rattle.ipc_names.specs.declared.errno.Errno.TheVariants.{NoEntry, BadDescriptor, Again, Fault, Exists, Invalid, TooManyOpen, NoSpace, NameTooLong, Overflow, MessageSize}
 use Rattle.lab_notes.specs.declared.rows.Refusal.{Refusal}
@@ -67,9 +67,15 @@ abbrev pub size_fault : Service → List ℕ
 size_fault MqReceive = codes "the buffer is too short"
 size_fault other = codes "the message is too long"
 
+-- that the flags of an open have no O_CREAT, with which it makes what isn't there
+abbrev pub no_create_text : Service → ℕ → List ℕ
+no_create_text MqOpen flags = codes ", and the flags " ++ hexadecimal_text flags ++ codes " have no O_CREAT, x40"
+no_create_text SemOpen flags = codes ", and the flags " ++ hexadecimal_text flags ++ codes " have no O_CREAT, x40"
+no_create_text other flags = []
+
 -- why a call was refused, but for EINVAL
 abbrev pub fault_of : Errno → Refusal → List ℕ
-fault_of NoEntry r = codes "no " ++ kind_of r.service ++ codes " is called " ++ r.object
+fault_of NoEntry r = codes "no " ++ kind_of r.service ++ codes " is called " ++ r.object ++ no_create_text r.service r.registers.r1
 fault_of BadDescriptor r = r.object ++ codes " " ++ descriptor_fault r.service r.is_open
 fault_of Again r = codes "it would have to wait"
 fault_of Fault r = fault_text r.service r.registers r.object

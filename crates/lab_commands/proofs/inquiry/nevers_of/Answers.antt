@@ -1,5 +1,5 @@
 use Rattle.std.proofs.Common.{arith}
-use Rattle.lab_commands.specs.Private.Inquiries.{IsAsked}
+use Rattle.lab_commands.specs.Asking.{IsAsked}
 use Rattle.lab_commands.proofs.AskedLemmas.{asked_with, asked_next, asked_all}
 use Rattle.lab_commands.proofs.inquiry.nevers_of.Goals as goal
 

@@ -1,5 +1,5 @@
 use Rattle.std.proofs.Common.{All, take}
-use Rattle.lab_commands.specs.Private.Inquiries.{IsAsked}
+use Rattle.lab_commands.specs.Asking.{IsAsked}
 use Rattle.lab_commands.proofs.inquiry.nevers_of.Given as goal
 
 -- the words so far are asked

@@ -1,10 +1,12 @@
-use Rattle.std.proofs.Common.{◌≡◌, ◌++◌, List, All, take}
-use Rattle.lab_ways.specs.declared.wanted.Wanted.{Wanted}
-use Rattle.lab_commands.specs.Private.Inquiries.{IsAskedOfCalls}
+use Rattle.std.proofs.Common.{◌++◌, Bool, List, ℕ, flat_map, take}
+use Rattle.lab_worlds.specs.Calls.{Alongside}
+use Rattle.lab_commands.specs.Asking.{IsSaid, IsSought, call_if}
 use Rattle.lab_commands.proofs.inquiry.push_calls.Given as goal
 
--- what is asked comes behind what was, and of the words so far all is asked
+-- what the words so far ask stands behind what was asked
 abbrev pub invariant-loop-word : goal.invariant-loop-word
 invariant-loop-word l =
-    ((more : List Wanted) × (l.wanted.items ≡ l.initial.wanted.items ++ more))
-    × All (λ word. IsAskedOfCalls l.never l.wanted.items word.now) (take l.word-index l.words)
+    ((before : List (Bool × List ℕ)) → Alongside IsSaid before l.initial.texts.items
+    → Alongside IsSaid (before ++ flat_map (λ word. call_if l.never word.now) (take l.word-index l.words)) l.texts.items)
+    × ((before : List (Bool × List ℕ)) → Alongside IsSought before l.initial.wanted.items
+    → Alongside IsSought (before ++ flat_map (λ word. call_if l.never word.now) (take l.word-index l.words)) l.wanted.items)
