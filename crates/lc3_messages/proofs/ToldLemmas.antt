@@ -3,7 +3,7 @@ use Rattle.std.proofs.Common.{ℕ, ◌≡◌, ◌<◌, ◌+◌, ◌++◌, true, 
 use Rattle.std.proofs.lemmas.List.{length-append, take_more}
 use Rattle.lc3_asm.specs.declared.passes.LineFault.{LineFault}
 use Rattle.lc3_messages.specs.declared.source.Finding.{Finding}
-use Rattle.lc3_messages.specs.Private.Told.{names_a_label, finding_of, AreFrom}
+use Rattle.lc3_messages.specs.Told.{names_a_label, finding_of, AreFrom}
 
 -- one fault more that is told
 from_kept : (fs : List LineFault) (told : List Finding) (f : LineFault) → AreFrom fs told → AreFrom (fs ++ f ∷ []) (told ++ finding_of f ∷ [])

@@ -1,2 +1,4 @@
 pub mod Counts
+pub mod Told
+pub mod Telling
 pub mod Private

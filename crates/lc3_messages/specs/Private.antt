@@ -1,2 +1,2 @@
 -- Definitions that only contracts inside the crate cite.
-pub mod Told
+pub mod Errors

@@ -1,21 +1,17 @@
 //! Characters as they are shown.
+use lc3_spelling::is_unseen;
 use std::fmt;
 use std::fmt::Write;
 
 /// The most characters of a word that a text shows.
 const SHOWN: usize = 40;
 
-/// The character, or `?` in the place of a control character, or of one that tells how others are drawn.
-pub(crate) fn picture(character: char) -> char {
-    match u32::from(character) {
-        0..=8
-        | 10..=0x1F
-        | 0x7F..=0x9F
-        | 0x200B..=0x200F
-        | 0x2028..=0x202E
-        | 0x2060..=0x206F
-        | 0xFEFF => '?',
-        _ => character,
+/// The character, or `?` in the place of one that nobody sees, but for a tab.
+pub fn picture(character: char) -> char {
+    if character != '\t' && is_unseen(character) {
+        '?'
+    } else {
+        character
     }
 }
 

@@ -5,12 +5,13 @@ use crate::parts::{Part, Remark};
 use crate::source::{Place, line_of};
 use lc3_asm::{LABEL_LENGTH, Token, is_label, register, token_operation, without_colon};
 use lc3_spelling::{OPERATIONS, shown, suggestion};
+use lc3_warnings::call_named;
 use lc3_word::number_of;
 use std::alloc::{AllocError, Global};
 use std::fmt;
 
 /// A word without the `:` that may end a label.
-pub(crate) fn name_of(word: &str) -> &str {
+pub fn name_of(word: &str) -> &str {
     word.get(..without_colon(word.as_bytes()).len())
         .unwrap_or(word)
 }
@@ -46,8 +47,17 @@ pub(crate) fn bad_label(place: Place<'_>) -> Result<String, AllocError> {
 
 fn no_operation(alloc: Global, part: Part<'_>, meant: Option<&str>) -> Result<Remark, AllocError> {
     let (word, mean) = (Excerpt(part.word), DidYouMean(meant));
-    let text = format!(in alloc; "{word} is no operation and no directive{mean}")?;
-    Ok(part.remark(text))
+    let text = match vector_named(alloc, part.word)? {
+        Some(vector) => format!(in alloc; "{word} is no operation; the call is TRAP x{vector:02X}"),
+        None => format!(in alloc; "{word} is no operation and no directive{mean}"),
+    };
+    Ok(part.remark(text?))
+}
+
+/// The vector of the call of this name, in small or capital letters.
+pub(crate) fn vector_named(alloc: Global, word: &str) -> Result<Option<u8>, AllocError> {
+    let name = upper(alloc, word.as_bytes())?;
+    Ok(call_named(&name))
 }
 
 /// What is said of an operand behind the first word of a line, which was meant as this operation.
@@ -147,6 +157,9 @@ pub(crate) fn said_of(alloc: Global, word: &str, said: &str) -> Result<String, A
     format!(in alloc; "{}{said}", Excerpt(word))
 }
 
+/// What stands between a text and the name that was meant; a `?` ends both.
+pub(crate) const DID_YOU_MEAN: &str = "; did you mean ";
+
 /// The question behind a text whether a name was meant, if one is near.
 #[derive(Clone, Copy)]
 pub(crate) struct DidYouMean<'a>(pub Option<&'a str>);
@@ -154,7 +167,7 @@ pub(crate) struct DidYouMean<'a>(pub Option<&'a str>);
 impl fmt::Display for DidYouMean<'_> {
     fn fmt<W: fmt::Write>(&self, f: &mut fmt::Formatter<W>) -> fmt::Result {
         match self.0 {
-            Some(name) => write!(f, "; did you mean {name}?"),
+            Some(name) => write!(f, "{DID_YOU_MEAN}{name}?"),
             None => Ok(()),
         }
     }

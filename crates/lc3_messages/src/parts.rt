@@ -4,12 +4,12 @@ use lc3_asm::{
     LineError, Operand, Token, fault_in, first_token, token_operand, token_operation,
     without_separators,
 };
-use lc3_table::{Fault, Form};
+use lc3_table::{Fault, Form, Operation};
 use std::alloc::{AllocError, Global};
 
 /// A part of a line, by the places of its bytes.
 #[derive(Clone, Copy)]
-pub(crate) struct Span {
+pub struct Span {
     /// The place of its first byte in the line, from 0.
     pub start: usize,
     /// The place behind its last byte.
@@ -26,18 +26,23 @@ pub(crate) struct Remark {
 
 /// A token of a line, where it stands and as what it is written.
 #[derive(Clone, Copy)]
-pub(crate) struct Part<'a> {
+pub struct Part<'a> {
     pub token: Token<'a>,
     pub span: Span,
     pub word: &'a str,
 }
 
 impl Part<'_> {
+    /// Whether it names an operation or a directive.
     pub fn is_operation(&self) -> bool {
         token_operation(self.token).is_some()
     }
 
-    pub fn remark(&self, text: String) -> Remark {
+    pub(crate) fn is_origin(&self) -> bool {
+        matches!(token_operation(self.token), Some(Operation::Origin))
+    }
+
+    pub(crate) fn remark(&self, text: String) -> Remark {
         let mark = self.span;
         Remark { mark, text }
     }
@@ -50,7 +55,8 @@ pub(crate) const NOTHING: Part<'static> = Part {
     word: "",
 };
 
-pub(crate) fn parts_of(alloc: Global, line: &str) -> Result<Vec<Part<'_>>, AllocError> {
+/// The tokens of a line, in order.
+pub fn parts_of(alloc: Global, line: &str) -> Result<Vec<Part<'_>>, AllocError> {
     let mut parts = Vec::new(alloc);
     let mut rest = without_separators(line.as_bytes());
     while let Some((token, after)) = first_token(rest) {
@@ -65,7 +71,7 @@ pub(crate) fn parts_of(alloc: Global, line: &str) -> Result<Vec<Part<'_>>, Alloc
 }
 
 /// The number of the operation among the tokens of a line, from 0: 1 behind a label, else 0.
-pub(crate) fn operation_number(parts: &[Part<'_>]) -> usize {
+pub fn operation_number(parts: &[Part<'_>]) -> usize {
     match parts {
         [first, second, ..] if !first.is_operation() && second.is_operation() => 1,
         _ => 0,

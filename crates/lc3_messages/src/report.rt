@@ -2,22 +2,16 @@
 ghost use Rattle.std.specs.Prelude.{◌≡◌, ◌↔◌, ◌-◌, length, map, IfOk, IsTrue, IsUtf8};
 ghost use Rattle.lc3_warnings.specs.Warnings.{is_accepted};
 ghost use Rattle.lc3_messages.specs.Counts.{told_warnings};
-ghost use Rattle.lc3_messages.specs.Private.Told.{error_count};
+ghost use Rattle.lc3_messages.specs.Private.Errors.{error_count};
 
-use crate::characters::{Excerpt, picture};
-use crate::operations::{DidYouMean, name_meant, name_of};
-use crate::parts::{NOTHING, Part, Remark, Span, operation_number, parts_of};
+use crate::characters::picture;
+use crate::parts::Span;
 use crate::source::{Finding, Source, What, error_count, findings, source_of};
-use crate::texts::remark;
-use lc3_spelling::BARE_OPERATIONS;
+use crate::telling::{MOST_TOLD, Told, first_findings, tell};
 use lc3_table::Profile;
-use lc3_warnings::{Kind, push_text};
 use std::alloc::{AllocError, Global};
 use std::fmt;
 use std::fmt::Write;
-
-/// The most messages of a source that are written.
-const MOST: usize = 100;
 
 /// What is asked about the warnings of a source.
 #[derive(Clone, Copy)]
@@ -65,8 +59,8 @@ fn counted(
         let (refused, warned) = (Count(errors, "error"), Count(warnings, "warning"));
         let comma = if errors > 0 && warnings > 0 { ", " } else { "" };
         write!(text, "lc3lab: {file}: {refused}{comma}{warned}")?;
-        if all > MOST {
-            write!(text, " ({MOST} of {all} are shown)")?;
+        if all > MOST_TOLD {
+            write!(text, " ({MOST_TOLD} of {all} are shown)")?;
         }
         text.push('\n')?;
     }
@@ -84,20 +78,11 @@ fn report_of(file: &str, source: &Source<'_>, findings: &[Finding]) -> Result<Re
 {
     let errors = error_count(findings);
     let warnings = findings.len().saturating_sub(errors);
+    let told = tell(source, first_findings(findings))?;
     let mut text = String::new(source.alloc);
-    for finding in findings.iter().take(MOST) {
-        let line = source.line(finding.line);
-        let remark = match finding.what {
-            What::Fault(fault) => remark(source, finding.line, fault),
-            What::Warning(warning) => warning_remark(source, line, warning),
-        }?;
-        let message = Message {
-            file,
-            line,
-            finding: *finding,
-            remark: &remark,
-        };
-        write!(text, "{message}")?;
+    for told in &told {
+        let line = source.line(told.line);
+        write!(text, "{}", Message { file, line, told })?;
     }
     counted(text, file, errors, warnings)
 }
@@ -172,23 +157,22 @@ fn write_marked<W: fmt::Write>(f: &mut fmt::Formatter<W>, line: &str, mark: Span
     f.write_char('\n')
 }
 
-/// What is said of a finding in this file and this line.
+/// What is told of a line of this file.
 #[derive(Clone, Copy)]
 struct Message<'a> {
     pub file: &'a str,
     pub line: &'a str,
-    pub finding: Finding,
-    pub remark: &'a Remark,
+    pub told: &'a Told,
 }
 
 impl fmt::Display for Message<'_> {
     fn fmt<W: fmt::Write>(&self, f: &mut fmt::Formatter<W>) -> fmt::Result {
-        let (file, line, mark) = (self.file, self.line, self.remark.mark);
+        let (file, line, mark) = (self.file, self.line, self.told.mark);
         let before = line.get(..mark.start).unwrap_or("").chars().count();
         let column = before.saturating_add(1);
-        write!(f, "{file}:{}:{column}: ", self.finding.line)?;
-        let text = self.remark.text.as_str();
-        match self.finding.what {
+        write!(f, "{file}:{}:{column}: ", self.told.line)?;
+        let text = self.told.text.as_str();
+        match self.told.what {
             What::Fault(fault) => write!(f, "error: {text} [{fault:?}]\n"),
             What::Warning(kind) => write!(f, "warning: {text} [{}]\n", kind.name()),
         }?;
@@ -198,36 +182,4 @@ impl fmt::Display for Message<'_> {
         }
         Ok(())
     }
-}
-
-/// The token of a line that a warning is about: the first, the number at the end, or the operation.
-fn part_marked(alloc: Global, line: &str, kind: Kind) -> Result<Part<'_>, AllocError> {
-    let parts = parts_of(alloc, line)?;
-    let number = match kind {
-        Kind::Misspelt | Kind::UnusedLabel | Kind::AfterEnd { .. } => 0,
-        Kind::Wraps { .. } | Kind::UnknownTrap | Kind::DecimalOrigin { .. } => {
-            parts.len().saturating_sub(1)
-        }
-        _ => operation_number(&parts),
-    };
-    Ok(parts.get(number).copied().unwrap_or(NOTHING))
-}
-
-/// What is said of a warning of this kind about a line.
-fn warning_remark(source: &Source<'_>, line: &str, kind: Kind) -> Result<Remark, AllocError> {
-    let alloc = source.alloc;
-    let spoken_of = match kind {
-        Kind::LostReturn { writer: other } | Kind::StaleCodes { trap: other } => source.line(other),
-        _ => line,
-    };
-    let word = part_marked(alloc, spoken_of, kind)?.word;
-    let meant = match kind {
-        Kind::Misspelt => name_meant(alloc, word, &BARE_OPERATIONS)?,
-        _ => None,
-    };
-    let shown = format!(in alloc; "{}", Excerpt(name_of(word)))?;
-    let mut text = String::new(alloc);
-    push_text(&mut text, kind, &shown)?;
-    write!(text, "{}", DidYouMean(meant))?;
-    Ok(part_marked(alloc, line, kind)?.remark(text))
 }

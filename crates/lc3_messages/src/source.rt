@@ -1,16 +1,18 @@
 //! A text as it was read, its labels, and where a line of it has its fault.
 ghost use Rattle.std.specs.Prelude.{◌≡◌, IfOk, ◌++◌, true, [], length, OnOk, map};
 ghost use Rattle.lc3_asm.specs.Faults.{reading, faults_of};
+ghost use Rattle.lc3_asm.specs.Texts.{lines};
 ghost use Rattle.std.specs.List.Sorted.{IsNonDecreasingBy};
 ghost use Rattle.lc3_messages.specs.Counts.{is_among, without, told_warnings};
-ghost use Rattle.lc3_messages.specs.Private.Told.{names_a_label, AreFrom, finding_of_warning, error_count, Tells};
+ghost use Rattle.lc3_messages.specs.Told.{names_a_label, AreFrom, finding_of_warning, Tells};
+ghost use Rattle.lc3_messages.specs.Private.Errors.{error_count};
 
 use crate::operations::{name_of, upper};
 use crate::parts::{Faulty, NOTHING, Part, faulty_part, parts_of};
 use crate::report::Wish;
 use indexmap::IndexMap;
 use lc3_asm::{
-    LineFault, Reader, Token, faults_of, first_token, is_label, printable, reading,
+    LineFault, Reader, Token, faults_of, first_token, is_label, line_count, printable, reading,
     token_operation, without_colon,
 };
 use lc3_table::{Fault, Form, Operation};
@@ -19,7 +21,7 @@ use std::alloc::{AllocError, Global};
 
 /// A text with its lines, its labels and what was read of it.
 #[derive(Drop)]
-pub(crate) struct Source<'a> {
+pub struct Source<'a> {
     pub alloc: Global,
     /// The lines, each without a carriage return at its end.
     pub lines: Vec<&'a str>,
@@ -48,7 +50,8 @@ impl Place<'_> {
     }
 }
 
-pub(crate) fn source_of(alloc: Global, content: &str) -> Result<Source<'_>, AllocError>
+/// A text as it is read, whether or not it has faults.
+pub fn source_of(alloc: Global, content: &str) -> Result<Source<'_>, AllocError>
     ensures read { IfOk result (λ source. source.reader ≡ reading content.now) }
 {
     let lines: Vec<&str> = content
@@ -73,7 +76,7 @@ impl<'a> Source<'a> {
     }
 
     /// The token of a line at which it has its fault.
-    pub fn word_at(&self, fault: LineFault) -> Result<&'a str, AllocError> {
+    pub(crate) fn word_at(&self, fault: LineFault) -> Result<&'a str, AllocError> {
         let parts = parts_of(self.alloc, self.line(fault.line))?;
         let Faulty { number, .. } = faulty_part(self.alloc, &parts, fault.kind)?;
         Ok(parts.get(number).unwrap_or(&NOTHING).word)
@@ -82,14 +85,14 @@ impl<'a> Source<'a> {
 
 /// What is found in a line.
 #[derive(Clone, Copy)]
-pub(crate) enum What {
+pub enum What {
     Fault(Fault),
     Warning(Kind),
 }
 
 /// What is found in the line with this number, from 1.
 #[derive(Clone, Copy)]
-pub(crate) struct Finding {
+pub struct Finding {
     pub line: usize,
     pub what: What,
 }
@@ -164,14 +167,14 @@ pub(crate) fn findings(
 ) -> Result<Vec<Finding>, AllocError>
     requires read { source.now.reader ≡ reading content.now }
     ensures told { IfOk result (λ found. Tells
-        (faults_of (length source.now.lines.items) (reading content.now))
+        (faults_of (length (lines content.now)) (reading content.now))
         (told_warnings wish.entry.profile (map (λ name. name.now) wish.entry.allowed.now)
         content.now)
         found.items) }
     ensures ordered { IfOk result (λ found. IsNonDecreasingBy (λ f. f.line) found.items) }
 {
     let alloc = source.alloc;
-    let faults = faults_of(alloc, source.lines.len(), &source.reader)?;
+    let faults = faults_of(alloc, line_count(content.as_bytes()), &source.reader)?;
     let mut found = told_faults(source, &faults)?;
     let warnings = warnings(alloc, content, wish.profile, &source.reader)?;
     add_warnings(&mut found, &warnings, wish.allowed)?;
@@ -180,11 +183,11 @@ pub(crate) fn findings(
 }
 
 /// Labels in upper case, each with the number of a line, from 1.
-type LabelLines = IndexMap<String, usize>;
+pub type LabelLines = IndexMap<String, usize>;
 
 /// The labels of a text.
 #[derive(Drop)]
-pub(crate) struct Labels {
+pub struct Labels {
     /// The lines that define them, in their order.
     pub definitions: LabelLines,
     /// Faulty lines that may define them.
@@ -194,7 +197,7 @@ pub(crate) struct Labels {
 }
 
 /// The line of a label, in small or capital letters.
-pub(crate) fn line_of(
+pub fn line_of(
     alloc: Global,
     labels: &LabelLines,
     name: &str,

@@ -3,7 +3,7 @@
 use crate::characters::{Excerpt, Grouped, is_typographic_quote, picture};
 use crate::operations::{
     DidYouMean, NO_LABEL_BUT_OPERATION, bad_label, bad_operation, is_operation, is_register,
-    name_meant, name_of, number_meant, said_of, upper,
+    name_meant, name_of, number_meant, said_of, upper, vector_named,
 };
 use crate::parts::{Faulty, NOTHING, Part, Remark, Span, faulty_part, operation_number, parts_of};
 use crate::source::{Place, Source, line_of};
@@ -11,6 +11,9 @@ use lc3_asm::{Token, first_character, is_label};
 use lc3_table::{Fault, Form};
 use std::alloc::{AllocError, Global};
 use std::fmt;
+
+/// What is said where a source begins a second program.
+pub(crate) const ONE_PROCESS: &str = "each process has a file of its own";
 
 fn remark_at(place: Place<'_>, kind: Fault) -> Result<Remark, AllocError> {
     let alloc = place.source.alloc;
@@ -26,7 +29,7 @@ fn remark_at(place: Place<'_>, kind: Fault) -> Result<Remark, AllocError> {
             let mut lines = place.source.reader.lines().iter();
             let before = lines.position(|line| line.origin().is_some()).unwrap_or(0);
             let line = before.saturating_add(1);
-            format!(in alloc; "a source has one .ORIG, the one of line {line}")
+            format!(in alloc; "a source has one .ORIG, the one of line {line}; {ONE_PROCESS}")
         }
         Fault::TooLong => String::from_str(
             alloc,
@@ -159,6 +162,17 @@ fn bad_operands(place: Place<'_>) -> Result<String, AllocError> {
     misplaced(alloc, name, said, form)
 }
 
+/// What is said of the name of a call in the place of its vector.
+fn trap_meant(alloc: Global, word: &str, form: Form) -> Result<Option<String>, AllocError> {
+    match vector_named(alloc, word)? {
+        Some(vector) if form == Form::Vector => {
+            let text = format!(in alloc; "{} is TRAP x{vector:02X}", Excerpt(word))?;
+            Ok(Some(text))
+        }
+        _ => Ok(None),
+    }
+}
+
 fn bad_number(place: Place<'_>) -> Result<String, AllocError> {
     let alloc = place.source.alloc;
     let word = place.part.word;
@@ -167,6 +181,9 @@ fn bad_number(place: Place<'_>) -> Result<String, AllocError> {
     let bytes = word.as_bytes();
     if takes_label && is_operation(bytes) {
         return said_of(alloc, word, NO_LABEL_BUT_OPERATION);
+    }
+    if let Some(text) = trap_meant(alloc, word, form)? {
+        return Ok(text);
     }
     let said = if is_label(bytes) {
         " is no number, and a label can't stand here"
@@ -243,6 +260,18 @@ fn bad_string(alloc: Global, part: Part<'_>) -> Result<Remark, AllocError> {
     Ok(Remark { mark, text })
 }
 
+/// The characters of a label in capital letters, a bit for each.
+fn characters_of(label: &[u8]) -> u64 {
+    label.iter().fold(0, |found, byte| found | 1_u64.rotate_left(u32::from(*byte)))
+}
+
+/// Whether one label may be spelled nearly like another: an edit changes the length by one and the characters by two, at
+/// most. So a text with many labels is soon gone through.
+fn may_be_near(one: &[u8], other: &[u8]) -> bool {
+    let differing = characters_of(one) ^ characters_of(other);
+    one.len().abs_diff(other.len()) <= 2 && differing.count_ones() <= 4
+}
+
 fn undefined(place: Place<'_>) -> Result<String, AllocError> {
     let alloc = place.source.alloc;
     let labels = &place.source.labels;
@@ -253,8 +282,11 @@ fn undefined(place: Place<'_>) -> Result<String, AllocError> {
             "no line before .END defines the label {shown}; line {line} behind it does"
         );
     }
+    let name = upper(alloc, word.as_bytes())?;
     let names = labels.definitions.keys().map(|name| name.as_str());
-    let names: Vec<&str> = names.collect(alloc)?;
+    let names: Vec<&str> = names
+        .filter(|other| may_be_near(name.as_bytes(), other.as_bytes()))
+        .collect(alloc)?;
     let mean = DidYouMean(name_meant(alloc, word, &names)?);
     format!(in alloc; "no line defines the label {shown}{mean}")
 }

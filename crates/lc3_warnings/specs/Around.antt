@@ -1,7 +1,8 @@
 -- The warnings that rest on where execution goes.
-use Rattle.std.specs.Prelude.{ℕ, ◌+◌, Option, Some, None, List, length}
+use Rattle.std.specs.Prelude.{ℕ, ◌+◌, Bool, ◌&&◌, Option, Some, None, List, length, if◌then◌else◌}
 use Rattle.lc3_table.specs.Statements.{Line, Operand}
 use Rattle.lc3_warnings.specs.Flows.{flow_of, last_flow, next_from}
+use Rattle.lc3_warnings.specs.Labels.{defines_one, goes_on_to, flow_from}
 use Rattle.lc3_warnings.specs.declared.flow.Flow.{Flow}
 use Rattle.lc3_warnings.specs.declared.flow.Flow.TheVariants.{Data, GoesOn}
 use Rattle.lc3_warnings.specs.declared.flow.Next.{Next}
@@ -44,3 +45,8 @@ goes_past here next = None
 -- The last line with words is an instruction that goes on.
 abbrev pub runs_past_end : Around → Option Kind
 runs_past_end a = goes_past a.here a.next
+
+-- A line defines one of these labels, where subroutines begin, and execution goes on there from an instruction above.
+abbrev pub falls_into : (List ℕ → Bool) → Line Operand → Around → Option Kind
+falls_into entries l a =
+    if defines_one entries l && goes_on_to a.previous (flow_from a) then Some kind.FallsInto else None

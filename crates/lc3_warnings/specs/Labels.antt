@@ -1,5 +1,5 @@
 -- The labels that lines name, and the label that no line names.
-use Rattle.std.specs.Prelude.{ℕ, Bool, true, false, not, ◌&&◌, ◌||◌, bytes_eq, codes, Option, Some, None, is_some, Result, Ok, Err, List, [], ◌∷◌, ◌==◌, ◌-◌, length, map, get_or, slice_index, if◌then◌else◌}
+use Rattle.std.specs.Prelude.{ℕ, Bool, true, false, not, ◌||◌, bytes_eq, codes, Option, Some, None, is_some, Result, Ok, Err, List, [], ◌∷◌, ◌==◌, ◌-◌, length, map, get_or, slice_index, if◌then◌else◌}
 use Rattle.std.specs.List.{list_any}
 use Rattle.lc3_table.specs.declared.operation.Operation.TheVariants as op
 use Rattle.lc3_table.specs.Tokens.{Token, Word, tokens}
@@ -9,6 +9,7 @@ use Rattle.lc3_asm.specs.Texts.{label_of}
 use Rattle.lc3_asm.specs.Faults.{printable_or_blank}
 use Rattle.lc3_asm.specs.declared.passes.LineFault.{LineFault}
 use Rattle.lc3_spelling.specs.Edits.{near_edits}
+use Rattle.lc3_warnings.specs.Calls.{call_named}
 use Rattle.lc3_warnings.specs.declared.flow.Flow.{Flow}
 use Rattle.lc3_warnings.specs.declared.flow.Flow.TheVariants.{GoesOn, Stops}
 use Rattle.lc3_warnings.specs.declared.flow.Next.{Next}
@@ -63,10 +64,15 @@ abbrev pub is_word_alone : List Token → Bool
 is_word_alone (Word w ∷ []) = not (slice_index w (length w - 1) == 58)
 is_word_alone ts = false
 
--- whether a line that nothing names was rather meant as an operation: a label alone, without `:`, spelled nearly like one
-abbrev pub was_meant : List ℕ → Line Operand → Bool
-was_meant bytes (LabelAlone name) = is_word_alone (tokens bytes) && is_near name
-was_meant bytes _ = false
+-- what a name was rather meant as: the call with this vector, or an operation that is spelled nearly so
+abbrev pub call_or_operation : Option ℕ → List ℕ → Option Kind
+call_or_operation (Some vector) name = Some (kind.CallName vector)
+call_or_operation None name = if is_near name then Some kind.Misspelt else None
+
+-- what a line that nothing names was rather meant as, if it is a label alone, without `:`
+abbrev pub meaning : List ℕ → Line Operand → Option Kind
+meaning bytes (LabelAlone name) = if is_word_alone (tokens bytes) then call_or_operation (call_named name) name else None
+meaning bytes _ = None
 
 -- whether a label that was read is this one
 abbrev pub is_read_as : List ℕ → Result (List ℕ) Fault → Bool
@@ -89,40 +95,48 @@ faulty_line texts f = get_or texts (f.line - 1) []
 abbrev pub mentioned : List (List ℕ) → List LineFault → List ℕ → Bool
 mentioned texts fs name = list_any (mentions name) (map (faulty_line texts) fs)
 
+-- whether execution goes on from an instruction to an instruction
+abbrev pub goes_on_to : Option Flow → Option Flow → Bool
+goes_on_to (Some GoesOn) (Some GoesOn) = true
+goes_on_to (Some GoesOn) (Some Stops) = true
+goes_on_to before behind = false
+
 -- whether a label between such lines may be there for the reader: nothing with words stands before it, or
--- execution goes on there from an instruction to an instruction
+-- execution goes on there
 abbrev pub is_for_reader : Option Flow → Option Flow → Bool
 is_for_reader None behind = true
-is_for_reader (Some GoesOn) (Some GoesOn) = true
-is_for_reader (Some GoesOn) (Some Stops) = true
-is_for_reader before behind = false
+is_for_reader (Some before) behind = goes_on_to (Some before) behind
 
 -- what the next line with words is to execution
 abbrev pub flow_behind : Option Next → Option Flow
 flow_behind None = None
 flow_behind (Some n) = Some n.flow
 
+-- what the first line with words from a line on is to execution
+abbrev pub flow_from : Around → Option Flow
+flow_from a = option_or a.here (flow_behind a.next)
+
 -- whether the label of a line that stands so may be there for the reader
 abbrev pub may_be_for_reader : Around → Bool
-may_be_for_reader a = is_for_reader a.previous (option_or a.here (flow_behind a.next))
+may_be_for_reader a = is_for_reader a.previous (flow_from a)
 
 -- the warning of a label that isn't one of those that are named, of a line that stands so
 abbrev pub unused : (List ℕ → Bool) → List ℕ → Line Operand → Around → Option (List ℕ) → Option Kind
 unused labels bytes l a None = None
 unused labels bytes l a (Some name) =
-    if labels name || may_be_for_reader a || was_meant bytes l then None else Some kind.UnusedLabel
+    if labels name || may_be_for_reader a || is_some (meaning bytes l) then None else Some kind.UnusedLabel
 
 -- No line names the label of the line.
 abbrev pub unused_label : (List ℕ → Bool) → List ℕ → Line Operand → Around → Option Kind
 unused_label labels bytes l a = unused labels bytes l a (label_of l)
 
--- the warning of a label that was meant as an operation, where it isn't one of those that are named or mentioned
+-- the warning of a label that was meant otherwise, where it isn't one of those that are named or mentioned
 abbrev pub misread : (List ℕ → Bool) → (List ℕ → Bool) → List ℕ → Line Operand → Option (List ℕ) → Option Kind
 misread labels mentions bytes l None = None
 misread labels mentions bytes l (Some name) =
-    if labels name || mentions name || not (was_meant bytes l) then None else Some kind.Misspelt
+    if labels name || mentions name then None else meaning bytes l
 
--- A label alone, without `:`, that no line names, that is no word of a faulty line, and that is spelled nearly like an
--- operation without operands. (The label of a faulty line is a word of that line itself.)
-abbrev pub misspelt : (List ℕ → Bool) → (List ℕ → Bool) → List ℕ → Line Operand → Option Kind
-misspelt labels mentions bytes l = misread labels mentions bytes l (label_of l)
+-- A label alone, without `:`, that no line names, that is no word of a faulty line, and that is the name of a call or
+-- spelled nearly like an operation without operands. (The label of a faulty line is a word of that line itself.)
+abbrev pub other_meaning : (List ℕ → Bool) → (List ℕ → Bool) → List ℕ → Line Operand → Option Kind
+other_meaning labels mentions bytes l = misread labels mentions bytes l (label_of l)

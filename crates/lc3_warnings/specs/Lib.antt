@@ -1,4 +1,5 @@
 pub mod Around
+pub mod Calls
 pub mod Codes
 pub mod Flows
 pub mod Labels

@@ -2,6 +2,7 @@
 use Rattle.std.specs.Prelude.{ℕ, List, ◌++◌, codes}
 use Rattle.std.specs.Fmt.{decimal}
 use Rattle.lc3_word.specs.Words.{number_text, hexadecimal_text}
+use Rattle.lc3_table.specs.Text.{trap_text}
 use Rattle.lc3_table.specs.declared.operation.Form.{Form}
 use Rattle.lc3_table.specs.declared.operation.Form.TheVariants as form
 use Rattle.lc3_warnings.specs.declared.texts.Kind.{Kind}
@@ -13,10 +14,12 @@ warning_name (kind.Wraps f value) = codes "wraps"
 warning_name kind.UnknownTrap = codes "unknown-trap"
 warning_name (kind.DecimalOrigin n) = codes "decimal-origin"
 warning_name kind.Misspelt = codes "misspelt"
+warning_name (kind.CallName n) = codes "call-name"
 warning_name kind.UnusedLabel = codes "unused-label"
 warning_name kind.StartsInData = codes "starts-in-data"
 warning_name (kind.RunsIntoData n) = codes "runs-into-data"
 warning_name kind.RunsPastEnd = codes "runs-past-end"
+warning_name kind.FallsInto = codes "falls-into"
 warning_name (kind.LostReturn n) = codes "r7"
 warning_name (kind.StaleCodes n) = codes "stale-codes"
 warning_name (kind.LoadedString n) = codes "loaded-string"
@@ -37,10 +40,12 @@ warning_text kind.UnknownTrap word = codes "this trap ends the process as badtra
 warning_text (kind.DecimalOrigin n) word =
     word ++ codes " is decimal, the address " ++ hexadecimal_text n ++ codes "; did you mean x" ++ decimal n ++ codes "?"
 warning_text kind.Misspelt word = word ++ codes " is read as a label"
+warning_text (kind.CallName n) word = word ++ codes " is read as a label; the call is " ++ trap_text n
 warning_text kind.UnusedLabel word = codes "no line names the label " ++ word
 warning_text kind.StartsInData word = codes "execution begins here, and this is data"
 warning_text (kind.RunsIntoData n) word = codes "execution goes on into the data of line " ++ decimal n ++ codes "; is a HALT missing?"
 warning_text kind.RunsPastEnd word = codes "execution goes on behind this last word; is a HALT missing?"
+warning_text kind.FallsInto word = codes "execution goes on from above into the subroutine " ++ word ++ codes "; is a RET or a HALT missing?"
 warning_text (kind.LostReturn n) word =
     word ++ codes " in line " ++ decimal n ++ codes " has written R7, so this goes back behind it; store R7 before it and load it again"
 warning_text (kind.StaleCodes n) word =

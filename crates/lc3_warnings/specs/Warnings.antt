@@ -7,8 +7,8 @@ use Rattle.lc3_table.specs.Statements.{Line, Operand}
 use Rattle.lc3_asm.specs.Texts.{lines}
 use Rattle.lc3_asm.specs.Faults.{Reading, reading, faults, has_faults}
 use Rattle.lc3_warnings.specs.Numbers.{wraps, unknown_trap, decimal_origin}
-use Rattle.lc3_warnings.specs.Around.{around, starts_in_data, runs_into_data, runs_past_end}
-use Rattle.lc3_warnings.specs.Labels.{named, called, mentioned, misspelt, unused_label}
+use Rattle.lc3_warnings.specs.Around.{around, starts_in_data, runs_into_data, runs_past_end, falls_into}
+use Rattle.lc3_warnings.specs.Labels.{named, called, mentioned, other_meaning, unused_label}
 use Rattle.lc3_warnings.specs.Returns.{lost_return}
 use Rattle.lc3_warnings.specs.Codes.{stale_codes}
 use Rattle.lc3_warnings.specs.Strings.{strings, loaded_string}
@@ -43,11 +43,12 @@ line_kinds s bytes l a above =
     wraps bytes l
     ∷ unknown_trap l
     ∷ decimal_origin bytes l
-    ∷ misspelt s.named s.mentioned bytes l
+    ∷ other_meaning s.named s.mentioned bytes l
     ∷ if_accepted s.accepted (unused_label s.named bytes l a)
     ∷ if_accepted s.accepted (starts_in_data a)
     ∷ if_accepted s.accepted (runs_into_data a)
     ∷ if_accepted s.accepted (runs_past_end a)
+    ∷ if_accepted s.accepted (falls_into s.called l a)
     ∷ if_accepted s.accepted (lost_return s.profile s.called l above)
     ∷ if_accepted s.accepted (stale_codes s.named l above)
     ∷ if_accepted s.accepted (loaded_string s.strings l a above)

@@ -11,5 +11,6 @@ mod numbers;
 mod texts;
 mod walk;
 
+pub use line_kinds::call_named;
 pub use texts::{Kind, Warning, push_text};
 pub use walk::warnings;

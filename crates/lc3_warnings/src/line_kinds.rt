@@ -8,14 +8,17 @@ ghost use Rattle.lc3_warnings.specs.Private.Names.{is_among};
 ghost use Rattle.lc3_warnings.specs.Returns.{is_r7, has_r7, line_writes_r7, ends_subroutine, body, lost_in, is_return, lost_return};
 ghost use Rattle.lc3_spelling.specs.Edits.{near_edits};
 ghost use Rattle.lc3_table.specs.Tokens.{tokens};
-ghost use Rattle.lc3_warnings.specs.Labels.{is_near, is_word_alone, was_meant, misspelt, may_be_for_reader, unused_label};
+ghost use Rattle.lc3_warnings.specs.Labels.{is_near, is_word_alone, call_or_operation, meaning, other_meaning, may_be_for_reader, unused_label};
+ghost use Rattle.lc3_warnings.specs.Calls.{call_named};
 
 use crate::codes::{loaded_string, stale_codes};
 use crate::flow::{Flow, flow_of};
 use crate::names::{Names, statement_of};
 use crate::numbers::{decimal_origin, unknown_trap, wraps};
 use crate::texts::{Kind, Warning};
-use crate::walk::{Around, Settings, runs_into_data, runs_past_end, starts_in_data};
+use crate::walk::{
+    Around, Settings, falls_into, goes_on_here, runs_into_data, runs_past_end, starts_in_data,
+};
 use lc3_asm::{Line, Operand, Token, first_token};
 use lc3_spelling::{BARE_OPERATIONS, suggestion};
 use lc3_table::{Operation, Profile};
@@ -58,7 +61,7 @@ pub fn push_line(
 {
     let alloc = *found.allocator();
     let accepted = setting.accepted;
-    let misspelt = misspelt(alloc, &setting.named, &setting.mentioned, bytes, line)?;
+    let meaning = other_meaning(alloc, &setting.named, &setting.mentioned, bytes, line)?;
     let unused = unused_label(alloc, &setting.named, bytes, line, around)?;
     let lost = lost_return(setting.profile, &setting.called, line, before);
     let loaded = loaded_string(&setting.strings, line, around, before);
@@ -66,11 +69,12 @@ pub fn push_line(
         wraps(bytes, line),
         unknown_trap(line),
         decimal_origin(bytes, line),
-        misspelt,
+        meaning,
         if_accepted(accepted, unused),
         if_accepted(accepted, starts_in_data(around)),
         if_accepted(accepted, runs_into_data(around)),
         if_accepted(accepted, runs_past_end(around)),
+        if_accepted(accepted, falls_into(&setting.called, line, around)),
         if_accepted(accepted, lost),
         if_accepted(accepted, stale_codes(&setting.named, line, before)),
         if_accepted(accepted, loaded),
@@ -186,30 +190,64 @@ fn is_near(alloc: Global, name: &str) -> Result<bool, AllocError>
     Ok(near)
 }
 
-/// Whether a line that nothing names was rather meant as an operation.
-fn was_meant(alloc: Global, bytes: &[u8], line: &Line) -> Result<bool, AllocError>
-    ensures value { IfOk result (λ meant. meant ≡ was_meant bytes.now (seen_line line.now)) }
+/// The vector of the call with this name in capital letters.
+pub fn call_named(name: &str) -> Option<u8>
+    ensures vector { result ≡ call_named name.now }
 {
-    match (line, first_token(bytes)) {
-        (Line::LabelAlone(name), Some((Token::Word(word), after)))
-            if first_token(after).is_none() && !matches!(word, [.., b':']) => is_near(
-            alloc,
-            name.as_str(),
-        ),
-        _ => Ok(false),
+    match name {
+        "MQ_OPEN" => Some(0x40),
+        "MQ_CLOSE" => Some(0x41),
+        "MQ_UNLINK" => Some(0x42),
+        "MQ_SEND" => Some(0x43),
+        "MQ_RECEIVE" => Some(0x44),
+        "MQ_GETATTR" => Some(0x45),
+        "MQ_SETATTR" => Some(0x46),
+        "SEM_OPEN" => Some(0x50),
+        "SEM_CLOSE" => Some(0x51),
+        "SEM_UNLINK" => Some(0x52),
+        "SEM_WAIT" => Some(0x53),
+        "SEM_TRYWAIT" => Some(0x54),
+        "SEM_POST" => Some(0x55),
+        "SEM_GETVALUE" => Some(0x56),
+        _ => None,
     }
 }
 
-/// Whether the label of this line was meant as an operation: it is neither among the labels that
-/// lines name nor among those that are words of faulty lines.
-pub fn misspelt(
+/// What a name was rather meant as, a call or an operation that is spelled nearly so.
+fn call_or_operation(alloc: Global, name: &str) -> Result<Option<Kind>, AllocError>
+    ensures value { IfOk result (λ kind.
+        kind ≡ call_or_operation (call_named name.now) name.now) }
+{
+    match call_named(name) {
+        Some(vector) => Ok(Some(Kind::CallName { vector })),
+        None => Ok(is_near(alloc, name)?.then_some(Kind::Misspelt)),
+    }
+}
+
+/// What a line that nothing names was rather meant as.
+fn meaning(alloc: Global, bytes: &[u8], line: &Line) -> Result<Option<Kind>, AllocError>
+    ensures value { IfOk result (λ kind. kind ≡ meaning bytes.now (seen_line line.now)) }
+{
+    match (line, first_token(bytes)) {
+        (Line::LabelAlone(name), Some((Token::Word(word), after)))
+            if first_token(after).is_none() && !matches!(word, [.., b':']) => call_or_operation(
+            alloc,
+            name.as_str(),
+        ),
+        _ => Ok(None),
+    }
+}
+
+/// What the label of this line was rather meant as, if it is neither among the labels that lines name nor among those that
+/// are words of faulty lines.
+pub fn other_meaning(
     alloc: Global,
     named: &Names,
     mentioned: &Names,
     bytes: &[u8],
     line: &Line,
 ) -> Result<Option<Kind>, AllocError>
-    ensures value { IfOk result (λ kind. kind ≡ misspelt (is_among named.now)
+    ensures value { IfOk result (λ kind. kind ≡ other_meaning (is_among named.now)
         (is_among mentioned.now) bytes.now (seen_line line.now)) }
 {
     let Some(name) = line.label() else {
@@ -218,17 +256,13 @@ pub fn misspelt(
     if named.contains(name) || mentioned.contains(name) {
         return Ok(None);
     }
-    Ok(was_meant(alloc, bytes, line)?.then_some(Kind::Misspelt))
+    meaning(alloc, bytes, line)
 }
 
 fn may_be_for_reader(around: Around) -> bool
     ensures value { result ≡ may_be_for_reader around }
 {
-    let behind = around.here.or(around.next.map(|next| next.flow));
-    matches!(
-        (around.previous, behind),
-        (None, _) | (Some(Flow::GoesOn), Some(Flow::GoesOn | Flow::Stops))
-    )
+    around.previous.is_none() || goes_on_here(around)
 }
 
 /// Whether no line names the label of this line, which stands so.
@@ -248,5 +282,9 @@ pub fn unused_label(
     if named.contains(name) || may_be_for_reader(around) {
         return Ok(None);
     }
-    Ok((!was_meant(alloc, bytes, line)?).then_some(Kind::UnusedLabel))
+    Ok(
+        meaning(alloc, bytes, line)?
+            .is_none()
+            .then_some(Kind::UnusedLabel),
+    )
 }

@@ -2,7 +2,7 @@
 ghost use Rattle.std.specs.Prelude.{◌≡◌, ◌++◌, Some, OnOk, string_bytes};
 ghost use Rattle.lc3_warnings.specs.Texts.{warning_name, field_text, warning_text};
 
-use lc3_table::Form;
+use lc3_table::{Form, Instr};
 use lc3_word::Hex;
 use std::alloc::AllocError;
 use std::fmt;
@@ -18,10 +18,12 @@ impl Kind {
             Kind::UnknownTrap => "unknown-trap",
             Kind::DecimalOrigin { .. } => "decimal-origin",
             Kind::Misspelt => "misspelt",
+            Kind::CallName { .. } => "call-name",
             Kind::UnusedLabel => "unused-label",
             Kind::StartsInData => "starts-in-data",
             Kind::RunsIntoData { .. } => "runs-into-data",
             Kind::RunsPastEnd => "runs-past-end",
+            Kind::FallsInto => "falls-into",
             Kind::LostReturn { .. } => "r7",
             Kind::StaleCodes { .. } => "stale-codes",
             Kind::LoadedString { .. } => "loaded-string",
@@ -67,6 +69,10 @@ impl fmt::Display for WarningText<'_> {
                 Hex(address)
             ),
             Kind::Misspelt => write!(f, "{word} is read as a label"),
+            Kind::CallName { vector } => {
+                let call = Instr::Trap { vector };
+                write!(f, "{word} is read as a label; the call is {call}")
+            }
             Kind::UnusedLabel => write!(f, "no line names the label {word}"),
             Kind::StartsInData => write!(f, "execution begins here, and this is data"),
             Kind::RunsIntoData { next } => write!(
@@ -76,6 +82,10 @@ impl fmt::Display for WarningText<'_> {
             Kind::RunsPastEnd => write!(
                 f,
                 "execution goes on behind this last word; is a HALT missing?"
+            ),
+            Kind::FallsInto => write!(
+                f,
+                "execution goes on from above into the subroutine {word}; is a RET or a HALT missing?"
             ),
             Kind::LostReturn { writer } => write!(
                 f,
@@ -113,6 +123,8 @@ pub enum Kind {
     DecimalOrigin { address: u16 },
     /// The label that stands alone in the line was meant as an operation.
     Misspelt,
+    /// The label that stands alone in the line is the name of the call with this vector.
+    CallName { vector: u8 },
     /// No line names the label that the line defines.
     UnusedLabel,
     /// Execution begins at data.
@@ -121,6 +133,8 @@ pub enum Kind {
     RunsIntoData { next: usize },
     /// Execution goes on behind the last word.
     RunsPastEnd,
+    /// Execution goes on from above into the subroutine that begins in the line.
+    FallsInto,
     /// A subroutine goes back, and the line of this number, from 1, has written R7.
     LostReturn { writer: usize },
     /// A branch reads the condition codes from before the trap in the line of this number, from 1.

@@ -9,8 +9,8 @@ ghost use Rattle.lc3_warnings.specs.Warnings.{lines_told, first_with_token, afte
 ghost use Rattle.std.specs.List.{list_any};
 ghost use Rattle.lc3_table.specs.Tokens.{tokens};
 ghost use Rattle.lc3_warnings.specs.Private.Names.{is_among};
-ghost use Rattle.lc3_warnings.specs.Labels.{is_mention, faulty_line, mentioned};
-ghost use Rattle.lc3_warnings.specs.Around.{starts_in_data, runs_into_data, runs_past_end};
+ghost use Rattle.lc3_warnings.specs.Labels.{is_mention, faulty_line, mentioned, goes_on_to, flow_from};
+ghost use Rattle.lc3_warnings.specs.Around.{starts_in_data, runs_into_data, runs_past_end, falls_into};
 
 use crate::codes::strings;
 use crate::flow::{Flow, Next, flow_of, next_from};
@@ -267,4 +267,22 @@ pub fn runs_past_end(around: Around) -> Option<Kind>
     ensures value { result ≡ runs_past_end around }
 {
     matches!((around.here, around.next), (Some(Flow::GoesOn), None)).then_some(Kind::RunsPastEnd)
+}
+
+/// Whether execution goes on from an instruction above to the first instruction from this line on.
+pub fn goes_on_here(around: Around) -> bool
+    ensures value { result ≡ goes_on_to around.previous (flow_from around) }
+{
+    let behind = around.here.or(around.next.map(|next| next.flow));
+    matches!(
+        (around.previous, behind),
+        (Some(Flow::GoesOn), Some(Flow::GoesOn | Flow::Stops))
+    )
+}
+
+/// Whether execution goes on from above into the subroutine that begins in this line, where these labels are.
+pub fn falls_into(entries: &Names, line: &Line, around: Around) -> Option<Kind>
+    ensures value { result ≡ falls_into (is_among entries.now) (seen_line line.now) around }
+{
+    (entries.has_label_of(line) && goes_on_here(around)).then_some(Kind::FallsInto)
 }

@@ -1,6 +1,6 @@
 use Rattle.std.proofs.Common.{◌≡◌, rules, ap, ◌∙◌}
 use Rattle.std.proofs.lemmas.Result.{IfOk-weaker}
-use Rattle.lc3_messages.specs.Private.Told.{error_count}
+use Rattle.lc3_messages.specs.Private.Errors.{error_count}
 use Rattle.lc3_messages.proofs.CountLemmas.{errors-as-accepted, warnings-as-told}
 use Rattle.lc3_messages.proofs.report.report_on.Goals as goal
 

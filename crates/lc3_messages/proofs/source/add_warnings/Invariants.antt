@@ -1,6 +1,6 @@
 use Rattle.std.proofs.Common.{◌≡◌, ◌++◌, map, take}
 use Rattle.lc3_messages.specs.Counts.{without}
-use Rattle.lc3_messages.specs.Private.Told.{finding_of_warning}
+use Rattle.lc3_messages.specs.Told.{finding_of_warning}
 use Rattle.lc3_messages.proofs.source.add_warnings.Given as goal
 
 -- the warnings so far, but for those of the names

@@ -1,5 +1,5 @@
 use Rattle.std.proofs.Common.{◌≡◌, [], take}
-use Rattle.lc3_messages.specs.Private.Told.{AreFrom}
+use Rattle.lc3_messages.specs.Told.{AreFrom}
 use Rattle.lc3_messages.proofs.source.told_faults.Given as goal
 
 -- the faults so far are told but for some about a label, and at least one of them is

@@ -1,11 +1,14 @@
--- What is told of a text: which of its faults, and how they stand among the warnings.
-use Rattle.std.specs.Prelude.{ℕ, ◌≡◌, ◌⊎◌, Bool, true, false, List, [], ◌∷◌, ◌++◌, map}
-use Rattle.std.specs.List.{count_by}
+-- What is found in a text, and what of it is told: which of its faults, and how they stand among the warnings.
+use Rattle.std.specs.Prelude.{ℕ, ◌≡◌, ◌⊎◌, Bool, true, false, List, [], ◌∷◌, ◌++◌, map, length, take}
 use Rattle.std.specs.List.Sorted.{IsPermutation}
 use Rattle.lc3_table.specs.declared.operation.Fault.{Fault as Kind}
 use Rattle.lc3_table.specs.declared.operation.Fault.TheVariants as fault
+use Rattle.lc3_table.specs.declared.profile.Profile.{Profile}
+use Rattle.lc3_asm.specs.Texts.{lines}
+use Rattle.lc3_asm.specs.Faults.{reading, faults_of}
 use Rattle.lc3_asm.specs.declared.passes.LineFault.{LineFault}
 use Rattle.lc3_warnings.specs.declared.texts.Warning.{Warning as Told}
+use Rattle.lc3_messages.specs.Counts.{told_warnings}
 use Rattle.lc3_messages.specs.declared.source.Finding.{Finding}
 use Rattle.lc3_messages.specs.declared.source.What.{What}
 use Rattle.lc3_messages.specs.declared.source.What.TheVariants.{Fault, Warning}
@@ -27,11 +30,6 @@ AreFrom (f ∷ fs) told =
     ((names_a_label f.kind ≡ true) × AreFrom fs told)
     ⊎ ((rest : List Finding) × (told ≡ finding_of f ∷ rest) × AreFrom fs rest)
 
--- whether the source is refused for it
-abbrev pub is_error : What → Bool
-is_error (Fault k) = true
-is_error (Warning w) = false
-
 -- a warning as what is found
 abbrev pub finding_of_warning : Told → Finding
 finding_of_warning w = record { line = w.line; what = Warning w.kind }
@@ -43,6 +41,12 @@ pub record Tells (faults : List LineFault) (warnings : List Told) (found : List 
   pub some : told ≡ [] → faults ≡ []
   pub all : IsPermutation (told ++ map finding_of_warning warnings) found
 
--- how many faults are found
-abbrev pub error_count : List Finding → ℕ
-error_count found = count_by (λ f. is_error f.what) found
+-- the most findings that are told
+abbrev pub most_told : ℕ
+most_told = 100
+
+-- the first findings of a text on this machine, where warnings of these names are left out
+pub record AreTold (profile : Profile) (names : List (List ℕ)) (text : List ℕ) (told : List Finding) : Type 0 where
+  pub found : List Finding
+  pub all : Tells (faults_of (length (lines text)) (reading text)) (told_warnings profile names text) found
+  pub first : told ≡ take most_told found

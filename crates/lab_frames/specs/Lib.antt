@@ -1,0 +1,5 @@
+pub mod Headers
+pub mod Frames
+pub mod Taking
+pub mod Written
+pub mod Private
