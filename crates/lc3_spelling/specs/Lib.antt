@@ -1,2 +1,3 @@
 pub mod Edits
 pub mod Private
+pub mod Unseen
