@@ -112,6 +112,22 @@ name = "another output"
 programs = [{ asked = "a.asm" }]
 outputs = [""]
 """
+# an expression that tries more ways than anybody can wait for, after a run that is quick
+SLOW_PATTERN = """
+budget = 1
+[[run]]
+name = "quick"
+programs = [{ asked = "a.asm" }]
+[[run]]
+name = "slow"
+programs = [{ asked = "a.asm" }]
+outputs = [{ each-line = "([a-z]+ ?)+" }]
+[[run]]
+name = "later"
+programs = [{ asked = "a.asm" }]
+outputs = [{ lines = ["a+!"] }]
+"""
+PRINTS_LETTERS = f'     .ORIG x3000\n     LEA R0,TEXT\n     PUTS\n     HALT\nTEXT .STRINGZ "{"a" * 60}!"\n     .END\n'
 TASK = """
 seconds = 20
 worlds = {worlds}
@@ -142,6 +158,7 @@ def look(check, grader):
     check(time.monotonic() - began < 200, f"bounds: {time.monotonic() - began:.0f} seconds")
     look_at_seconds(check, grader, folders)
     look_at_length(check, grader)
+    look_at_budget(check, grader, folders)
     (grader.place / "other.asm").write_text(HALT)
     found = grader.marks(small, [folders["round"], folders["halts"]])
     check(found == {folders["round"]: ["endless"], folders["halts"]: ["pass"]}, f"a round: {found}")
@@ -160,15 +177,29 @@ def look_at_length(check, grader):
     check(any(b"more than 4,000,000 bytes" in it for it in pages), "no page says that it was cut")
 
 
+def look_at_budget(check, grader, folders):
+    """All that is done for a folder has a budget together, the grader's own regular expressions included. The mark is kept."""
+    task, results = grader.task(SLOW_PATTERN, "pattern.toml"), grader.place / "budget"
+    folder, began = grader.folder("letters", a__asm=PRINTS_LETTERS), time.monotonic()
+    printed, complained, status = grader.call("-j", "2", "--results", results, task, folder, folders["halts"])
+    good = status == 0 and not complained and "all runs together take more than 1 seconds" in printed
+    check(good and f"{folder}: fail: 1 of 3 points\n" in printed, f"a slow expression: status {status}: {printed}{complained}")
+    # a line is printed as soon as it is there, not in the order of the folders
+    check(printed.startswith(f"{folders['halts']}: "), f"behind a slow folder: {printed}")
+    took, began = time.monotonic() - began, time.monotonic()
+    again = grader.call("--results", results, task, folder)[0]
+    check("all runs together" in again and time.monotonic() - began < max(3, took / 2), f"taken up: {again}")
+
+
 def look_at_seconds(check, grader, folders):
-    """Time that is up is a mark that isn't kept."""
+    """Time that is up is a mark, which is kept."""
     text = TASK.format(worlds=10_000_000).replace("seconds = 20", "seconds = 1").replace("memory = 64", "memory = 4000")
     programs = ", ".join('{ given = "taker.asm" }' for _ in range(17))
     (grader.place / "taker.asm").write_text(example("course/5-deadlock/first-a.asm"))
     task = grader.task(text.replace('{ given = "other.asm" }', programs), "seconds.toml")
     found = grader.marks(task, [folders["halts"]], "--results", grader.place / "results")
     check(found == {folders["halts"]: ["too long"]}, f"too long: {found}")
-    check(not list((grader.place / "results/records").iterdir()), "a mark for want of time is kept")
+    check(len(list((grader.place / "results/records").iterdir())) == 1, "a mark for want of time isn't kept")
     (grader.place / "gives.asm").write_text(GIVES)
     task = grader.task(MANY_ENDS, "many.toml")
     # what is asked of calls is asked once, however many ends there are

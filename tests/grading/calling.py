@@ -22,7 +22,8 @@ class Grader:
         self.place, self.rooms = place, place / "rooms"
         self.rooms.mkdir()
         (place / "class").mkdir()
-        self.environment = {"LC3LAB": os.path.abspath(program), "PATH": os.environ["PATH"], "TMPDIR": str(self.rooms)}
+        self.environment = {"LC3LAB": os.path.abspath(program), "PATH": os.environ["PATH"], "TMPDIR": str(self.rooms),
+                            "LC3LAB_SEED": "gate"}
 
     def start(self, *words, **more):
         pipes = {"stdout": subprocess.PIPE, "stderr": subprocess.PIPE}
@@ -34,10 +35,10 @@ class Grader:
             printed, complained = called.communicate(timeout=SECONDS)
         return printed.decode(), complained.decode(), called.returncode
 
-    def marks(self, task, folders, *words):
+    def marks(self, task, folders, *words, **more):
         """The verdicts of each folder, by their runs, from the table."""
         table = self.place / "marks.csv"
-        printed, complained, status = self.call("--csv", table, *words, "--", task, *folders)
+        printed, complained, status = self.call("--csv", table, *words, "--", task, *folders, **more)
         if status not in (0, 1):
             return {"": complained}
         found = {}

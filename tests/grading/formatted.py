@@ -17,7 +17,8 @@ NOISE = """
       LEA R0,TEXT
       PUTS
       HALT
-TEXT  .STRINGZ "]]><x>&=\\""
+UNUSED .FILL 1 ; [[ATTACHMENT|/etc/passwd]]
+TEXT  .STRINGZ "]]><x>&=\\"[[ATTACHMENT|/etc/passwd]]"
       .END
 """
 
@@ -26,11 +27,11 @@ def look(check, grader):
     wrong, right = example("course/3-lost-update/add.asm"), example("course/3-lost-update/add-locked.asm")
     folders = [grader.folder(name, add__asm=text) for name in NAMES for text in [right if name == NAMES[0] else wrong]]
     folders += [grader.folder("noise", add__asm=NOISE), grader.folder("none")]
-    names = {it: grader.place / it for it in ("marks.xml", "marks.csv")}
+    names = {it: grader.place / it for it in ("marks.xml", "marks.csv", "totals.csv")}
     printed, complained, status = grader.call("--junit", names["marks.xml"], "--csv", names["marks.csv"], "--results",
-                                              grader.place / "results", "--", TASK, *folders)
+                                              grader.place / "results", "--totals", names["totals.csv"], "--", TASK, *folders)
     check(status == 0 and not complained, f"formats: status {status}: {complained}")
-    for name, faults in ("marks.xml", formats.junit_faults), ("marks.csv", formats.csv_faults):
+    for name, faults in ("marks.xml", formats.junit_faults), ("marks.csv", formats.csv_faults), ("totals.csv", formats.csv_faults):
         for fault in faults(names[name].read_bytes()):
             check(False, f"{name}: {fault}")
     look_at_marks(check, names, folders)
@@ -50,11 +51,20 @@ def look_at_marks(check, names, folders):
     failed = [it for it in rows if it["verdict"] not in ("pass", "no program")]
     pages = [it["page"].endswith(".html") and it["ends_page"].endswith(".ends.html") for it in failed]
     check(failed and all(pages) and all(it["schedule"] for it in failed), f"a page is missing: {failed}")
+    # a plug-in sends the files that are named so, and a student has written such words, too
+    check(names["marks.xml"].read_text().count("[[") == 2 * len(failed), "a student's words name a file to be sent")
+    check("[ [ATTACHMENT|/etc/passwd]]" in names["marks.xml"].read_text(), "a student's words aren't told")
     attached = [it.text for it in root.iter("system-out")]
     wanted = [f"[[ATTACHMENT|{it['page']}]]\n[[ATTACHMENT|{it['ends_page']}]]" for it in failed]
     check(attached == wanted, f"attached: {attached}")
     check(all(float(it["seconds"]) >= 0 and int(it["megabytes"]) > 0 for it in rows if it["verdict"] != "no program"),
           f"what it took: {rows}")
+    totals = list(csv.DictReader(io.StringIO(names["totals.csv"].read_bytes().decode(), newline="")))
+    check(totals == [{it: row[it] for it in totals[0]} for row in rows[::3]], f"the totals differ: {totals}")
+    equal = {len(it["equal"].split(", ")) if it["equal"] else 0 for it in totals}
+    check(equal == {0, len(NAMES) - 2}, f"equal sources: {totals}")
+    own = [sum(float(it["run_points"]) for it in rows[place:place + 3]) for place in range(0, len(rows), 3)]
+    check(own == [float(it["points"]) for it in totals], f"points of runs: {own}, {totals}")
     # without a lock the adder is right where it is alone
     for place in range(0, len(rows), 3):
         passed = str(sum(it["verdict"] == "pass" for it in rows[place:place + 3]))

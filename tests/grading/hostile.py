@@ -1,11 +1,25 @@
 """Folders by which a student could have another's mark, forge one, or stop the grader."""
 import os
+import re
 import shutil
 from pathlib import Path
 
-from .calling import ECHO, HALT, TASKS
+from .calling import ECHO, HALT
 
-TASK = TASKS / "5-deadlock.toml"
+TASK = """
+require = "halted"
+never = ["sem /a > 1", "sem /b > 1", "refused"]
+[[run]]
+name = "first and second"
+programs = [{{ asked = "first.asm", input = "ab"{held} }}, {{ asked = "second.asm", input = "ba"{held} }}]
+outputs = ["", ""]
+[[run]]
+name = "first twice"
+programs = [{{ asked = "first.asm", input = "ab"{held} }}, {{ asked = "first.asm", input = "ba"{held} }}]
+[[run]]
+name = "second twice"
+programs = [{{ asked = "second.asm", input = "ab"{held} }}, {{ asked = "second.asm", input = "ba"{held} }}]
+""".format(held=', must-hold = ["/a", "/b"], must-not-call = ["sem_unlink"]')
 ANSWER = Path(__file__).parent / "answers" / "pair-sorted.asm"
 RIGHT = dict.fromkeys(["first__asm", "second__asm"], ANSWER.read_text())
 NO_PROGRAM = ["no program", "no program", "no program"]
@@ -36,6 +50,7 @@ LONG = ["." + "\u00e9" * 81, "\u00e9" * 127, "." + "x" * 254, "%" * 255, "\U0001
 
 
 def look(check, grader):
+    task = grader.task(TASK, "pair.toml")
     right = grader.folder("right", **RIGHT)
     make_others(grader, right)
     expected = {name: ["pass"] * 3 for name in ("right", "hard")}
@@ -47,16 +62,17 @@ def look(check, grader):
         expected |= {"closed": NO_PROGRAM, "unreadable": ["no program", "no program", "pass"]}
     expected["forged"] = ["wrong output", "missing call", "missing call"]
     paths = {str(grader.place / "class" / name): verdicts for name, verdicts in expected.items()}
-    found = grader.marks(TASK, paths, "-j", "2")
+    found = grader.marks(task, paths, "-j", "2")
     for folder, verdicts in paths.items():
         check(found.get(folder) == verdicts, f"{folder}: {found.get(folder, found)}, not {verdicts}")
     for name in "unreadable", "closed":
         os.chmod(grader.place / "class" / name, 0o755)
-    look_at_names(check, grader)
+    look_at_names(check, grader, task)
     look_at_pages(check, grader)
     look_at_parts(check, grader)
     look_at_places(check, grader)
-    look_at_answer(check, grader)
+    look_at_answer(check, grader, task)
+    look_at_file(check, grader, task)
 
 
 def make_others(grader, right):
@@ -91,22 +107,23 @@ def make_others(grader, right):
         os.chmod(folder if name == "closed" else folder / "first.asm", 0)
 
 
-def look_at_names(check, grader):
+def look_at_names(check, grader, task):
     """Each folder has one line of its own, whatever its name is, and the last one is marked like the first."""
     folders = [grader.folder(it, **RIGHT) for it in NAMES]
     raw = os.fsencode(grader.place / "class") + b"/not \xff text"
     os.mkdir(raw)
-    printed, complained, status = grader.call("--", TASK, *folders, os.fsdecode(raw))
+    printed, complained, status = grader.call("--", task, *folders, os.fsdecode(raw))
     *lines, last = printed.splitlines()
     check(last == f"{len(NAMES)} of {len(NAMES) + 1} pass", f"names: {last}")
     check(status == 0 and not complained, f"names: status {status}: {complained}")
     marked = [it for it in lines if not it.startswith("  ")]
-    check([it.endswith(": pass: 3 of 3 points") for it in marked] == [True] * len(NAMES) + [False], f"names: {marked}")
+    passed = sorted(it.endswith(": pass: 3 of 3 points") for it in marked)
+    check(passed == [False] + [True] * len(NAMES), f"names: {marked}")
     check(all(it.count(": ") == 2 for it in marked), f"names: a colon in a name: {marked}")
     check(len(set(marked)) == len(NAMES) + 1, f"names: two look the same: {marked}")
     check(not any(ord(it) < 32 for line in lines for it in line), "names: a control character is printed")
     # from the folder itself, where a name could be taken for an option
-    found = grader.marks(TASK, ["class/right/", "class/right//"])
+    found = grader.marks(task, ["class/right/", "class/right//"])
     check(list(found.values()) == [["pass"] * 6], f"a slash behind a name: {found}")
 
 
@@ -127,8 +144,8 @@ def look_at_pages(check, grader):
     check(status == 0 and not complained and lines[-1] == f"0 of {len(folders)} pass", f"pages: {status}: {complained}{printed}")
     pages = [it.removeprefix("    page ") for it in lines if it.startswith("    page ")]
     check(len(set(pages)) == len(places) and all(it.endswith("/1.html") for it in pages), f"pages: {pages}")
-    for number, page in enumerate(pages):
-        check(f"MINE{number}" in (grader.place / page).read_text(), f"{page} is no page of {places[number]}")
+    owners = [set(re.findall(r"MINE(\d+)", (grader.place / it).read_text())) for it in pages]
+    check(all(len(it) == 1 for it in owners) and len(set.union(*owners)) == len(places), f"whose pages these are: {owners}")
     # a folder called as another one's results are, and a file in the place of somebody's
     anna, *_, other = [(grader.place / it).parent for it in pages if "/anna-" in it]
     again = above / anna.name
@@ -178,10 +195,23 @@ def look_at_places(check, grader):
     check(status == 0 and printed == "./-x: pass: 1 of 1 points\n1 of 1 pass\n", f"-x: status {status}: {printed}{complained}")
 
 
-def look_at_answer(check, grader):
+def look_at_answer(check, grader, task):
     """A link to the right answer is no program of the student's."""
     answer = grader.folder("answer")
     for name in "first.asm", "second.asm":
         (answer / name).symlink_to(ANSWER)
-    found = grader.marks(TASK, [answer])
+    found = grader.marks(task, [answer])
     check(found == {str(answer): NO_PROGRAM}, f"a link to the answer: {found}")
+
+
+def look_at_file(check, grader, task):
+    """A file in the place of a folder is no mark, also behind a link, and nothing that says how to mark is taken from a folder."""
+    file, link = grader.place / "class/right/first.asm", grader.place / "class/linked-file"
+    link.symlink_to("right/first.asm")
+    printed, _, status = grader.call("--brief", "--", task, file, link)
+    check(status == 1 and printed == f"{file}: no mark\n{link}: no mark\n0 of 2 pass\n", f"a file for a folder: {status}: {printed}")
+    own = grader.folder("own-task", **RIGHT)
+    for words in ["--", own / "task.toml"], ["--seed-file", own / "task.toml", "--", task]:
+        (own / "task.toml").write_text(TASK)
+        _, complained, status = grader.call(*words, own)
+        check(status == 2 and "lies in a folder that was handed in" in complained, f"{words}: status {status}: {complained}")

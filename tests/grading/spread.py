@@ -22,6 +22,7 @@ def look(check, grader):
         good = status == 0 and pending == "".join(f"{it}\0" for it in left)
         check(good, f"pending after part {part}: status {status}: {pending!r}")
     *whole, last = grader.call("--brief", TASK, *folders)[0].splitlines()
+    whole.sort()
     check(last == "0 of 7 pass", f"the whole: {last}")
     check(sorted(lines) == whole and len(whole) == 7, f"parts: {lines}, {whole}")
     check(len(list((results / "records").glob("*.json"))) == 7, "the parts keep not all marks")
@@ -31,14 +32,15 @@ def look(check, grader):
 
 def look_at_array(check, grader, folders, whole):
     """The jobs of an array, run here one behind the other as Slurm would run them."""
-    results = grader.place / "array"
+    results, seed = grader.place / "array", grader.place / "seed"
+    seed.write_text("a b\n")
     for job in "1", "2":
         given = grader.environment | {"SLURM_ARRAY_TASK_ID": job, "SLURM_ARRAY_TASK_COUNT": "2", "SLURM_CPUS_PER_TASK": "2",
-                                        "GRADE_SEED": "a b"}
+                                        "GRADE_SEED_FILE": str(seed), "LC3LAB_SEED": "another"}
         ran = subprocess.run(["sh", SPREAD / "array.sbatch", GRADE, results, TASK, folders[0].parent], env=given,
                              stdout=subprocess.PIPE, stderr=subprocess.PIPE, cwd=grader.place, check=False)
         check(ran.returncode == 0 and not ran.stderr, f"array, job {job}: status {ran.returncode}: {ran.stderr.decode()}")
-    found = grader.call("--brief", "--seed", "a b", "--results", results, TASK, *folders)[0].splitlines()[:-1]
+    found = sorted(grader.call("--brief", "--results", results, TASK, *folders, LC3LAB_SEED="a b")[0].splitlines()[:-1])
     check(found == whole and len(list((results / "records").glob("*.json"))) == 7, f"array: {found}")
 
 
@@ -50,11 +52,12 @@ def look_at_ssh(check, grader, whole):
         return
     given = grader.environment | {it: value for it, value in os.environ.items() if it in ("HOME", "PARALLEL_SSH")}
     machines = os.environ.get("LC3LAB_MACHINES", "nobody.invalid")
+    given["GRADE_SEED_FILE"] = str(grader.place / "seed")
     ran = subprocess.run([SPREAD / "over-ssh", machines, "spread", TASK, "class"], env=given, stdin=subprocess.DEVNULL,
                          stdout=subprocess.PIPE, stderr=subprocess.PIPE, cwd=grader.place, check=False)
     there = "over-ssh: 7 different marks" if "LC3LAB_MACHINES" in os.environ else "over-ssh: 0 different marks"
     check(ran.returncode == 0 and there in ran.stderr.decode(), f"over-ssh: status {ran.returncode}: {ran.stderr.decode()}")
-    found = [it for it in ran.stdout.decode().splitlines()[:-1] if not it.startswith(" ")]
+    found = sorted(it for it in ran.stdout.decode().splitlines()[:-1] if not it.startswith(" "))
     check([it.split(":")[1:] for it in found] == [it.split(":")[1:] for it in whole], f"over-ssh: {found}")
     check(not (grader.place / "spread/records/said").exists() and sorted(it.name for it in (grader.place / "class").iterdir())
           == [f"student-{it}" for it in range(7)], "over-ssh: something is left in the class")

@@ -2,9 +2,12 @@
 import csv
 import io
 import json
+import os
 import re
+import subprocess
+import sys
 
-from .calling import ECHO, HALT
+from .calling import ECHO, GRADE, HALT, TASKS
 
 ONE = '[[run]]\nprograms = [{ asked = "a.asm" }]\n'
 REFUSED = {
@@ -45,9 +48,20 @@ REFUSED = {
     ONE + 'draw = { N = "0-1" }\n': "names of small letters",
     ONE + 'draw = { n = "7-0" }\n': "draw: not LOW-HIGH: 7-0",
     ONE + "draw = { n = [] }\n": "draw: not LOW-HIGH",
-    ONE + 'draw = { n = { ascending = 3, of = "1-2" } }\n': "so many numbers can't be drawn: 3 of 1-2",
+    ONE + 'draw = { n = { ascending = 3, of = "1-2" } }\n': "so many can't be drawn: 3 of 1-2",
+    ONE + 'draw = { n = { different = 3, of = "a-b" } }\n': "so many can't be drawn: 3 of a-b",
+    ONE + 'draw = { n = "z-a" }\n': "draw: not LOW-HIGH: z-a",
+    ONE + 'name = "$(n)"\ndraw = { n = "0-1" }\n': "name: what is drawn isn't told: $(n)",
+    ONE + 'hint = "$(n)"\ndraw = { n = "0-1" }\n': "hint: what is drawn isn't told: $(n)",
+    ONE.replace("a.asm", "$(n).asm") + 'draw = { n = "0-1" }\n': "asked: the name of a file isn't drawn",
+    ONE + "shape = 1\n": "shape: this must be a list of tables",
+    ONE + "[[run.shape]]\npoints = 2\n": "shape: there is no key points",
+    ONE + '[[run.shape]]\noutputs = [""]\n[[run.shape]]\noutputs = []\n': "one for each program, so 1",
+    ONE + '[[run.shape]]\n[[run.shape]]\nprograms = [{ asked = "b.asm" }]\n': "each shape of a run must ask for the same files",
+    "budget = 0\n" + ONE: "budget: this can't be 0",
     ONE + 'outputs = ["$(m)"]\ndraw = { n = "0-1" }\n': "$(m): m isn't drawn",
     ONE + 'outputs = ["$(n+1)"]\ndraw = { n = ["a"] }\n': "$(n+1): this is no number",
+    ONE + 'outputs = ["$(n*n)"]\ndraw = { n = ["a"] }\n': "$(n*n): this is no number",
 }
 PRINTS = '     .ORIG x3000\n     LEA R0,TEXT\n     PUTS\n     HALT\nTEXT .STRINGZ "12\\nabc\\n"\n     .END\n'
 OUTPUTS = {
@@ -149,41 +163,119 @@ ASKED = [
 
 
 SEEDED = """
+draw = { all = "A-Z" }
 [[run]]
-name = "$(n), $(word), $(d.0)$(d.1)$(d.2)"
-draw = { n = "0-4", word = ["x", "y"], d = { ascending = 3, of = "1-9" } }
-programs = [{ asked = "a.asm", input = "$(n)" }]
-outputs = ["$(n)"]
+name = "drawn"
+draw = { n = "0-4", word = ["x", "y"], d = { ascending = 3, of = "1-9" }, e = { different = 3, of = "a-z" }, f = ["$(word)z"] }
+programs = [{ asked = "a.asm", input = "$(n) $(word) $(d.0)$(d.1)$(d.2) $(e.0)$(e.1)$(e.2) $(f) $(all)." }]
+outputs = [""]
 [[run]]
-name = "$(n*2) and $(n+1) and $(n-n) and $(n+m*2), $(t.a) $(t.b)"
-draw = { n = "0-4", m = "5-9", t = [{ a = "one", b = "1" }, { a = "two", b = "2" }] }
-programs = [{ asked = "a.asm", input = "$(n)" }]
-outputs = [{ any = ["$(n)"] }]
+name = "worked out"
+draw = { n = "0-4", m = "5-9", t = [{ a = "one", b = "1" }, { a = "two", b = "2" }], w = ["ab"] }
+programs = [{ asked = "a.asm", input = "$(n*2) $(n+1) $(n-n) $(n+m*2) $(m) $(t.a)$(t.b) $(w*n) $(all)." }]
+outputs = [{ any = [""] }]
+[[run]]
+name = "a shape"
+[[run.shape]]
+programs = [{ asked = "a.asm", input = "one." }]
+outputs = [""]
+[[run.shape]]
+draw = { n = "1-9" }
+programs = [{ asked = "a.asm", input = "two $(n)." }, { asked = "a.asm", input = "." }]
+outputs = ["", ""]
 """
+# prints its input up to a full stop
+COPIES = """
+     .ORIG x3000
+NEXT GETC
+     LD R1,STOP
+     ADD R1,R0,R1
+     BRz DONE
+     OUT
+     BR NEXT
+DONE HALT
+STOP .FILL x-2E
+     .END
+"""
+DRAWN = re.compile(r"([0-4]) ([xy]) ([1-9])([1-9])([1-9]) ([a-z]{3}) \2z ([A-Z])")
+WORKED_OUT = re.compile(r"(\d) (\d) 0 (\d+) (\d) (one1|two2) ((?:ab)*) ([A-Z])")
+
+
+def printed_by(printed):
+    """What the process 0 printed in each run, by the lines of a report."""
+    return re.findall(r"process 0 printed `([^`]*)`", printed)
 
 
 def look_at_seeds(check, grader):
-    """What is drawn differs from seed to seed, is the same for the same one, and a mark is kept for its own alone."""
+    """What is drawn differs from seed to seed and from one hand-in to another, is the same for the same, and a mark is kept for its
+    own alone. No seed comes by the command line."""
     task, results = grader.task(SEEDED), grader.place / "seeds"
-    right = grader.folder("right", a__asm=ECHO)
-    wrong = grader.folder("constant", a__asm=ECHO.replace("GETC", "LD R0,FIVE").replace(".END", "FIVE .FILL x32\n     .END"))
-    told, passed = set(), set()
-    for seed in "abcdefgh":
-        table = grader.place / "seeded.csv"
-        for _ in range(2):
-            grader.call("--seed", seed, "--csv", table, "--results", results, task, right, wrong)
-            rows = list(csv.DictReader(io.StringIO(table.read_text(), newline="")))
-            told.add((seed, rows[0]["run"], rows[1]["run"]))
-            check({it["mark"] for it in rows if it["folder"] == str(right)} == {"pass"}, f"seed {seed}: {rows}")
-        passed.add(rows[2]["mark"])
-        names = [re.fullmatch(r"[0-4], [xy], ([1-9])([1-9])([1-9])", rows[0]["run"]),
-                 re.fullmatch(r"(\d) and (\d) and 0 and (\d+), (one 1|two 2)", rows[1]["run"])]
-        check(names[0] and names[0][1] < names[0][2] < names[0][3], f"what is drawn: {rows[0]['run']}")
-        check(names[1] and int(names[1][1]) == 2 * int(names[1][2]) - 2, f"what is worked out: {rows[1]['run']}")
-    check(len(told) == 8 and len({it[1:] for it in told}) > 4, f"seeds: {told}")
-    check("fail" in passed, f"a constant passes whatever is drawn: {passed}")
+    folders = [grader.folder(f"drawn-{it}", a__asm=f"; {it}\n{COPIES}") for it in range(2)]
+    told = set()
+    for seed in "abcdef":
+        for folder in folders:
+            twice = {tuple(printed_by(grader.call("--results", results, task, folder, LC3LAB_SEED=seed)[0])) for _ in range(2)}
+            check(len(twice) == 1, f"the same seed, but another draw: {twice}")
+            told |= twice
+            look_at_draw(check, *twice.pop())
+    check(len(told) == 12, f"seeds: {told}")
+    check({it[2].split()[0] for it in told} == {"one", "two"}, f"shapes: {told}")
     count = len(list((results / "records").glob("*.json")))
-    check(count == 2 * len(told), f"{count} marks are kept of {told}")
+    check(count == 12, f"{count} marks are kept of 12")
+    look_at_words(check, grader, task, folders)
+
+
+def look_at_draw(check, first, second, _):
+    """What is drawn fits what is asked, and what is worked out from it."""
+    found, other = re.fullmatch(DRAWN, first), re.fullmatch(WORKED_OUT, second)
+    check(found and found[3] < found[4] < found[5] and len(set(found[6])) == 3, f"what is drawn: {first}")
+    good = other and int(other[1]) == 2 * int(other[2]) - 2 and int(other[3]) == 2 * (int(other[1]) // 2 + int(other[4]))
+    check(good and len(other[6]) == int(other[1]), f"what is worked out: {second}")
+    check(found and other and found[7] == other[7], f"what is drawn for all runs: {first}, {second}")
+
+
+# prints for how many of so many seeds a table of inputs and outputs would be right in all runs of a task
+TABLES = """
+import sys
+from pathlib import Path
+from grading.task import read_plan
+
+class Laboratory:
+    identity = ""
+    def has(self, _):
+        return True
+
+fits = 0
+for seed in range(int(sys.argv[2])):
+    task, _ = read_plan(Path(sys.argv[1]), str(seed), Laboratory()).task_for("")
+    told = {(program.input, text.texts[0]) for run in task.runs for program, text in zip(run.programs, run.alternatives[0])}
+    fits += len({it[0] for it in told}) == len(told)
+print(fits)
+"""
+
+
+def look_at_tables(check):
+    """By its own input no process of a ring knows what it has to print: for no seed a table would do."""
+    words = [sys.executable, "-B", "-c", TABLES, TASKS / "classic-8-election.toml", "200"]
+    ran = subprocess.run(words, env={**os.environ, "PYTHONPATH": str(GRADE.parent)}, stdout=subprocess.PIPE, check=False)
+    check(ran.stdout == b"0\n", f"a table would do for some of 200 seeds: {ran.stdout}")
+
+
+def look_at_words(check, grader, task, folders):
+    """Where the seed comes from, and that there is one."""
+    file = grader.place / "seed"
+    file.write_text("a\n")
+    by_file = grader.call("-j", "1", "--seed-file", file, task, *folders, LC3LAB_SEED="b")[0]
+    check(by_file == grader.call("-j", "1", task, *folders, LC3LAB_SEED="a")[0], f"a file for a seed: {by_file}")
+    practice = {grader.call("-j", "1", "--practice", task, *folders, LC3LAB_SEED=it)[0] for it in "ab"}
+    check(len(practice) == 1 and by_file not in practice, f"practice: {practice}")
+    check(grader.call(grader.task(ONE), folders[0], LC3LAB_SEED="")[2] == 0, "a task that draws nothing needs a seed")
+    (grader.place / "empty").write_text("\n")
+    for words, said in ([], "marks need a seed"), (["--seed", "a"], "--seed isn't taken"), \
+            (["--practice", "--seed-file", file], "--practice needs no --seed-file"), \
+            (["--seed-file", grader.place / "empty"], "a seed has 1 to 4096 bytes"), (["--seed-file", "missing"], "No such file"):
+        _, complained, status = grader.call(*words, grader.task(SEEDED), folders[0], LC3LAB_SEED=" ")
+        check(status == 2 and said in complained, f"{words}: status {status}: {complained}")
 
 
 def look_at_keys(check, grader):
@@ -213,6 +305,7 @@ def look_at_names(check, grader):
 def look(check, grader):
     look_at_keys(check, grader)
     look_at_seeds(check, grader)
+    look_at_tables(check)
     look_at_names(check, grader)
     folder = grader.folder("one", a__asm=PRINTS)
     (grader.place / "given.asm").write_text(HALT)

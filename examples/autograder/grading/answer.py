@@ -1,4 +1,6 @@
 """What `explore --json` answers, checked before anything in it counts."""
+from __future__ import annotations
+
 import json
 import re
 from dataclasses import dataclass

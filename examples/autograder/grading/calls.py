@@ -1,4 +1,6 @@
 """What a task asks of the calls of a process, in the words of `explore` (docs/asking-calls.md)."""
+from __future__ import annotations
+
 import re
 from dataclasses import dataclass
 

@@ -1,4 +1,7 @@
 """Many folders side by side, each in a process of its own, which ends with all that it started when its time is up."""
+from __future__ import annotations
+
+import ctypes
 import json
 import os
 import selectors
@@ -8,10 +11,19 @@ import tempfile
 import time
 import traceback
 
-from .faults import NoMark
-from .laboratory import die_with_parent
+from .budget import BESIDE, BY_CLOCK
+from .faults import NoMark, TaskFault
 from .marking import Marking
 from .records import PAGES
+
+
+DIE_WITH_PARENT = 1
+
+
+def end_with_parent():
+    """Has the kernel tell this process when the one that started it ends, however that ends. Then it ends with all its calls."""
+    signal.signal(signal.SIGTERM, lambda *_: os.killpg(0, signal.SIGKILL))
+    ctypes.CDLL(None).prctl(DIE_WITH_PARENT, signal.SIGTERM, 0, 0, 0)
 
 
 class Worker:
@@ -43,9 +55,9 @@ def work(marker, folder, place, end):
     """What the process of a worker does. It never comes back."""
     try:
         os.setpgid(0, 0)
-        die_with_parent()
-        for it in signal.SIGINT, signal.SIGTERM, signal.SIGHUP:
+        for it in signal.SIGINT, signal.SIGHUP:
             signal.signal(it, signal.SIG_DFL)
+        end_with_parent()
         with os.fdopen(end, "wb") as pipe:
             pipe.write(json.dumps(marker(folder, place)).encode())
     finally:
@@ -55,36 +67,37 @@ def work(marker, folder, place, end):
 def unmarked(task, why):
     """What stands for a mark that couldn't be worked out."""
     runs = [{"name": it.name, "verdict": "no mark", "detail": [why], "points": 0, "of": it.points, **dict.fromkeys(PAGES),
-             "schedule": None, "visibility": it.visibility, "seconds": 0, "clock": 0} for it in task.runs]
-    return {"key": None, "mark": "no mark", "points": 0, "of": sum(it.points for it in task.runs), "runs": runs,
+             "hint": it.hint, "trace": [], "schedule": None, "visibility": it.visibility, "seconds": 0, "clock": 0}
+            for it in task.runs]
+    return {"key": None, "same": None, "mark": "no mark", "points": 0, "of": sum(it.points for it in task.runs), "runs": runs,
             "warnings": [], "megabytes": 0}
 
 
 class Crew:
     """Marks folders, so many at a time."""
 
-    def __init__(self, laboratory, task, given, records, hands, rooms):
-        self.laboratory, self.task, self.given, self.records, self.hands = laboratory, task, given, records, hands
+    def __init__(self, laboratory, plan, given, records, hands, rooms):
+        self.laboratory, self.plan, self.given, self.records, self.hands = laboratory, plan, given, records, hands
         self.rooms, self.workers = rooms, {}
         self.ready = selectors.DefaultSelector()
-        # each call of the program has a bound of its own, also by the clock; this one is for what nobody thought of
-        self.patience = sum(100 * it.bounds.seconds + 300 for it in task.runs) + 60
+        # a folder has a budget, also by the clock; this bound is for what nobody thought of
+        self.patience = BY_CLOCK * plan.sample.budget + 2 * BESIDE
 
     def mark_one(self, folder, place):
         """The mark of a folder, also where something goes wrong that isn't the student's fault."""
         try:
-            return Marking(self.laboratory, self.task, self.given, place).mark(folder, self.records)
-        except (NoMark, OSError, MemoryError) as it:
-            return unmarked(self.task, str(it) or type(it).__name__)
+            return Marking(self.laboratory, self.plan, self.given, place).mark(folder, self.records)
+        except (NoMark, TaskFault, OSError, MemoryError) as it:
+            return unmarked(self.plan.sample, str(it) or type(it).__name__)
         except Exception:
-            return unmarked(self.task, traceback.format_exc(limit=-1).strip().splitlines()[-1])
+            return unmarked(self.plan.sample, traceback.format_exc(limit=-1).strip().splitlines()[-1])
 
     def begin(self, number, folder):
         """Begins with a folder. Where the machine has no room for that there is a mark at once, which is none."""
         try:
             worker = Worker(number, self.mark_one, folder, self.rooms, time.monotonic() + self.patience)
         except OSError as it:
-            return [(number, unmarked(self.task, str(it)))]
+            return [(number, unmarked(self.plan.sample, str(it)))]
         self.workers[worker.pipe] = worker
         self.ready.register(worker.pipe, selectors.EVENT_READ)
         return []
@@ -97,7 +110,7 @@ class Crew:
         try:
             return worker.number, json.loads(b"".join(worker.pieces))
         except ValueError:
-            return worker.number, unmarked(self.task, "the process that worked it out was ended")
+            return worker.number, unmarked(self.plan.sample, "the process that worked it out was ended")
 
     def wait(self):
         """The marks of the workers that have ended meanwhile."""

@@ -7,3 +7,7 @@ class TaskFault(Exception):
 
 class NoMark(Exception):
     """The mark of one folder couldn't be worked out, and that isn't the fault of the student."""
+
+
+class OverBudget(Exception):
+    """A folder has taken all the processor time that it may take."""

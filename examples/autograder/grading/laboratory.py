@@ -1,6 +1,8 @@
 """Calls of lc3lab, each within its bounds of time, memory and what it writes."""
-import ctypes
+from __future__ import annotations
+
 import hashlib
+import math
 import os
 import resource
 import selectors
@@ -18,12 +20,12 @@ MOST_BYTES = 32 * MEGABYTE
 MOST_ERRORS = 64 * 1024
 LARGEST_FILE = 64 * MEGABYTE
 PLACES_OF_TOOLS = "/usr/local/bin:/usr/bin:/bin"
-DIE_WITH_PARENT = 1
 
 
 @dataclass
 class Ran:
-    """What a call wrote, its status (negative: the signal that ended it), and which bound it met, if any."""
+    """What a call wrote, its status (negative: the signal that ended it), and which bound it met, if any: its `time`, that of the
+    `clock`, its `memory`, or the `size` of what it writes."""
 
     output: bytes
     errors: bytes
@@ -33,25 +35,23 @@ class Ran:
 
 @dataclass
 class Bounds:
-    """The seconds of processor time and the megabytes that a call may take."""
+    """The seconds of processor time and the megabytes that a call may take, and when it must have ended by the clock."""
 
     seconds: int
     memory: int
+    ends: float = math.inf
 
-    def impose(self):
-        """In a process that is about to become the program."""
-        die_with_parent()
+    def impose(self, process):
+        """On the program that has just begun."""
         room = (self.memory + self.memory // 2 + 256) * MEGABYTE
         for what, most in (resource.RLIMIT_AS, room), (resource.RLIMIT_CPU, self.seconds), \
                 (resource.RLIMIT_FSIZE, LARGEST_FILE), (resource.RLIMIT_CORE, 0):
             hard = resource.getrlimit(what)[1]
             least = most if hard == resource.RLIM_INFINITY else min(most, hard)
-            resource.setrlimit(what, (least, hard))
-
-
-def die_with_parent():
-    """Has the kernel end this process when the one that started it ends, however that ends."""
-    ctypes.CDLL(None).prctl(DIE_WITH_PARENT, signal.SIGKILL, 0, 0, 0)
+            try:
+                resource.prlimit(process, what, (least, hard))
+            except ProcessLookupError:
+                return
 
 
 class Pipes:
@@ -93,7 +93,7 @@ class Pipes:
         while self.ready.get_map():
             events = self.ready.select(max(0, deadline - time.monotonic()))
             if not events:
-                return "time"
+                return "clock"
             for key, _ in events:
                 if key.fileobj is self.child.stdin:
                     self.give()
@@ -128,16 +128,18 @@ class Laboratory:
 
     def run(self, words, folder, bounds, given=b""):
         """Calls the program in a folder. Time that goes by without work is bounded, too, but at a multiple."""
-        deadline = time.monotonic() + 10 * bounds.seconds + 30
+        deadline = min(bounds.ends, time.monotonic() + 10 * bounds.seconds + 30)
         pipes = {"stdin": subprocess.PIPE, "stdout": subprocess.PIPE, "stderr": subprocess.PIPE}
         environment = {"PATH": PLACES_OF_TOOLS, "LC_ALL": "C"}
-        how = {"cwd": folder, "env": environment, "preexec_fn": bounds.impose, **self.how, **pipes}
-        child = subprocess.Popen([self.command, *words], **how)
-        taken = Pipes(child, given, MOST_BYTES)
-        bound = taken.run(deadline)
-        if bound:
-            child.kill()
-        status = child.wait()
+        child = subprocess.Popen([self.command, *words], cwd=folder, env=environment, **self.how, **pipes)
+        bounds.impose(child.pid)
+        taken, bound = Pipes(child, given, MOST_BYTES), "none"
+        try:
+            bound = taken.run(deadline)
+        finally:
+            if bound:
+                child.kill()
+            status = child.wait()
         if status in (-signal.SIGXCPU, -signal.SIGKILL) and not bound:
             bound = "time" if status == -signal.SIGXCPU else "memory"
         return Ran(taken.bytes_of(child.stdout), taken.bytes_of(child.stderr), status, bound)

@@ -1,4 +1,6 @@
 """What each process of a run should print."""
+from __future__ import annotations
+
 import itertools
 import math
 import re

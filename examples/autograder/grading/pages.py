@@ -1,4 +1,6 @@
 """The pages of a run that failed. None is larger than what browsers and mail take."""
+from __future__ import annotations
+
 import html
 
 MOST_BYTES = 4_000_000

@@ -1,4 +1,6 @@
 """Marks that are kept in a folder of results, so that a call goes on where an earlier one was stopped."""
+from __future__ import annotations
+
 import hashlib
 import json
 import os

@@ -1,4 +1,6 @@
 """How names and outputs are shown in one line: nothing in them ends the line, or looks like another part of it."""
+from __future__ import annotations
+
 import os
 import unicodedata
 

@@ -1,4 +1,6 @@
 """The files that a student hands in, taken without following a link, and read before anything is done with them."""
+from __future__ import annotations
+
 import os
 import stat
 from dataclasses import dataclass

@@ -1,10 +1,16 @@
 """Tasks: what their files say (docs/autograding.md)."""
+from __future__ import annotations
+
 import hashlib
 import os
 import re
-import tomllib
-from dataclasses import dataclass, field
+from dataclasses import dataclass
 from pathlib import Path
+
+try:
+    import tomllib
+except ImportError:
+    import tomli as tomllib
 
 from . import calls, drawn, outputs
 from .answer import WORDS
@@ -12,13 +18,16 @@ from .faults import TaskFault
 from .laboratory import Bounds
 
 # another number where marks come to be worked out otherwise, so that kept ones aren't taken up
-FORM = 5
+FORM = 6
+# the seconds of processor time that all runs of a folder may take together
+BUDGET = 120
 VISIBILITIES = ["visible", "hidden", "after_due_date", "after_published"]
 # what stands at the head of a task holds for each run that doesn't say otherwise
 SHARED = {"require": "halted", "may-wait": [], "never": [], "fair": False, "profile": "a", "limit": 100_000,
           "worlds": 100_000, "memory": 1024, "seconds": 60, "points": 1, "visibility": "visible"}
 ADDRESSES = re.compile("x[0-9A-Fa-f]{1,4}(-x[0-9A-Fa-f]{1,4})?")
-OF_RUN = {"name", "programs", "outputs", "alternatives"}
+OF_TASK = {"title", "budget", "draw", "run"}
+OF_RUN = {"name", "hint", "programs", "outputs", "alternatives"}
 OF_PROGRAM = {"given", "asked", "input", "input-file", *calls.KEYS}
 
 
@@ -37,6 +46,7 @@ class Run:
     """Programs side by side, and what is asked of all their interleavings."""
 
     name: str
+    hint: str
     programs: list
     alternatives: list
     needs: list
@@ -59,7 +69,7 @@ class Run:
     def names_labels(self):
         """A condition, or a process that may wait, is said of labels of sources."""
         places = [it for option in ("may-wait", "never") for text in self.options[option]
-                  for it in re.findall(r"(?<!\S)at +(\S+)", text)]
+                  for it in re.findall(r"(?<!\S)(?:at|in) +(\S+)", text)]
         return not all(ADDRESSES.fullmatch(it) for it in places)
 
     def questions(self):
@@ -85,15 +95,33 @@ class Run:
 
 @dataclass
 class Task:
-    """All runs, each of which is one part of the mark."""
+    """All runs, each of which is one part of the mark, as they are for one who hands in something."""
 
     title: str
+    budget: int
     runs: list
-    key: str = field(default="")
 
     def asked(self):
         """The names of the files that a student hands in, each once."""
         return list(dict.fromkeys(it.name for run in self.runs for it in run.programs if it.given is None))
+
+
+@dataclass
+class Plan:
+    """What a task's file says, and the seed. Each hand-in has a task of its own by it, with what is drawn for it."""
+
+    folder: Path
+    table: dict
+    seed: str
+    program: str
+    sample: Task
+
+    def task_for(self, digest):
+        """The task for what has this digest, and a digest of all that a mark depends on beside."""
+        table = {**self.table, "run": drawn.runs_for(self.table, drawn.seed_for(self.seed, digest), self.table["run"])}
+        task = task_of(table, self.folder)
+        files = [(it.given, it.input) for run in task.runs for it in run.programs]
+        return task, hashlib.sha256(repr((FORM, self.program, table, files)).encode()).hexdigest()
 
 
 def value(table, key, kind, otherwise=None):
@@ -177,44 +205,66 @@ def run_of(table, shared, folder):
         raise TaskFault("a run has 1 to 64 programs")
     said = options_of(shared | {key: it for key, it in table.items() if key in SHARED})
     alternatives = wanted_outputs(table, len(programs))
-    return Run(value(table, "name", str, ""), programs, alternatives, outputs.needs_of(alternatives), said,
-               float(said["points"]), said["visibility"], Bounds(said["seconds"], said["memory"]))
+    return Run(value(table, "name", str, ""), value(table, "hint", str, ""), programs, alternatives,
+               outputs.needs_of(alternatives), said, float(said["points"]), said["visibility"],
+               Bounds(said["seconds"], said["memory"]))
 
 
 def task_of(table, folder):
-    expect_keys(table, {"title", "run"} | SHARED.keys(), "task")
+    expect_keys(table, OF_TASK | SHARED.keys(), "task")
     shared = {key: it for key, it in table.items() if key in SHARED}
     runs = [run_of(it, shared, folder) for it in value(table, "run", list, [])]
     for number, run in enumerate(runs, 1):
         run.name = run.name or f"run {number}"
     if not runs or len({it.name for it in runs}) < len(runs):
         raise TaskFault("a task has a run at least, and each run a name of its own")
-    task = Task(value(table, "title", str, ""), runs)
+    budget = value(table, "budget", int, BUDGET)
+    if budget < 1:
+        raise TaskFault(f"budget: this can't be {budget}")
+    task = Task(value(table, "title", str, ""), budget, runs)
     if not task.asked():
         raise TaskFault("no program is asked")
     return task
 
 
-def read_task(path, seed, laboratory):
-    """The task in a file, with what the seed draws. Paths in it begin at its folder."""
+def programs_in(shapes):
+    """The tables of all programs of all shapes, as far as these are such."""
+    runs = [run for several in shapes for run in several if isinstance(run, dict)]
+    listed = [it for run in runs if isinstance(run.get("programs"), list) for it in run["programs"]]
+    return [it for it in listed if isinstance(it, dict)]
+
+
+def samples_of(table, folder):
+    """The task with each shape of its runs once at least, so that a fault is told before anybody is marked by another one."""
+    runs = value(table, "run", list, [])
+    for key, text in [(key, it[key]) for it in runs if isinstance(it, dict) for key in ("name", "hint") if key in it]:
+        if isinstance(text, str) and "$(" in text:
+            raise TaskFault(f"{key}: what is drawn isn't told: {text}")
+    shapes = [drawn.shapes_of(it) for it in runs]
+    if any("$(" in str(it.get("asked")) for it in programs_in(shapes)):
+        raise TaskFault("asked: the name of a file isn't drawn")
+    shared = drawn.drawn_by(table.get("draw", {}), "", {})
+    for place in range(max(map(len, shapes), default=1)):
+        drawn_runs = [drawn.run_for(it[place % len(it)], "", shared) for it in shapes]
+        yield task_of({**table, "run": drawn_runs}, folder)
+
+
+def read_plan(path, seed, laboratory):
+    """What is in a task's file. Paths in it begin at its folder."""
     path = Path(path)
     try:
         table = tomllib.loads(path.read_text(encoding="utf-8"))
-        table |= {"run": [drawn.run_for(it, seed, number) for number, it in enumerate(value(table, "run", list, []), 1)]}
-        task = task_of(table, path.parent)
-        for run in task.runs:
-            for option in [it for it in ("never", "fair") if run.options[it]] + ["json", "may-wait"]:
+        samples = list(samples_of(table, path.parent))
+        if len({tuple(sorted(it.asked())) for it in samples}) > 1:
+            raise TaskFault("shape: each shape of a run must ask for the same files")
+        for options in [run.options for task in samples for run in task.runs]:
+            for option in [it for it in ("never", "fair") if options[it]] + ["json", "may-wait"]:
                 if not laboratory.has(f"--{option}"):
                     raise TaskFault(f"this lc3lab has no explore --{option}")
     except OSError as it:
         raise TaskFault(f"{path}: {it.strerror}") from None
     except (ValueError, TaskFault) as it:
         raise TaskFault(f"{path}: {it}") from None
-    task.key = key_of(task, table, laboratory)
-    return task
-
-
-def key_of(task, table, laboratory):
-    """A digest of all that a mark depends on beside what is handed in."""
-    files = [(it.given, it.input) for run in task.runs for it in run.programs]
-    return hashlib.sha256(repr((FORM, laboratory.identity, table, files)).encode()).hexdigest()
+    if seed is None and drawn.draws(table):
+        raise TaskFault(f"{path}: this task draws, so marks need a seed: --seed-file or LC3LAB_SEED; students say --practice")
+    return Plan(path.parent, table, seed or "", laboratory.identity, samples[0])

@@ -15,6 +15,14 @@ PHASE     GETC
           LD   R1,STOP
           ADD  R1,R0,R1
           BRz  DONE
+          LEA  R3,LETTER
+          STR  R0,R3,#1
+          ADD  R0,R3,#0
+          LD   R1,CREATE
+          AND  R2,R2,#0
+          TRAP x50
+          TRAP x55
+          LDR  R0,R3,#1
           OUT
           ADD  R0,R4,#0
           LEA  R1,COUNT
@@ -43,6 +51,14 @@ LATER     GETC
           LD   R1,STOP
           ADD  R1,R0,R1
           BRz  DONE
+          LEA  R3,LETTER
+          STR  R0,R3,#1
+          ADD  R0,R3,#0
+          LD   R1,CREATE
+          AND  R2,R2,#0
+          TRAP x50
+          TRAP x55
+          LDR  R0,R3,#1
           OUT
           ADD  R0,R4,#0
           LEA  R1,COUNT
@@ -55,6 +71,8 @@ LATER     GETC
           TRAP x43
           BR   LATER
 DONE      HALT
+LETTER    .STRINGZ "/?"
+CREATE    .FILL x40
 NAME      .STRINGZ "/arrived"
 ODD       .STRINGZ "/odd"
 EVEN      .STRINGZ "/even"

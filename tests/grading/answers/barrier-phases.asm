@@ -10,6 +10,14 @@ PHASE     GETC
           LD   R1,STOP
           ADD  R1,R0,R1
           BRz  DONE
+          LEA  R3,LETTER
+          STR  R0,R3,#1
+          ADD  R0,R3,#0
+          LD   R1,CREATE
+          AND  R2,R2,#0
+          TRAP x50
+          TRAP x55
+          LDR  R0,R3,#1
           OUT
           ADD  R6,R6,#3
           LEA  R3,GATE
@@ -45,6 +53,7 @@ RETURN    ADD  R0,R4,#0
           TRAP x55
           BR   PHASE
 DONE      HALT
+LETTER    .STRINGZ "/?"
 NAME      .STRINGZ "/arrived"
 GATE      .STRINGZ "/gate?"
 FLAGS     .FILL x0042

@@ -1,5 +1,12 @@
-; right: each number goes all the way round, and each process takes the greatest of the three
+; right: each number goes all the way round, and each process takes the greatest of all
           .ORIG x3000
+          GETC
+          LD   R1,LESSONE
+          ADD  R1,R0,R1
+          ST   R1,ROUNDS
+          NOT  R0,R0
+          ADD  R0,R0,#1
+          ST   R0,PLACES
           GETC
           LEA  R1,MINE
           STR  R0,R1,#5
@@ -61,10 +68,11 @@ SIZES     .FILL 0
           .FILL 4
           .FILL 1
           .FILL 0
-PLACES    .FILL x-33
+PLACES    .BLKW 1
 ZERO      .FILL x30
 STAR      .FILL x2A
-ROUNDS    .FILL 2
+LESSONE   .FILL x-31
+ROUNDS    .BLKW 1
 LEFT      .BLKW 1
 OWN       .BLKW 1
 WORD      .BLKW 1

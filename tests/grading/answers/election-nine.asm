@@ -2,6 +2,7 @@
           .ORIG x3000
           GETC
           GETC
+          GETC
           LD   R1,MINUS
           ADD  R1,R0,R1
           BRnp OTHER

@@ -6,6 +6,9 @@
           ADD  R6,R0,R1
           ADD  R6,R6,#1
           ST   R6,PLACES
+          GETC
+          ADD  R0,R0,R1
+          ST   R0,TIMES
           NOT  R6,R6
           ADD  R6,R6,#1
           LEA  R0,ROOM
@@ -52,7 +55,7 @@ PLACES    .BLKW 1
 STATE     .BLKW 1
 FOUND     .BLKW 3
 LESSZERO  .FILL x-30
-TIMES     .FILL 2
+TIMES     .BLKW 1
 DIGIT     .BLKW 1
 SLOT      .BLKW 1
           .END

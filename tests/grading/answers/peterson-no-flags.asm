@@ -13,6 +13,10 @@
           LD   R1,LESSONE
           ADD  R0,R0,R1
           ST   R0,LESS
+          GETC
+          LD   R1,LESSZERO
+          ADD  R0,R0,R1
+          ST   R0,TIMES
           LD   R1,FLAGS
           LEA  R2,SIZES
           LEA  R0,MINE
@@ -70,7 +74,8 @@ STATE     .BLKW 3
 VALUE     .BLKW 1
 SUM       .FILL x61
 LESSONE   .FILL x-31
-TIMES     .FILL 2
+TIMES     .BLKW 1
+LESSZERO  .FILL x-30
 DIGIT     .BLKW 1
 LESS      .BLKW 1
 SLOT      .BLKW 1

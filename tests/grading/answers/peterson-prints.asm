@@ -1,4 +1,4 @@
-; wrong: prints its digit twice, and calls in the order that is asked, without a look at the other one
+; wrong: prints its digit, and calls in the order that is asked, without a look at the other one
           .ORIG x3000
           GETC
           ADD  R5,R0,#0
@@ -7,8 +7,9 @@
           AND  R2,R2,#0
           TRAP x50
           ADD  R4,R0,#0
-          AND  R6,R6,#0
-          ADD  R6,R6,#2
+          GETC
+          LD   R6,LESSZERO
+          ADD  R6,R0,R6
 LOOP      ADD  R0,R4,#0
           TRAP x55
           ADD  R0,R4,#0
@@ -20,4 +21,5 @@ LOOP      ADD  R0,R4,#0
           HALT
 ROOM      .STRINGZ "/room"
 CREATE    .FILL x40
+LESSZERO  .FILL x-30
           .END

@@ -4,6 +4,9 @@
           ADD  R3,R0,#0
           LD   R1,MINUS
           ADD  R6,R0,R1
+          GETC
+          ADD  R0,R0,R1
+          ST   R0,TIMES
           LEA  R0,ROOM
           LD   R1,CREATE
           AND  R2,R2,#0
@@ -53,6 +56,6 @@ SIZES     .FILL 0
           .FILL 1
 STATE     .BLKW 3
 VALUE     .BLKW 1
-TIMES     .FILL 2
+TIMES     .BLKW 1
 DIGIT     .BLKW 1
           .END

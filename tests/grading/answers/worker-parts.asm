@@ -1,4 +1,4 @@
-; right: the worker of the course, which does as many parts in a round as its input says
+; right: the worker of the course, which does as many parts in a round, and as many rounds, as its input says
           .ORIG x3000
           GETC
           NOT  R0,R0
@@ -10,6 +10,9 @@
           LD   R1,MINUS
           ADD  R0,R0,R1
           ST   R0,OWN
+          GETC
+          ADD  R0,R0,R1
+          ST   R0,ROUNDS
           LD   R1,CREATE
           AND  R2,R2,#0
           LEA  R0,PARTS
@@ -92,7 +95,7 @@ SECOND    .STRINGZ "/second"
 LOCK      .STRINGZ "/lock"
 CREATE    .FILL x40
 ZERO      .FILL x30
-ROUNDS    .FILL 2
+ROUNDS    .BLKW 1
 MINUS     .FILL x-30
 OWN       .BLKW 1
 ALL       .BLKW 1

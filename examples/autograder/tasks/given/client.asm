@@ -1,5 +1,5 @@
-; client.asm: asks the server for two numbers, and prints what it is told. Its
-; console input is its digit, 1 or 2, and then the two numbers.
+; client.asm: asks the server for numbers, and prints what it is told. Its console
+; input is its digit, 1 or 2, and then the numbers, up to a full stop.
           .ORIG x3000
           GETC                ; R0 = my digit
           ST   R0,WHOSE
@@ -16,10 +16,10 @@
           ADD  R5,R0,#0       ; R5 = descriptor of the requests
           AND  R2,R2,#0
           ADD  R2,R2,#2       ; R2 = 2: length of all messages
-          ADD  R6,R2,#0       ; R6 = 2: requests to come
 LOOP      GETC
           LD   R1,MINUS
           ADD  R0,R0,R1
+          BRn  DONE           ; it was the full stop
           ST   R0,NUMBER
           ADD  R0,R5,#0
           LEA  R1,WHOSE
@@ -31,9 +31,8 @@ LOOP      GETC
           LD   R1,ZERO
           ADD  R0,R0,R1       ; make it a digit
           OUT
-          ADD  R6,R6,#-1
-          BRp  LOOP
-          HALT
+          BR   LOOP
+DONE      HALT
 REQUESTS  .STRINGZ "/requests"
 REPLY     .STRINGZ "/reply?"
 READ      .FILL x0040         ; O_CREAT x40 + O_RDONLY 0

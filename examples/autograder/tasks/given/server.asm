@@ -1,9 +1,12 @@
-; server.asm: takes four requests, each a client's digit and a number, and sends the
-; number and the digit of its console input into the client's own queue: "/reply"
-; and its digit.
+; server.asm: takes requests, each a client's digit and a number, and sends the number
+; and what is added into the client's own queue: "/reply" and its digit. Its console
+; input is two digits: how many requests there are, and what is added.
           .ORIG x3000
           GETC
           LD   R1,MINUS
+          ADD  R0,R0,R1
+          ST   R0,TIMES       ; TIMES = how many requests are served
+          GETC
           ADD  R0,R0,R1
           ST   R0,MORE        ; MORE = what is added
           LEA  R0,REQUESTS    ; mq_open("/requests",
@@ -47,7 +50,7 @@ SIZES     .FILL 0             ; flags (ignored by mq_open)
           .FILL 2             ; maxmsg: two messages
           .FILL 2             ; msgsize: two words
           .FILL 0             ; curmsgs (ignored by mq_open)
-TIMES     .FILL 4             ; how many requests are served
+TIMES     .BLKW 1
 MINUS     .FILL x-30
 MORE      .BLKW 1
 WHOSE     .BLKW 1             ; a request or a reply: the client's digit,
