@@ -14,7 +14,7 @@ _lc3lab() {
         return
         ;;
     --allow)
-        COMPREPLY=($(compgen -W 'wraps unknown-trap decimal-origin misspelt unused-label starts-in-data runs-into-data runs-past-end r7 stale-codes loaded-string after-end' -- "$word"))
+        COMPREPLY=($(compgen -W 'wraps unknown-trap decimal-origin misspelt call-name unused-label starts-in-data runs-into-data runs-past-end falls-into r7 stale-codes loaded-string after-end' -- "$word"))
         return
         ;;
     --profile)
@@ -22,7 +22,7 @@ _lc3lab() {
         return
         ;;
     --allow)
-        COMPREPLY=($(compgen -W 'wraps unknown-trap decimal-origin misspelt unused-label starts-in-data runs-into-data runs-past-end r7 stale-codes loaded-string after-end' -- "$word"))
+        COMPREPLY=($(compgen -W 'wraps unknown-trap decimal-origin misspelt call-name unused-label starts-in-data runs-into-data runs-past-end falls-into r7 stale-codes loaded-string after-end' -- "$word"))
         return
         ;;
     --show)

@@ -17,7 +17,7 @@ complete -c lc3lab -n '__fish_seen_subcommand_from asm' -l explain -d 'Tells eve
 complete -c lc3lab -n '__fish_seen_subcommand_from asm' -x -l profile -a 'a b' -d 'The machine: of the book, or with traps that leave R7'
 complete -c lc3lab -n '__fish_seen_subcommand_from check' -x -l profile -a 'a b' -d 'The machine: of the book, or with traps that leave R7'
 complete -c lc3lab -n '__fish_seen_subcommand_from check' -l werror -d 'Fails where a source has a warning'
-complete -c lc3lab -n '__fish_seen_subcommand_from check' -x -l allow -a 'wraps unknown-trap decimal-origin misspelt unused-label starts-in-data runs-into-data runs-past-end r7 stale-codes loaded-string after-end' -d 'Leaves this warning out'
+complete -c lc3lab -n '__fish_seen_subcommand_from check' -x -l allow -a 'wraps unknown-trap decimal-origin misspelt call-name unused-label starts-in-data runs-into-data runs-past-end falls-into r7 stale-codes loaded-string after-end' -d 'Leaves this warning out'
 complete -c lc3lab -n '__fish_seen_subcommand_from step' -x -l profile -a 'a b' -d 'The machine: of the book, or with traps that leave R7'
 complete -c lc3lab -n '__fish_seen_subcommand_from step' -l notes -d 'Tells refused calls and warnings of sources on standard error'
 complete -c lc3lab -n '__fish_seen_subcommand_from step' -l quiet -d 'Tells no notes and no advice, also at a terminal'
