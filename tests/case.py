@@ -10,7 +10,7 @@ from checking import ROOT
 
 CASES = ROOT / "tests" / "cases"
 EXAMPLES = ROOT / "examples"
-SECONDS = 300
+SECONDS = int(os.environ.get("CASE_SECONDS", "300"))
 UNENDED = "\\ no line feed at the end"
 PLACES_OF_TOOLS = "/usr/local/bin:/usr/bin:/bin"
 
