@@ -41,10 +41,10 @@ record IsOfTables (ps : List Place) (t : OpenTables) (call : KernelState → ℕ
 
 -- what a call makes of the tables t of its process: the same in each kernel that has them and keeps the names, of which it changes
 -- nothing else
-record ChangesTables (ps : List Place) (t : OpenTables) (call : KernelState → ℕ → Outcome) : Type 0 where
-  reply : Answer
-  tables : OpenTables
-  same : (k : KernelState) (p : ℕ) → KeepNames ps k.places → process_at k.processes p ≡ t → call k p ≡ (reply, record { places = k.places; processes = set k.processes p tables })
+pub record ChangesTables (ps : List Place) (t : OpenTables) (call : KernelState → ℕ → Outcome) : Type 0 where
+  pub reply : Answer
+  pub tables : OpenTables
+  pub same : (k : KernelState) (p : ℕ) → KeepNames ps k.places → process_at k.processes p ≡ t → call k p ≡ (reply, record { places = k.places; processes = set k.processes p tables })
 
 -- a call on one place
 of_local : (ps : List Place) (t : OpenTables) (c : Call) → are_named ps ≡ true → is_local c ≡ true → (i : ℕ) (l : Lookup) → Finds c ps i l → RefersTo c i t → IsOfTables ps t (λ k p. answer k p c)
@@ -97,10 +97,10 @@ own_local ps t c i l closes old finds h = record {
     stays x = elim (h.leaves x) [ inl kind ↦ kind.1 closes | inr new ↦ absurd (old new.1) ]
 
 -- what is there
-there : {A : Type 0} (o : Option A) → is_some o ≡ true → (x : A) × (o ≡ Some x)
+pub there : {A : Type 0} (o : Option A) → is_some o ≡ true → (x : A) × (o ≡ Some x)
 there x e = search rules
 
-of_own : (ps : List Place) (t : OpenTables) (c : Call) → is_own ps c ≡ true → ChangesTables ps t (λ k p. answer k p c)
+pub of_own : (ps : List Place) (t : OpenTables) (c : Call) → is_own ps c ≡ true → ChangesTables ps t (λ k p. answer k p c)
 unfolding answer
 of_own ps t (MqOpen name flags attr) own =
     let at = there (queue_named ps name) own in
@@ -129,7 +129,7 @@ own_kept ps qs (SemOpen name flags value) keeps own = still_there (semaphore_nam
 own_kept ps qs other keeps own = own
 
 -- the tables of another process
-process_at-set_other : (ts : List OpenTables) (p q : ℕ) (t : OpenTables) → (p ≡ q → ⊥) → process_at (set ts p t) q ≡ process_at ts q
+pub process_at-set_other : (ts : List OpenTables) (p q : ℕ) (t : OpenTables) → (p ≡ q → ⊥) → process_at (set ts p t) q ≡ process_at ts q
 process_at-set_other ts p q t other = simp (unwrap_or-slice_get, get_or-set_other ts p q t nobody (λ e. other (sym e)))
 
 pub own_calls_commute : OwnCallsCommute

@@ -18,3 +18,11 @@ mod SettledTables
 mod OperandRows
 mod NamedPlaces
 pub mod CommutingCalls
+mod UsedObjects
+mod LastMessages
+pub mod UsesOfSome
+mod UsedParts
+mod LowKernels
+mod SwappedQueues
+mod UnnoticedCalls
+pub mod UnnoticedLaws

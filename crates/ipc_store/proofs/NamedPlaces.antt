@@ -38,14 +38,14 @@ pub all_by : {A : Type 0} (test : A → Bool) (xs : List A) (d : A) → ((i : �
 all_by test [] d each = refl
 all_by test (x ∷ xs) d each = ap (λ b. b && list_all test xs) (each 0) ∙ all_by test xs d (λ i. each (suc i))
 
-all_set : {A : Type 0} (test : A → Bool) (xs : List A) (i : ℕ) (y : A) → test y ≡ true → list_all test xs ≡ true → list_all test (set xs i y) ≡ true
+pub all_set : {A : Type 0} (test : A → Bool) (xs : List A) (i : ℕ) (y : A) → test y ≡ true → list_all test xs ≡ true → list_all test (set xs i y) ≡ true
 all_set test [] i y new e = refl
 all_set test (x ∷ xs) zero y new e = ap (λ b. b && list_all test xs) new ∙ (and_parts (test x) (list_all test xs) e).1
 all_set test (x ∷ xs) (suc i) y new e =
     let parts = and_parts (test x) (list_all test xs) e in ap (λ b. b && list_all test (set xs i y)) parts.0 ∙ all_set test xs i y new parts.1
 
 -- the first that passes a test stays it, where what is written passes as what was there did
-position_set : {A : Type 0} (test : A → Bool) (xs : List A) (i : ℕ) (y d : A) → test y ≡ test (unwrap_or (slice_get xs i) d) → position test (set xs i y) ≡ position test xs
+pub position_set : {A : Type 0} (test : A → Bool) (xs : List A) (i : ℕ) (y d : A) → test y ≡ test (unwrap_or (slice_get xs i) d) → position test (set xs i y) ≡ position test xs
 position_set test xs i y d same = rw (position_or_len-set test xs i y d (same ∙ ap test (unwrap_or-slice_get xs i d)), length-set xs i y) refl
 
 -- names stay where they are, where what is written has those of what was there, as far as they are found

@@ -2,3 +2,4 @@
 pub mod KeptRows
 pub mod Kinds
 pub mod Renamings
+pub mod Used

@@ -14,10 +14,12 @@ mod parts;
 mod renames;
 mod rows;
 mod tables;
+mod unnoticed;
 
 use crate::index::Index;
 use changes::{Change, number_at, with_number};
 use ipc_kernel::{Kernel, OBJECT_PLACES, OpenTables, Place};
+pub(crate) use objects::is_name;
 use parts::Parts;
 use renames::Renames;
 use rows::Rows;

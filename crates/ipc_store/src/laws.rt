@@ -3,6 +3,7 @@
 ghost use Rattle.ipc_kernel.specs.Alike.{AnswersAlike, StartsConsistent, StaysConsistent};
 ghost use Rattle.ipc_kernel.specs.Operands.{AnswersByOperand, StaysSettled};
 ghost use Rattle.ipc_kernel.specs.OwnCalls.{OwnAlike, OwnCallsCommute, StartNamed, StayNamed};
+ghost use Rattle.ipc_store.specs.Uses.{UnnoticedCallsCommute, UnnoticedCallsHarmless, UsesAlike};
 
 /// The numbers of the object places show in no answer: kernels that are alike answer each call
 /// alike, and are alike after it.
@@ -42,4 +43,14 @@ pub fn own_law()
     ensures empty { StartNamed }
     ensures named { StayNamed }
     ensures alike { OwnAlike }
+{}
+
+/// Where each object has a name, and no semaphore is near its greatest value, a call that no other
+/// process can notice commutes with each answered call of another that is within the uses. It is
+/// answered, and leaves what others are about to do within the uses or not. All this is the same in
+/// kernels that are alike.
+pub fn unnoticed_law()
+    ensures commute { UnnoticedCallsCommute }
+    ensures harmless { UnnoticedCallsHarmless }
+    ensures alike { UsesAlike }
 {}

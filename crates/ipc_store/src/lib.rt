@@ -7,8 +7,10 @@ mod arranging;
 mod index;
 mod kept;
 pub mod laws;
+mod uses;
 
 pub use alike::is_alike;
 pub use arranging::{are_with, arranged};
 pub use index::Index;
 pub use kept::Kernels;
+pub use uses::{ProcessUse, Use};

@@ -1,7 +1,6 @@
 -- Explorations: what the parts of one say together.
 use Rattle.std.proofs.Common.{ℕ, Bool, true, false, All, arith, count_by, ◌≡◌, ◌≤◌, ◌+◌, ◌++◌, [], ◌∷◌, slice_get, List, Some, refl, sym, ap, subst, ◌∙◌, length}
 use Rattle.ipc_kernel.specs.Alike.{IsConsistent}
-use Rattle.ipc_store.proofs.CommutingCalls.{own_calls_commute, stay_named, own_alike}
 use Rattle.lab_worlds.specs.Calls.{AreAlike}
 use Rattle.lab_worlds.proofs.AlikeWorlds.{world_then, world_back, one_verdict, consistent_run}
 use Rattle.lab_sched.specs.Worlds.{Process, Waiting, WorldState, run, entries}
@@ -50,12 +49,12 @@ HasRest start t depths ps =
 rests_in : (reduced : Bool) (start : WorldState) (t : Store) (depths : List ℕ) → IsStart start → IsSearchedIn reduced start t → AreDepths depths t.edges → (ps : List ℕ) → AreAtRest (run start ps)
     → HasRest start t depths ps
 rests_in false start t depths is searched deep ps rest = reaches_end start (AreAtDepth t depths) is.consistent is.asks (all_levels t start depths is.same searched deep) ps rest
-rests_in true start t depths is searched deep ps rest = reaches_end_by_reduction t start depths own_calls_commute stay_named own_alike is.consistent is.asks is.same is.named searched deep ps rest
+rests_in true start t depths is searched deep ps rest = reaches_end_by_reduction t start depths is.consistent is.asks is.same is.named searched deep ps rest
 
 -- where all edges rise, there is a bound on effective steps
 pub bounded_in : (reduced : Bool) (start : WorldState) (t : Store) → IsStart start → IsSearchedIn reduced start t → AreRising t.edges → AreBounded start
 bounded_in false start t is searched rising = searched_bounded t start is.consistent is.asks is.same searched rising
-bounded_in true start t is searched rising = by_reduction_bounded t start own_calls_commute stay_named own_alike is.consistent is.asks is.same is.named searched rising
+bounded_in true start t is searched rising = by_reduction_bounded t start is.consistent is.asks is.same is.named searched rising
 
 -- one of the ends is in a world alike, with its verdict, after at most n calls
 abbrev pub IsReachedIn : List End → WorldState → ℕ → Type 0

@@ -22,6 +22,7 @@ use Rattle.ipc_store.specs.Kept.{KeptKernels, GrowsKept}
 use Rattle.ipc_kernel.specs.declared.place.Place.{Place}
 use Rattle.ipc_kernel.specs.declared.process.OpenTables.{OpenTables}
 use Rattle.lab_states.specs.CollapsedStates.{IsSameOrMore}
+use Rattle.ipc_store.specs.declared.uses.ProcessUse.{ProcessUse}
 use Rattle.lab_search.specs.Reduced.{HasAmpleStep, IsExpandedIn}
 use Rattle.lab_search.specs.Stored.{IsState, IsKernel, IsRow, IsAt, LeadsTo, IsStore, IsNext, IsMove, AreMoves, AreParts, IsEffect, IsFootprintEffect, AreFootprintEffects, HasEdge, HasEdgeIfEnabled, IsExpanded}
 use Rattle.lab_worlds.specs.Stepped.{IsReady}
@@ -107,19 +108,19 @@ pub expanded_grows : (t u : Store) (i : ℕ) → Grows t u → IsExpanded t i �
 expanded_grows t u i g h = (h.0, at_grows t u i h.0 g h.1, λ p. expanded_in_grows t u i h.0 p g (h.2 p))
 
 -- an edge to a later row stays one
-pub alone_grows : (t u : Store) (i : ℕ) → Grows t u → HasAmpleStep t i → HasAmpleStep u i
+pub alone_grows : (uses : List ProcessUse) (t u : Store) (i : ℕ) → Grows t u → HasAmpleStep uses t i → HasAmpleStep uses u i
 unfolding edge_grows
-alone_grows t u i g (w, at, p, own, x, later) = (w, at_grows t u i w g at, p, own, edge_grows t u i w p g x, later)
+alone_grows uses t u i g (w, at, p, ps, ended, own, x, later) = (w, at_grows t u i w g at, p, ps, ended, own, edge_grows t u i w p g x, later)
 
 -- each step that goes on has an edge, so it needs no independent one
-pub expanded_in : (reduced : Bool) (t : Store) (i : ℕ) → IsExpanded t i → IsExpandedIn reduced t i
-expanded_in false t i h = h
-expanded_in true t i h = inl h
+pub expanded_in : (reduced : Bool) (uses : List ProcessUse) (t : Store) (i : ℕ) → IsExpanded t i → IsExpandedIn reduced uses t i
+expanded_in false uses t i h = h
+expanded_in true uses t i h = inl h
 
-pub are_expanded_in_grows : (reduced : Bool) (t u : Store) (i : ℕ) → Grows t u → IsExpandedIn reduced t i → IsExpandedIn reduced u i
-are_expanded_in_grows false t u i g h = expanded_grows t u i g h
-are_expanded_in_grows true t u i g (inl h) = inl (expanded_grows t u i g h)
-are_expanded_in_grows true t u i g (inr h) = inr (alone_grows t u i g h)
+pub are_expanded_in_grows : (reduced : Bool) (uses : List ProcessUse) (t u : Store) (i : ℕ) → Grows t u → IsExpandedIn reduced uses t i → IsExpandedIn reduced uses u i
+are_expanded_in_grows false uses t u i g h = expanded_grows t u i g h
+are_expanded_in_grows true uses t u i g (inl h) = inl (expanded_grows t u i g h)
+are_expanded_in_grows true uses t u i g (inr h) = inr (alone_grows uses t u i g h)
 
 -- where a row leads, it still does
 pub leads_grow : (t u : Store) (i p j : ℕ) → Grows t u → LeadsTo t i p j → LeadsTo u i p j

@@ -10,7 +10,6 @@ use Rattle.lab_worlds.specs.Closed.{AreAtRest}
 use Rattle.lab_worlds.specs.Unwaiting.{GoesOn, NoneGoesOn, unwaiting, AskAgain}
 use Rattle.lab_states.specs.Depths.{depth_of, AreDepths}
 use Rattle.lab_worlds.specs.Walked.{waiting}
-use Rattle.ipc_kernel.specs.OwnCalls.{OwnCallsCommute, StayNamed, OwnAlike}
 use Rattle.lab_search.specs.Reduced.{IsSearchedByReduction}
 use Rattle.lab_worlds.proofs.FewestCalls.{calls_in, waiting_goes, waiting_still}
 use Rattle.lab_worlds.proofs.AlikeWorlds.{same_effect, consistent_run}
@@ -19,7 +18,7 @@ use Rattle.lab_worlds.proofs.HeldAdvances.{asks_run, rests_on}
 use Rattle.lab_search.proofs.FirstWorlds.{AreAtDepth}
 use Rattle.lab_search.proofs.StandingWorlds.{running, running_goes, running_waits, begins_stands, begins_first}
 use Rattle.lab_worlds.proofs.OnwardSteps.{AreOnward, calls_along, calls_more}
-use Rattle.lab_search.proofs.ReducedPaths.{arrives, path_of}
+use Rattle.lab_search.proofs.ReducedPaths.{IsPath, arrives}
 
 -- the steps among others by which processes go on, from the world in which none has begun to wait
 pub record AreOnwardOf (w : WorldState) (ps : List ℕ) : Type 0 where
@@ -74,10 +73,10 @@ onward_of (p ∷ ps) w asks = elim (tells (step_effect_in w p)) [
 
 -- a row has the world at rest that any steps lead to, but for who waits; its depth, and one for each process that waits, are no more
 -- than the calls among the steps
-pub reaches_end_by_reduction : (t : Store) (start : WorldState) (depths : List ℕ) → OwnCallsCommute → StayNamed → OwnAlike → IsConsistent start.kernel → AskAgain start → unwaiting start ≡ start
+pub reaches_end_by_reduction : (t : Store) (start : WorldState) (depths : List ℕ) → IsConsistent start.kernel → AskAgain start → unwaiting start ≡ start
     → are_named start.kernel.places ≡ true → IsSearchedByReduction start t → AreDepths depths t.edges → (ps : List ℕ) → AreAtRest (run start ps)
     → (v : WorldState) × (n : ℕ) × AreAtDepth t depths n v × NoneGoesOn v × AreAlike (unwaiting (run start ps)) v × (n + waiting (run start ps) ≤ waiting start + length (entries start ps))
-reaches_end_by_reduction t start depths law stay alike consistent asks first named searched deep ps rest =
+reaches_end_by_reduction t start depths consistent asks first named searched deep ps rest =
     let w = run start ps in
     let good = consistent_run ps start consistent in
     let h = onward_of ps start asks in
@@ -86,8 +85,8 @@ reaches_end_by_reduction t start depths law stay alike consistent asks first nam
     let leads : run start h.steps ≡ unwaiting w = subst (λ v. run v h.steps ≡ unwaiting w) first h.leads in
     let none : NoneGoesOn (unwaiting w) = λ p. none_goes w p (asks_run ps start asks) (rests_on w p rest) in
     let least : depth_of depths initial.0.at ≡ 0 = ap (depth_of depths) (begins_first t start searched.begins consistent) ∙ deep.first in
-    let path = path_of law stay alike t start searched (record { world = start; place = initial.0; steps = h.steps }) initial.1 named onward in
-    let end = arrives law stay alike t start searched depths deep (record { world = start; place = initial.0; steps = h.steps }) path 0 (subst NoneGoesOn (sym leads) none) (omega (arith, least)) in
+    let path : IsPath t (record { world = start; place = initial.0; steps = h.steps }) = record { stands = initial.1; named = named; onward = onward } in
+    let end = arrives t start searched depths deep (record { world = start; place = initial.0; steps = h.steps }) path 0 (subst NoneGoesOn (sym leads) none) (omega (arith, least)) in
     let there : AreAlike (unwaiting w) end.0 = subst (λ v. AreAlike v end.0) leads end.3 in
     let calls = h.calls in
     let from = ap (λ v. calls_along v h.steps) first in

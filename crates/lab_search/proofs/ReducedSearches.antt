@@ -1,5 +1,5 @@
--- Where rows are tried by one independent step alone: what can be taken from where a world stands, and that no name is taken away.
-use Rattle.std.proofs.Common.{ℕ, zero, suc, ◌+◌, ◌-◌, ◌<◌, ◌≤◌, ◌≡◌, arith, List, [], ◌∷◌, Option, Some, None, refl, sym, ap, subst, ◌∙◌, length, slice_get, inl, inr, ◌⊎◌}
+-- Where rows are tried by one independent step alone: what can be taken from where a world stands.
+use Rattle.std.proofs.Common.{ℕ, zero, suc, ◌+◌, ◌-◌, ◌<◌, ◌≤◌, ◌≡◌, arith, true, List, [], ◌∷◌, Option, Some, None, refl, sym, ap, subst, ◌∙◌, length, slice_get, inl, inr, ◌⊎◌}
 use Rattle.lc3_machine.specs.Process.{Process as Machine}
 use Rattle.ipc_kernel.specs.Kernel.{KernelState}
 use Rattle.ipc_kernel.specs.declared.call.Answer.TheVariants.{Done}
@@ -14,8 +14,15 @@ use Rattle.lab_worlds.specs.Calls.{AreAlike, IsAtCall}
 use Rattle.lab_worlds.specs.Unwaiting.{GoesOn}
 use Rattle.lab_states.specs.Depths.{depth_of, IsNear, AreDepths}
 use Rattle.lab_search.specs.Stored.{HasEdge, IsExpanded}
-use Rattle.ipc_kernel.specs.OwnCalls.{OwnAlike}
-use Rattle.lab_worlds.specs.Independent.{IsIndependent}
+use Rattle.ipc_kernel.specs.declared.call.Call.{Call}
+use Rattle.ipc_kernel.specs.declared.call.Call.TheVariants.{Exit}
+use Rattle.ipc_kernel.specs.Operands.{are_named}
+use Rattle.ipc_store.specs.declared.uses.ProcessUse.{ProcessUse}
+use Rattle.ipc_store.proofs.CommutingCalls.{own_alike}
+use Rattle.ipc_store.proofs.UnnoticedLaws.{uses_alike}
+use Rattle.lab_conditions.specs.Conditions.{call_of, call_next}
+use Rattle.ipc_store.specs.Uses.{uses_but}
+use Rattle.lab_worlds.specs.Independent.{KeepsTo, IsCalm, IsIndependent, HaveEnded}
 use Rattle.lab_search.specs.Reduced.{HasAmpleStep, IsSearchedByReduction}
 use Rattle.lab_worlds.proofs.Pushes.{all_at}
 use Rattle.lab_worlds.proofs.FewestCalls.{calls_in}
@@ -24,6 +31,7 @@ use Rattle.lab_worlds.proofs.AfterLocalSteps.{same_by_gets, same_some}
 use Rattle.lab_worlds.proofs.UnwaitingWorlds.{StepOf, step_of, still, by_itself, by_call, by_answer}
 use Rattle.lab_worlds.proofs.AlikeWorlds.{same_effect}
 use Rattle.lab_worlds.proofs.IndependentSteps.{independent_goes}
+use Rattle.lab_worlds.proofs.EndedProcesses.{none_ended}
 use Rattle.lab_search.proofs.StandingWorlds.{Place, Stands, StandsAfter, GoesNearer, GoesAlong, TakesAt, measure, nearer_falls, along_falls, both_there, local_stands, along_stands}
 
 -- local steps and rows that are left from a place on
@@ -55,10 +63,13 @@ pub record StandsNext (t : Store) (w : WorldState) (p : ℕ) (s : Place) : Type 
   pub after : StandsAfter t w p s
   pub deep : (depths : List ℕ) → AreDepths depths t.edges → depth_of depths after.0.at ≤ depth_of depths s.at + calls_in p (step_effect_in w p)
 
--- an independent step of a process, after which less is left
-pub record TakesAlone (t : Store) (w : WorldState) (s : Place) : Type 0 where
+-- a step of a process, independent of those that haven't ended, after which less is left
+pub record TakesAlone (uses : List ProcessUse) (t : Store) (w : WorldState) (s : Place) : Type 0 where
   pub process : ℕ
-  pub independent : IsIndependent w.kernel (step_effect_in w process)
+  pub ended : List ℕ
+  pub have_ended : HaveEnded w ended
+  pub independent : IsIndependent (uses_but ended uses) w.kernel process (step_effect_in w process)
+  pub keeps : KeepsTo uses w process
   pub next : StandsNext t w process s
   pub less : left t next.after.0 < left t s
 
@@ -118,33 +129,51 @@ along_next t w p s one u stands h = record {
       omega (arith, near, from, to, one);
 }
 
--- where each object has a name in kernels that are alike, the same steps are independent
-independent_alike : OwnAlike → (k j : KernelState) (t : StepEffect) → IsConsistent k → IsAlike k j → IsIndependent j t → IsIndependent k t
-independent_alike law k j (kernel_step m d (Done r)) c a h = sym (law k j d c a).0 ∙ h
-independent_alike law k j _ c a h = h
+-- in kernels that are alike the same steps are independent
+independent_alike : (uses : List ProcessUse) (k j : KernelState) (p : ℕ) (t : StepEffect) → IsConsistent k → IsAlike k j → IsIndependent uses j p t → IsIndependent uses k p t
+independent_alike uses k j p (kernel_step m d (Done r)) c a h = sym (uses_alike uses k j p d c a).own ∙ h
+independent_alike uses k j p _ c a h = h
 
-module _ (alike : OwnAlike) (t : Store) (start : WorldState) (searched : IsSearchedByReduction start t) where
+-- and worlds that are alike are calm, if one is
+pub calm_alike : (uses : List ProcessUse) (w v : WorldState) → IsConsistent w.kernel → AreAlike w v → IsCalm uses v → IsCalm uses w
+calm_alike uses w v consistent alike calm = record {
+  keep = λ p s c at call. (uses_alike uses w.kernel v.kernel p c consistent alike.kernel).within (calm.keep p s c (ap (λ ps. slice_get ps p) alike.processes ∙ at) call);
+  low = (uses_alike uses w.kernel v.kernel 0 Exit consistent alike.kernel).low calm.low;
+}
+
+-- a process before a local step calls nothing
+local_keeps : (uses : List ProcessUse) (w : WorldState) (p : ℕ) (m q : Machine) → slice_get w.processes p ≡ Some (Running m) → next_action m ≡ moves q → KeepsTo uses w p
+local_keeps uses w p m q here acts s c at call =
+    let both : Some (Running m) ≡ Some s = sym here ∙ at in
+    let same : Running m ≡ s = cc in
+    let none : None ≡ Some c = sym (ap call_next acts) ∙ ap call_of same ∙ call in
+    absurd (cc)
+
+module _ (t : Store) (start : WorldState) (searched : IsSearchedByReduction start t) where
   -- what can be taken where a world stands
-  pub options : (w : WorldState) (s : Place) → Stands t w s → TakesAlone t w s ⊎ TakesAny t w s
+  pub options : (w : WorldState) (s : Place) → Stands t w s → are_named w.kernel.places ≡ true → TakesAlone searched.uses t w s ⊎ TakesAny t w s
   unfolding nearer_next along_next
-  options w s stands = elim (first_some s.taken) [
+  options w s stands named = elim (first_some s.taken) [
     | inl h ↦ inl (near h.0 h.1 h.2)
     | inr h ↦ at_calls h
   ]
     where
-      near : (p j : ℕ) → slice_get s.taken p ≡ Some (suc j) → TakesAlone t w s
+      near : (p j : ℕ) → slice_get s.taken p ≡ Some (suc j) → TakesAlone searched.uses t w s
       near p j e =
           let here = subst (λ a. TakesAt a (slice_get w.processes p) (slice_get s.advance.processes p)) e (stands.processes p) in
           let found = local_left j (slice_get w.processes p) (slice_get s.advance.processes p) here in
           let next = local_stands t w p found.0 found.1 s found.2 found.3 stands in
           record {
             process = p;
-            independent = subst (IsIndependent w.kernel) (sym (effect_local w p found.0 found.1 found.2 found.3)) tt;
+            ended = [];
+            have_ended = none_ended w;
+            independent = subst (IsIndependent (uses_but [] searched.uses) w.kernel p) (sym (effect_local w p found.0 found.1 found.2 found.3)) tt;
+            keeps = local_keeps searched.uses w p found.0 found.1 found.2 found.3;
             next = nearer_next t w p s next;
             less = nearer_falls (λ i. length t.rows - i) s next.0 p next.2;
           }
 
-      at_calls : ((p k : ℕ) → slice_get s.taken p ≡ Some k → k ≡ 0) → TakesAlone t w s ⊎ TakesAny t w s
+      at_calls : ((p k : ℕ) → slice_get s.taken p ≡ Some k → k ≡ 0) → TakesAlone searched.uses t w s ⊎ TakesAny t w s
       at_calls none = by (searched.expanded_in s.at within)
         where
           within : s.at < length t.rows
@@ -173,22 +202,28 @@ module _ (alike : OwnAlike) (t : Store) (start : WorldState) (searched : IsSearc
               let h = along p goes edge in
               along_next t w p s (one_call w p h.0 h.1 (at_call p h.0 h.1) goes) h.2.0 h.2.1 h.2.2
 
-          by : IsExpanded t s.at ⊎ HasAmpleStep t s.at → TakesAlone t w s ⊎ TakesAny t w s
+          by : IsExpanded t s.at ⊎ HasAmpleStep searched.uses t s.at → TakesAlone searched.uses t w s ⊎ TakesAny t w s
           by (inl done) = inr (record { alike = world; each = λ p goes. next_by p goes (edge_at t s.at p s.advance done stands.here (subst GoesOn (sym (effect p)) goes)) })
-          by (inr (v, at, p, own, edge, later)) = by_one (at_unique t s.at s.advance v stands.here at)
+          by (inr (v, at, p, ps, have_ended, own, edge, later)) = by_one (at_unique t s.at s.advance v stands.here at)
             where
-              by_one : s.advance ≡ v → TakesAlone t w s ⊎ TakesAny t w s
+              by_one : s.advance ≡ v → TakesAlone searched.uses t w s ⊎ TakesAny t w s
               by_one is =
                   let there : (x : HasEdge t s.at s.advance p) × (s.at < x.1.to) = subst (λ y. (x : HasEdge t s.at y p) × (s.at < x.1.to)) (sym is) (edge, later) in
-                  let own_there : IsIndependent s.advance.kernel (step_effect_in s.advance p) = subst (λ y. IsIndependent y.kernel (step_effect_in y p)) (sym is) own in
-                  let here : IsIndependent w.kernel (step_effect_in w p) =
-                  subst (IsIndependent w.kernel) (effect p) (independent_alike alike w.kernel s.advance.kernel (step_effect_in s.advance p) stands.consistent stands.kernel own_there) in
-                  let goes = independent_goes w.kernel (step_effect_in w p) here in
+                  let named_there : are_named s.advance.kernel.places ≡ true = (own_alike w.kernel s.advance.kernel Exit stands.consistent stands.kernel).1 ∙ named in
+                  let uses = uses_but ps searched.uses in
+                  let own_there = subst (λ (y : WorldState). are_named y.kernel.places ≡ true → IsIndependent uses y.kernel p (step_effect_in y p)) (sym is) own named_there in
+                  let here : IsIndependent uses w.kernel p (step_effect_in w p) =
+                  subst (IsIndependent uses w.kernel p) (effect p) (independent_alike uses w.kernel s.advance.kernel p (step_effect_in s.advance p) stands.consistent stands.kernel own_there) in
+                  let ended_there : HaveEnded s.advance ps = subst (λ y. HaveEnded y ps) (sym is) have_ended in
+                  let goes = independent_goes uses w.kernel p (step_effect_in w p) here in
                   let h = along p goes there.0 in
                   let later_row : s.at < h.2.0.at = subst (λ n. s.at < n) (sym h.2.3) there.1 in
                   inl (record {
                     process = p;
+                    ended = ps;
+                    have_ended = λ q e x there. ended_there q e x (same q ∙ there);
                     independent = here;
+                    keeps = (calm_alike searched.uses w s.advance stands.consistent world (searched.calm s.at s.advance stands.here)).keep p;
                     next = along_next t w p s (one_call w p h.0 h.1 (at_call p h.0 h.1) goes) h.2.0 h.2.1 h.2.2;
                     less = along_falls (λ i. length t.rows - i) t s h.2.0 p (omega (arith, within, later_row)) h.2.2;
                   })

@@ -1,4 +1,3 @@
 -- Definitions that no public contract cites.
 pub mod Stored
 pub mod FootprintEffect
-pub mod Reduced

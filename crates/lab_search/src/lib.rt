@@ -6,6 +6,7 @@ mod moves;
 mod reduced;
 mod search;
 mod store;
+mod uses;
 
 pub use moves::both;
 pub use search::{Search, search_all};

@@ -2,62 +2,106 @@
 //! step alone is tried.
 ghost use Rattle.std.specs.Prelude.{ℕ, ◌≡◌, true, Some, IsTrue, IfOk, IfSome, OnOk, slice_get};
 ghost use Rattle.lab_sched.specs.Worlds.{Process as Seen, WorldState, step_effect_in};
-ghost use Rattle.lab_worlds.specs.Independent.{IsIndependent};
+ghost use Rattle.ipc_store.specs.Uses.{uses_but};
+ghost use Rattle.lab_worlds.specs.Independent.{IsIndependent, HaveEnded};
 ghost use Rattle.lab_states.specs.Rows.{Row};
 ghost use Rattle.lab_search.specs.Reduced.{IsExpandedIn};
 ghost use Rattle.lab_search.specs.Stored.{IsExactly, IsState, IsAt, IsStore, IsMove, IsFootprintEffect};
-ghost use Rattle.lab_search.specs.Private.Stored.{IsLater, IsKeptAttempt};
+ghost use Rattle.lab_search.specs.Private.Stored.{IsLater, IsKeptAttempt, IsIndependentAt};
 ghost use Rattle.ipc_kernel.specs.Kernel.{KernelState};
+ghost use Rattle.ipc_kernel.specs.Operands.{are_named};
 ghost use Rattle.lab_search.specs.Private.FootprintEffect.{HasFootprint};
 
 use crate::footprints::{Effect, Footprint};
 use crate::store::{Mover, Next, Store};
 use ipc_kernel::{Call, Kernel};
+use ipc_store::ProcessUse;
 use lab_states::{CollapsedState, place_of};
 use lab_worlds::{Attempt, Errors, ExploreFault, Limits, Made, try_step};
+use std::alloc::AllocError;
 
 impl Store {
-    /// Whether the step of a process in a state over a kernel, which are kept, depends on no other's.
-    fn is_independent(&self, kernel: u32, state: u32) -> bool
-        ensures yes { IsTrue result → (w : WorldState) (p : ℕ) (s : Seen)
-            → IsExactly self.now kernel w.kernel → slice_get w.processes p ≡ Some s
-            → IsState self.now state s → IsIndependent w.kernel (step_effect_in w p) }
+    /// Whether the step of process `pid` in a state over a kernel, which are kept, depends on no other's,
+    /// as long as each keeps to the uses, and those that have ended do nothing.
+    fn is_independent(
+        &self,
+        uses: &[ProcessUse],
+        ended: &[u32],
+        kernel: u32,
+        pid: u32,
+        state: u32,
+    ) -> bool
+        ensures yes { IsTrue result → (w : WorldState) (s : Seen)
+            → IsExactly self.now kernel w.kernel → slice_get w.processes pid ≡ Some s
+            → IsState self.now state s → are_named w.kernel.places ≡ true
+            → IsIndependent (uses_but ended.now uses.now) w.kernel pid (step_effect_in w pid) }
     {
         match self.states.call(state) {
-            Some(call) => self.kernels.is_own(kernel, call),
+            Some(call) => self.kernels.is_own_by(uses, ended, kernel, pid, call),
             None => false,
         }
     }
 
-    /// Whether the step of process `pid` from the world of a row is an open on which no other's step
-    /// depends.
+    /// Whether the step of process `pid` from the world of a row is an open of what is there.
     pub fn opens_own(&self, at: usize, pid: u32) -> bool {
         let Some((kernel, state)) = self.places(at, pid) else {
             return false;
         };
-        let opens = matches!(
-            self.states.call(state),
-            Some(Call::MqOpen { .. } | Call::SemOpen { .. })
-        );
-        opens && self.is_independent(kernel, state)
+        match self.states.call(state) {
+            Some(call) => {
+                matches!(call, Call::MqOpen { .. } | Call::SemOpen { .. })
+                    && self.kernels.is_own(kernel, call)
+            }
+            None => false,
+        }
     }
 
-    /// The first process of which the step from the world of a row depends on no other's, if one does.
-    fn independent_process(&self, at: usize) -> Option<u32>
+    /// The processes that have ended in the world of a row.
+    fn ended_at(&self, at: usize) -> Result<Vec<u32>, AllocError>
+        ensures ended { IfOk result (λ ended. (w : WorldState) → IsAt self.now at w
+            → HaveEnded w ended.items) }
+    {
+        let mut ended = Vec::new(self.alloc);
+        let Some((_, states)) = self.rows.get(at) else {
+            return Ok(ended);
+        };
+        for (pid, state) in states.iter().enumerate() {
+            let pid = place_of(pid)?;
+            if !self.states.has_ended(*state) {
+                continue;
+            }
+            ended.push(pid)?;
+        }
+        Ok(ended)
+    }
+
+    /// The first process of which the step from the world of a row depends on no other's, if one does,
+    /// where some have ended.
+    fn first_independent(&self, uses: &[ProcessUse], ended: &[u32], at: usize) -> Option<u32>
         ensures row { IfSome result (λ p. (r : Row) × (slice_get self.now.rows at ≡ Some r)) }
         ensures independent { IfSome result (λ p. (w : WorldState) → IsAt self.now at w
-            → IsIndependent w.kernel (step_effect_in w p)) }
+            → are_named w.kernel.places ≡ true
+            → IsIndependent (uses_but ended.now uses.now) w.kernel p (step_effect_in w p)) }
     {
         let (kernel, states) = self.rows.get(at)?;
         for (pid, state) in states.iter().enumerate() {
-            if self.is_independent(kernel, *state) {
-                let Ok(pid) = place_of(pid) else {
-                    return None;
-                };
+            let Ok(pid) = place_of(pid) else {
+                return None;
+            };
+            if self.is_independent(uses, ended, kernel, pid, *state) {
                 return Some(pid);
             }
         }
         None
+    }
+
+    /// The first process of which the step from the world of a row depends on no other's, if one does.
+    fn independent_process(&self, uses: &[ProcessUse], at: usize) -> Result<Option<u32>, AllocError>
+        ensures independent { IfOk result (λ found. IfSome found
+            (λ p. IsIndependentAt uses.now self.now at p)) }
+    {
+        let ended = self.ended_at(at)?;
+        Ok(self.first_independent(uses, ended.as_slice(), at))
     }
 
     /// Tries each process from the world of a row, or in a search that is reduced one alone of which the
@@ -67,16 +111,17 @@ impl Store {
         at: usize,
         limits: Limits,
         reduced: bool,
+        uses: &[ProcessUse],
     ) -> Result<bool, ExploreFault>
         requires store { IsStore self.old }
         ensures later { OnOk result (IsLater self.old self.new) }
         ensures expanded_in { IfOk result (λ whole. IsTrue whole
-            → IsExpandedIn reduced self.new at) }
+            → IsExpandedIn reduced uses.now self.new at) }
     {
         if !reduced {
             return self.expand(at, limits);
         }
-        let Some(pid) = self.independent_process(at) else {
+        let Some(pid) = self.independent_process(uses, at)? else {
             return self.expand(at, limits);
         };
         let alone = self.try_process(at, pid, limits, true)?;

@@ -3,7 +3,6 @@ ghost use Rattle.std.specs.Prelude.{◌≡◌, All, IsTrue, false, map, IfOk, If
 ghost use Rattle.lab_sched.specs.Held.{process_view, IsHeld};
 ghost use Rattle.lab_worlds.specs.Closed.{HasAdvance};
 ghost use Rattle.lab_search.specs.Reduced.{AreExpandedIn, IsSearchedIn};
-ghost use Rattle.lab_search.specs.Private.Reduced.{StatesKeepNames};
 ghost use Rattle.lab_search.specs.Stored.{IsAt, IsStore, IsExactly, IsState, IsLike};
 ghost use Rattle.lab_search.specs.Private.Stored.{IsLater};
 ghost use Rattle.ipc_kernel.specs.Alike.{IsAlike};
@@ -14,7 +13,7 @@ ghost use Rattle.lab_worlds.specs.Unwaiting.{unwaiting};
 use crate::moves::both;
 use crate::store::Store;
 use ipc_kernel::Kernel;
-use ipc_store::is_alike;
+use ipc_store::{ProcessUse, is_alike};
 use lab_sched::{Process, World};
 use lab_worlds::{
     ExploreFault, Limits, Observer, advance, copy_before_wait, discard, none_waits, waits,
@@ -31,6 +30,8 @@ pub struct Search {
     pub reduced: bool,
     pub complete: bool,
     pub refused: bool,
+    /// Whether processes do with objects what isn't among the uses.
+    again: bool,
 }
 
 impl Store {
@@ -68,42 +69,35 @@ impl Store {
         Ok(Some(firsts))
     }
 
-    /// Whether no process is about to take a name away in a state that is kept, where that matters.
-    fn keeps_names(&self, reduced: bool) -> bool
-        ensures names { IsTrue result → IsTrue reduced → StatesKeepNames self.now }
-    {
-        !reduced || !self.states.unlinks()
-    }
-
     /// Tries what is to be tried from each world, in a search that is reduced or isn't; with whether that
-    /// could be done, and no process is about to take a name away where the search is reduced.
+    /// could be done. A reduced search ends where a process is about to take a name away.
     fn expand_all<O: Observer>(
         &mut self,
         limits: Limits,
         observer: &mut O,
         reduced: bool,
+        uses: &[ProcessUse],
     ) -> Result<bool, ExploreFault>
         requires store { IsStore self.old }
         ensures later { OnOk result (IsLater self.old self.new) }
-        ensures all { IfOk result (λ whole. IsTrue whole → AreExpandedIn reduced self.new) }
-        ensures names { IfOk result (λ whole. IsTrue whole → IsTrue reduced
-            → StatesKeepNames self.new) }
+        ensures all { IfOk result (λ whole. IsTrue whole
+            → AreExpandedIn reduced uses.now self.new) }
     {
         let most = limits.worlds as usize;
         let mut whole = true;
         for at in 0..most {
             if at >= self.rows.len() {
-                return Ok(both(whole, self.keeps_names(reduced)));
+                return Ok(whole);
             }
-            if !self.keeps_names(reduced) || self.size() > limits.memory {
+            let unlinks = reduced && self.states.unlinks();
+            if unlinks || self.size() > limits.memory {
                 return Ok(false);
             }
             observer.see(at, self.rows.len() - at);
-            let expanded_in = self.expand_in(at, limits, reduced)?;
+            let expanded_in = self.expand_in(at, limits, reduced, uses)?;
             whole = both(whole, expanded_in);
         }
-        let within = both(whole, self.rows.len() <= most);
-        Ok(both(within, self.keeps_names(reduced)))
+        Ok(both(whole, self.rows.len() <= most))
     }
 }
 
@@ -116,6 +110,7 @@ impl Search {
         kernel: &Kernel,
         limits: Limits,
         observer: &mut O,
+        uses: &[ProcessUse],
     ) -> Result<(), ExploreFault>
         requires store { IsStore self.old.store }
         requires open { self.old.complete ≡ false }
@@ -130,11 +125,14 @@ impl Search {
             return Ok(());
         };
         self.firsts = firsts;
-        let expanded = self.store.expand_all(limits, observer, self.reduced);
+        let expanded = self.store.expand_all(limits, observer, self.reduced, uses);
         self.store.close();
         match expanded {
             Ok(whole) => {
-                self.complete = whole;
+                let calm = self.store.are_calm_in(self.reduced, uses);
+                let complete = both(whole, calm);
+                self.again = !calm;
+                self.complete = complete;
                 Ok(())
             }
             Err(ExploreFault::NoMemory) => {
@@ -155,6 +153,7 @@ fn search_in<O: Observer>(
     limits: Limits,
     observer: &mut O,
     reduced: bool,
+    uses: &[ProcessUse],
 ) -> Result<Search, ExploreFault>
     requires held { All IsHeld processes.now }
     ensures reduced { IfOk result (λ s. s.reduced ≡ reduced) }
@@ -168,14 +167,59 @@ fn search_in<O: Observer>(
         reduced,
         complete: false,
         refused: false,
+        again: false,
     };
-    match search.fill(processes, kernel, limits, observer) {
+    match search.fill(processes, kernel, limits, observer, uses) {
         Ok(()) => Ok(search),
         Err(fault) => {
             discard(search);
             Err(fault)
         }
     }
+}
+
+/// How often a search begins again, at most, with the uses that were seen.
+const ROUNDS: usize = 8;
+
+/// Searches the worlds in rounds, each by the uses that were seen before; or nothing, where one takes a
+/// name away or a semaphore comes near its greatest value, or the uses grow in each round.
+fn search_by_uses<O: Observer>(
+    alloc: Global,
+    processes: &[Process],
+    kernel: &Kernel,
+    limits: Limits,
+    observer: &mut O,
+) -> Result<Option<Search>, ExploreFault>
+    requires held { All IsHeld processes.now }
+    ensures store { IfOk result (λ found. IfSome found (λ s. IsTrue s.complete
+        → IsStore s.store)) }
+    ensures complete { IfOk result (λ found. IfSome found (λ s. IsTrue s.complete
+        → IsSearchedIn s.reduced
+        (record { processes = map process_view processes.now; kernel = kernel.now }) s.store)) }
+{
+    let mut uses = Vec::new(alloc);
+    for _ in 0..ROUNDS {
+        let search = search_in(
+            alloc,
+            processes,
+            kernel,
+            limits,
+            observer,
+            true,
+            uses.as_slice(),
+        )?;
+        if search.store.states.unlinks() || !search.store.kernels.are_low() {
+            discard(search);
+            return Ok(None);
+        }
+        if !search.again {
+            return Ok(Some(search));
+        }
+        let noted = search.store.note_uses(&mut uses);
+        discard(search);
+        noted?;
+    }
+    Ok(None)
 }
 
 /// Searches every world that processes over a kernel can come to, as far as the limits allow, or, if
@@ -194,12 +238,13 @@ pub fn search_all<O: Observer>(
     ensures complete { IfOk result (λ s. IsTrue s.complete → IsSearchedIn s.reduced
         (record { processes = map process_view processes.now; kernel = kernel.now }) s.store) }
 {
-    let search = search_in(alloc, processes, kernel, limits, observer, reduced)?;
-    if !reduced || !search.store.states.unlinks() {
-        return Ok(search);
+    if reduced {
+        let found = search_by_uses(alloc, processes, kernel, limits, observer)?;
+        if let Some(search) = found {
+            return Ok(search);
+        }
     }
-    discard(search);
-    search_in(alloc, processes, kernel, limits, observer, false)
+    search_in(alloc, processes, kernel, limits, observer, false, &[])
 }
 
 impl Store {

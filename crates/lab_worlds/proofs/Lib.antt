@@ -14,3 +14,4 @@ pub mod OnwardSteps
 pub mod Beginnings
 pub mod WalkedEnds
 pub mod OwnCalls
+pub mod EndedProcesses

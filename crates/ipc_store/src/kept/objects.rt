@@ -10,9 +10,11 @@ ghost use Rattle.ipc_kernel.specs.declared.process.OpenTables.{OpenTables};
 ghost use Rattle.ipc_kernel.specs.Kernel.{KernelState};
 ghost use Rattle.ipc_kernel.specs.OwnCalls.{is_own};
 ghost use Rattle.ipc_kernel.specs.Operands.{place_of, if_named, are_named, operand_in};
+ghost use Rattle.ipc_store.specs.Uses.{are_low};
 
 use crate::kept::Kernels;
 use crate::kept::parts::{Part, Parts};
+use crate::uses::is_low;
 use ipc_kernel::{Call, Handle, OBJECT_PLACES, Place};
 use ipc_names::Name;
 use ipc_objects::{FEW_WORDS, Message};
@@ -33,7 +35,7 @@ fn is_text(text: &str, other: &str) -> bool
 }
 
 #[inline(always)]
-fn is_name(name: &Name, other: Option<&Name>) -> bool
+pub(crate) fn is_name(name: &Name, other: Option<&Name>) -> bool
     ensures same { result ≡ is_name name.now (option_copied other.entry) }
 {
     match other {
@@ -155,6 +157,13 @@ impl Parts<Place> {
             Some(Place::Empty) => Some(0),
             _ => None,
         }
+    }
+
+    /// Whether each semaphore is low.
+    pub(crate) fn are_low(&self) -> bool
+        ensures low { result ≡ are_low self.now }
+    {
+        self.all().iter().all(|object| is_low(object))
     }
 
     /// Whether each of some objects, which are given by their numbers, has a name.

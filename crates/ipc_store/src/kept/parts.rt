@@ -55,6 +55,13 @@ impl<P: Part> Parts<P> {
         self.parts.get(number as usize)
     }
 
+    /// All parts.
+    pub(crate) fn all(&self) -> &[P]
+        ensures all { result.now ≡ self.now }
+    {
+        self.parts.as_slice()
+    }
+
     pub(crate) fn len(&self) -> usize
         ensures count { result ≡ length self.now }
     {

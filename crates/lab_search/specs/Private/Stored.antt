@@ -1,18 +1,21 @@
 -- What a search keeps: kernels, states of processes, and worlds as places among these.
-use Rattle.std.specs.Prelude.{ℕ, ◌≡◌, List, [], Some, get_or, slice_get, slice_set}
+use Rattle.std.specs.Prelude.{ℕ, ◌≡◌, true, List, [], Some, get_or, slice_get, slice_set}
 use Rattle.ipc_kernel.specs.Kernel.{KernelState, IsSettled}
 use Rattle.ipc_kernel.specs.Alike.{IsAlike}
-use Rattle.ipc_kernel.specs.Operands.{with_operand}
+use Rattle.ipc_kernel.specs.Operands.{with_operand, are_named}
 use Rattle.ipc_kernel.specs.declared.place.Place.{Place}
 use Rattle.ipc_kernel.specs.declared.process.OpenTables.{OpenTables}
+use Rattle.ipc_store.specs.declared.uses.ProcessUse.{ProcessUse}
 use Rattle.ipc_store.specs.Kept.{KeptKernels, GrowsKept}
-use Rattle.lab_sched.specs.Worlds.{Process, step_effect}
+use Rattle.ipc_store.specs.Uses.{uses_but}
+use Rattle.lab_sched.specs.Worlds.{Process, WorldState, step_effect, step_effect_in}
 use Rattle.lab_sched.specs.Held.{step_of}
 use Rattle.lab_worlds.specs.Calls.{IsAhead, Alongside}
 use Rattle.lab_worlds.specs.Private.Kept.{Keeps}
 use Rattle.lab_worlds.specs.Stepped.{IsReached}
 use Rattle.lab_worlds.specs.declared.errors.Errors.{Errors}
 use Rattle.lab_worlds.specs.Errors.{IsAnswered}
+use Rattle.lab_worlds.specs.Independent.{IsIndependent, HaveEnded}
 use Rattle.lab_worlds.specs.Unwaiting.{GoesOn}
 use Rattle.lab_states.specs.Rows.{Row}
 use Rattle.lab_search.specs.declared.store.Mover.{Mover}
@@ -23,7 +26,7 @@ use Rattle.lab_search.specs.declared.store.Store.{Store}
 use Rattle.lab_search.specs.declared.store.Next.{Next}
 use Rattle.lab_search.specs.declared.store.Next.TheVariants.{To}
 use Rattle.lab_search.specs.declared.footprints.Effect.{Effect}
-use Rattle.lab_search.specs.Stored.{IsState, IsExactly, IsNext, IsNextAt, IsEffect, IsStore}
+use Rattle.lab_search.specs.Stored.{IsState, IsExactly, IsAt, IsNext, IsNextAt, IsEffect, IsStore}
 
 -- the output with this number
 abbrev pub output_at : Store → ℕ → List ℕ
@@ -98,3 +101,12 @@ IsLocalSuccessor t i s = (u : Process) × IsState t i u × IsAhead s u
 -- the same of each process
 abbrev pub AreInitialStates : Store → List ℕ → List Process → Type 0
 AreInitialStates t is ss = Alongside (IsLocalSuccessor t) is ss
+
+-- the step of process p from the world of row number i is independent, as long as each keeps to the uses, but for some that have
+-- ended
+pub record IsIndependentAt (uses : List ProcessUse) (t : Store) (i p : ℕ) : Type 0 where
+  pub ended : List ℕ
+  pub have_ended : (w : WorldState) → IsAt t i w → HaveEnded w ended
+  pub row : (r : Row) × (slice_get t.rows i ≡ Some r)
+  pub independent : (w : WorldState) → IsAt t i w → are_named w.kernel.places ≡ true
+      → IsIndependent (uses_but ended uses) w.kernel p (step_effect_in w p)

@@ -10,7 +10,7 @@ loop-at-preserved g c =
     let g = c.in_ok-expanded_in.ensures.later.grows in
     record {
       later = later_more c.args.self.now t u c.loop-at.invariant.later c.in_ok-expanded_in.ensures.later;
-      all = λ is. below_more (λ i. IsExpandedIn c.args.reduced u i) c.loop-at.at
-          (λ i below. are_expanded_in_grows c.args.reduced t u i g (c.loop-at.invariant.all (c.both-whole.ensures.first is) i below))
+      all = λ is. below_more (λ i. IsExpandedIn c.args.reduced c.args.uses.now u i) c.loop-at.at
+          (λ i below. are_expanded_in_grows c.args.reduced c.args.uses.now t u i g (c.loop-at.invariant.all (c.both-whole.ensures.first is) i below))
           (c.in_ok-expanded_in.ensures.expanded_in (c.both-whole.ensures.second is));
     }

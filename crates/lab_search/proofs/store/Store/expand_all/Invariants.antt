@@ -6,5 +6,5 @@ use Rattle.lab_search.proofs.store.Store.expand_all.Given as goal
 abbrev pub invariant-loop-at : goal.invariant-loop-at
 invariant-loop-at g l = record {
   later : IsLater l.fn.self l.self;
-  all : IsTrue l.whole → (i : ℕ) → i < l.at → IsExpandedIn l.reduced l.self i;
+  all : IsTrue l.whole → (i : ℕ) → i < l.at → IsExpandedIn l.reduced l.uses l.self i;
 }
