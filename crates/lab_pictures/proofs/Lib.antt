@@ -1,1 +1,2 @@
+mod WorldCopies
 mod DrawnRows

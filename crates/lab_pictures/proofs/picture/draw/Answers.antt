@@ -4,10 +4,10 @@ use Rattle.lab_pictures.specs.Private.Drawn.{IsPictureOf}
 use Rattle.lab_pictures.proofs.picture.draw.Goals as goal
 
 pub picture_of-picture-requires : goal.picture_of-picture-requires
-picture_of-picture-requires c = record { whole = c.in_ok-visited.ensures.whole refl }
+picture_of-picture-requires g c = record { whole = c.in_ok-visited.ensures.whole refl }
 
 pub returns : goal.returns
-returns c =
+returns g c =
     let picture = c.in_ok-picture.field-0 in
     let drawn = subst (λ w. IfSome picture (IsPictureOf w)) c.in_ok-visited.ensures.start c.in_ok-picture.ensures.picture in
     record {

@@ -6,7 +6,7 @@ use Rattle.lab_pictures.specs.Private.Drawn.{IsNodeOfRow}
 use Rattle.lab_pictures.proofs.picture.nodes.Given as goal
 
 abbrev pub invariant-loop-at : goal.invariant-loop-at
-invariant-loop-at l = record {
+invariant-loop-at g l = record {
   count : length l.nodes.items ≡ l.at;
   within : l.at ≤ length l.visited.store.rows;
   each : (i : ℕ) (n : Node) → slice_get l.nodes.items i ≡ Some n → IsNodeOfRow (start_of l.visited) l.visited.store (depth_of l.depths i) i n;
