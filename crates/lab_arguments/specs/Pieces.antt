@@ -31,26 +31,36 @@ cut_pieces text = pieces_from Outside [] text
 abbrev pub is_no_digit : ℕ → Bool
 is_no_digit c = not (nat_le 48 c && nat_le c 57)
 
+-- whether a byte is no blank
+abbrev pub is_no_blank : ℕ → Bool
+is_no_blank c = not (c == 32)
+
 -- a text from a place on, if there is one
 abbrev pub from : Option ℕ → List ℕ → List ℕ
 from None text = []
 from (Some i) text = drop i text
 
--- a text says what is asked of calls: behind a process or none it begins with `calls` or `holds`, and a blank
+-- a text behind the digits, or the blanks, with which it begins
+abbrev pub behind_digits : List ℕ → List ℕ
+behind_digits text = from (position is_no_digit text) text
+
+abbrev pub behind_blanks : List ℕ → List ℕ
+behind_blanks text = from (position is_no_blank text) text
+
+-- a text says what is asked of calls: behind a process or none, and blanks, it begins with `calls` or `holds`, and a blank
 abbrev pub is_of_calls : List ℕ → Bool
 is_of_calls text =
-    let words = from (position is_no_digit text) text in
-    starts_with nat_eq words (codes "calls ") || starts_with nat_eq words (codes " calls ")
-    || starts_with nat_eq words (codes "holds ") || starts_with nat_eq words (codes " holds ")
+    let words = behind_blanks (behind_digits (behind_blanks text)) in
+    starts_with nat_eq words (codes "calls ") || starts_with nat_eq words (codes "holds ")
 
--- the pieces of a value, which is whole where it asks of calls
-abbrev pub pieces : List ℕ → List (List ℕ)
-pieces text = if is_of_calls text then text ∷ [] else cut_pieces text
-
--- a piece says what is required of an output or of calls: it begins with `out` and a blank, or is such a text
+-- a piece says what is required of an output: it begins with `out` and a blank
 abbrev pub is_output : List ℕ → Bool
-is_output piece = starts_with nat_eq piece (codes "out ") || is_of_calls piece
+is_output piece = starts_with nat_eq piece (codes "out ")
+
+-- the other pieces of a value, unless it asks of calls
+abbrev pub words_of : List ℕ → List (List ℕ)
+words_of value = if is_of_calls value then [] else filter (λ piece. not (is_output piece)) (cut_pieces value)
 
 -- the words of some values
 abbrev pub words_in : List (List ℕ) → List (List ℕ)
-words_in values = filter (λ piece. not (is_output piece)) (flat_map pieces values)
+words_in values = flat_map words_of values

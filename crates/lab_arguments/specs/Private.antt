@@ -1,3 +1,4 @@
 -- Definitions that only contracts inside the crate cite.
 pub mod Options
 pub mod Requirements
+pub mod Outputs

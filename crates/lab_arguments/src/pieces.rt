@@ -1,6 +1,7 @@
 //! The values of `--require`, cut at their commas.
 ghost use Rattle.std.specs.Prelude.{◌≡◌, ◌<◌, ◌++◌, [], ◌∷◌, filter, flat_map, map, length, IfNone, IfOk, IfSome, IsTrue, OnOk, position};
-ghost use Rattle.lab_arguments.specs.Pieces.{behind, cuts, cut_pieces, is_no_digit, from, is_of_calls, pieces, is_output, words_in};
+ghost use Rattle.lab_arguments.specs.Pieces.{behind, cuts, cut_pieces, is_no_blank, is_no_digit, from, is_of_calls, is_output, words_of, words_in};
+ghost use Rattle.lab_arguments.specs.Private.Outputs.{outputs_of};
 ghost use Rattle.lab_arguments.specs.Private.Requirements.{outputs_in};
 
 use std::alloc::{AllocError, Global};
@@ -76,69 +77,99 @@ fn behind_digits(text: &[u8]) -> &[u8]
     }
 }
 
+fn no_blank(text: &[u8]) -> Option<usize>
+    ensures place { result ≡ position is_no_blank text.now }
+    ensures within { IfSome result (λ i. i < length text.now) }
+{
+    text.iter().position(|byte| *byte != 32)
+}
+
+/// What follows the blanks with which a text begins.
+fn behind_blanks(text: &[u8]) -> &[u8]
+    ensures rest { result.now ≡ from (position is_no_blank text.now) text.now }
+{
+    match no_blank(text) {
+        Some(place) => &text[place..],
+        None => &[],
+    }
+}
+
 /// Whether a text says what is asked of calls.
 pub fn is_of_calls(text: &str) -> bool
     ensures value { result ≡ is_of_calls text.now }
 {
-    let words = behind_digits(text.as_bytes());
-    words.starts_with(b"calls ")
-        || words.starts_with(b" calls ")
-        || words.starts_with(b"holds ")
-        || words.starts_with(b" holds ")
+    let words = behind_blanks(behind_digits(behind_blanks(text.as_bytes())));
+    words.starts_with(b"calls ") || words.starts_with(b"holds ")
 }
 
-/// Adds the pieces of a value, which is whole where it asks of calls.
-fn push_pieces<'a>(found: &mut Vec<&'a str>, value: &'a str) -> Result<(), AllocError>
-    ensures pieces { OnOk result (map (λ p. p.now) found.new.items
-        ≡ map (λ p. p.now) found.old.items ++ pieces value.now) }
+/// The pieces of a value between its commas outside of quotes.
+fn pieces_of<'a>(alloc: Global, value: &'a str) -> Result<Vec<&'a str>, AllocError>
+    ensures pieces { IfOk result (λ found. map (λ p. p.now) found.items ≡ cut_pieces value.now) }
 {
+    let mut found = Vec::new(alloc);
     let mut rest = value;
-    if is_of_calls(value) {
-        found.push(value)?;
-        return Ok(());
-    }
     while let Some((piece, after)) = cut(rest) {
         found.push(piece)?;
         rest = after;
     }
     found.push(rest)?;
-    Ok(())
-}
-
-fn pieces_of<'a>(alloc: Global, values: &[&'a str]) -> Result<Vec<&'a str>, AllocError>
-    ensures pieces { IfOk result (λ found. map (λ p. p.now) found.items
-        ≡ flat_map pieces (map (λ v. v.now) values.now)) }
-{
-    let mut found = Vec::new(alloc);
-    for value in values {
-        push_pieces(&mut found, value)?;
-    }
     Ok(found)
 }
 
-/// Whether a piece says what is required of an output or of calls.
+/// Whether a piece says what is required of an output.
 fn is_output(piece: &str) -> bool
     ensures value { result ≡ is_output piece.now }
 {
-    piece.as_bytes().starts_with(b"out ") || is_of_calls(piece)
+    piece.as_bytes().starts_with(b"out ")
 }
 
-/// What the values of `--require` say of outputs and calls.
-pub(crate) fn outputs_in<'a>(alloc: Global, values: &[&'a str]) -> Result<Vec<&'a str>, AllocError>
-    ensures outputs { IfOk result (λ found. map (λ p. p.now) found.items
-        ≡ outputs_in (map (λ v. v.now) values.now)) }
+/// The pieces of a value that say what is required of outputs, or the value itself where it asks of calls.
+fn outputs_of<'a>(alloc: Global, value: &'a str) -> Result<Vec<&'a str>, AllocError>
+    ensures outputs { IfOk result (λ found.
+        map (λ p. p.now) found.items ≡ outputs_of value.now) }
 {
-    let mut pieces = pieces_of(alloc, values)?;
+    if is_of_calls(value) {
+        let mut whole = Vec::new(alloc);
+        whole.push(value)?;
+        return Ok(whole);
+    }
+    let mut pieces = pieces_of(alloc, value)?;
     pieces.retain(|piece| is_output(piece));
     Ok(pieces)
 }
 
-/// The words of the values of `--require`: what stands between commas and says nothing of outputs or calls.
+/// The other pieces of a value, unless it asks of calls.
+fn words_of<'a>(alloc: Global, value: &'a str) -> Result<Vec<&'a str>, AllocError>
+    ensures words { IfOk result (λ found. map (λ p. p.now) found.items ≡ words_of value.now) }
+{
+    if is_of_calls(value) {
+        return Ok(Vec::new(alloc));
+    }
+    let mut pieces = pieces_of(alloc, value)?;
+    pieces.retain(|piece| !is_output(piece));
+    Ok(pieces)
+}
+
+/// What the values of `--require` say of outputs and calls. What is asked of calls is a whole value.
+pub(crate) fn outputs_in<'a>(alloc: Global, values: &[&'a str]) -> Result<Vec<&'a str>, AllocError>
+    ensures outputs { IfOk result (λ found. map (λ p. p.now) found.items
+        ≡ outputs_in (map (λ v. v.now) values.now)) }
+{
+    let mut found = Vec::new(alloc);
+    for value in values {
+        found.append(&mut outputs_of(alloc, value)?)?;
+    }
+    Ok(found)
+}
+
+/// The words of the values of `--require`: what stands between commas and says nothing of outputs, unless a value asks of calls.
 pub fn required_words<'a>(alloc: Global, values: &[&'a str]) -> Result<Vec<&'a str>, AllocError>
     ensures words { IfOk result (λ found. map (λ p. p.now) found.items
         ≡ words_in (map (λ v. v.now) values.now)) }
 {
-    let mut pieces = pieces_of(alloc, values)?;
-    pieces.retain(|piece| !is_output(piece));
-    Ok(pieces)
+    let mut found = Vec::new(alloc);
+    for value in values {
+        found.append(&mut words_of(alloc, value)?)?;
+    }
+    Ok(found)
 }

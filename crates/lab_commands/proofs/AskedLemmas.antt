@@ -11,7 +11,10 @@ use Rattle.lab_conditions.specs.Written.{words, condition_in, are_lost, refusal_
 use Rattle.lab_worlds.specs.Calls.{Alongside}
 use Rattle.lab_worlds.proofs.Pushes.{alongside_push}
 use Rattle.lab_questions.proofs.ListLemmas.{flat_map-next}
-use Rattle.lab_commands.specs.Asking.{IsAsked}
+use Rattle.lab_arguments.specs.declared.question.Question.{Question}
+use Rattle.lab_questions.specs.declared.answers.Answers.{Answers}
+use Rattle.lab_questions.specs.declared.asked.Asked.{Asked}
+use Rattle.lab_commands.specs.Asking.{AreOn, AsksFor, IsAsked, IsAskedBy}
 
 -- what is among some is among them with others behind
 any_with : {A : Type 0} (P : A → Type 0) (xs ys : List A) → Any P xs → Any P (xs ++ ys)
@@ -83,3 +86,7 @@ asked_next P stays ws more next words i d within is all last =
 -- all words, where there are no more
 pub asked_all : (P : List ℕ → Type 0) (words : List (Bor (List ℕ))) (i : ℕ) → length words ≤ i → All (λ word. P word.now) (take i words) → All (λ word. P word.now) words
 asked_all P words i done all = subst (λ (ws : List (Bor (List ℕ))). All (λ word. P word.now) ws) (take_all i words done) all
+
+-- the answers are on what was asked, if they are those that were found
+pub asked_by : (q : Question) (asked : Asked) (a found : Answers) → AsksFor q asked → a ≡ found → AreOn asked found → IsAskedBy q a
+asked_by q asked a found asks is on = record { asked = asked; asks = asks; answered = subst (AreOn asked) (sym is) on }

@@ -15,6 +15,7 @@ use Rattle.lab_conditions.specs.declared.never.Never.{Never}
 use Rattle.lab_conditions.specs.Written.{Writes, condition_in}
 use Rattle.lab_worlds.specs.Calls.{Alongside}
 use Rattle.lab_ways.specs.declared.wanted.Wanted.{Wanted}
+use Rattle.lab_questions.specs.Asked.{questions}
 use Rattle.lab_questions.specs.CallWords.{Asks, forbids}
 use Rattle.lab_questions.specs.Written.{need_in, need_read}
 use Rattle.lab_questions.specs.declared.answers.Answers.{Answers}
@@ -22,7 +23,7 @@ use Rattle.lab_questions.specs.declared.asked.Asked.{Asked}
 use Rattle.lab_questions.specs.declared.asked.Waiter.{Waiter}
 use Rattle.lab_questions.specs.declared.asked.Word.{Word}
 use Rattle.lab_questions.specs.declared.asked.Word.TheVariants as word
-use Rattle.lab_questions.specs.declared.called.CallWord.{CallWord}
+use Rattle.lab_questions.specs.declared.asked.CallWord.{CallWord}
 use Rattle.lab_questions.specs.declared.output.OutputNeed.{OutputNeed}
 
 -- the word that says how processes must come to rest
@@ -47,6 +48,15 @@ AsksSo never text wanted = Asks text wanted × (forbids wanted.pattern ≡ never
 -- the text requires this of outputs
 abbrev pub IsNeeded : List ℕ → OutputNeed → Type 0
 IsNeeded text need = (need_in text ≡ Some (need_read need.alternatives.items)) × (string_bytes need.text ≡ text)
+
+-- the word requires it
+abbrev pub IsRequired : List ℕ → Word → Type 0
+IsRequired text word.Ended = ⊥
+IsRequired text word.Stuck = ⊥
+IsRequired text word.Halted = ⊥
+IsRequired text word.Empty = ⊥
+IsRequired text word.Same = ⊥
+IsRequired text (word.Output need) = IsNeeded text need
 
 -- a text, unless it is of calls
 abbrev pub output_if : List ℕ → List (List ℕ)
@@ -95,31 +105,39 @@ MayBe text v = (w : Waiter) → waiter_in text ≡ Some w → w ≡ v
 abbrev pub call_if : Bool → List ℕ → List (Bool × List ℕ)
 call_if never text = cond (is_of_calls text) ((never, text) ∷ []) []
 
--- it is told so
-abbrev pub IsSaid : Bool × List ℕ → CallWord → Type 0
-IsSaid asked w = (string_bytes w.text ≡ asked.1) × (w.never ≡ asked.0)
-
--- it is looked for
-abbrev pub IsSought : Bool × List ℕ → Wanted → Type 0
-IsSought asked x = AsksSo asked.0 asked.1 x
+-- it is told so, and looked for
+abbrev pub IsSought : Bool × List ℕ → CallWord → Type 0
+IsSought asked w = (string_bytes w.text ≡ asked.1) × AsksSo asked.0 asked.1 w.wanted
 
 -- all that is asked of calls, in order: what must be so, and then what must never be
 abbrev pub calls_asked : Question → List (Bool × List ℕ)
 calls_asked q = flat_map (λ word. call_if false word.now) q.outputs.items ++ flat_map (λ word. call_if true word.now) q.never.items
 
--- these words, and what else is asked, are those of a question, but for what its labels stand for
-pub record AsksFor (q : Question) (answered : List Word) (asked : Asked) : Type 0 where
-  pub words : answered ≡ required_words q.required
-  pub outputs : Alongside IsNeeded (flat_map (λ word. output_if word.now) q.outputs.items) asked.outputs.items
+-- these are words, with those that texts require of outputs behind them
+pub record AreWords (required words : List Word) (texts : List (List ℕ)) : Type 0 where
+  pub outputs : List Word
+  pub is : words ≡ required ++ outputs
+  pub needed : Alongside IsRequired texts outputs
+
+-- what is asked is that of a question, but for what its labels stand for
+pub record AsksFor (q : Question) (asked : Asked) : Type 0 where
+  pub words : AreWords (required_words q.required) asked.words.items (flat_map (λ word. output_if word.now) q.outputs.items)
   pub waiters : Alongside MayBe (map (λ word. word.now) q.waiters.items) asked.waiters.items
   pub never : All (λ word. IsAsked asked.never.items word.now) q.never.items
-  pub said : Alongside IsSaid (calls_asked q) asked.call_words.items
-  pub sought : Alongside IsSought (calls_asked q) asked.wanted.items
-  pub order : asked.plain ≡ false
+  pub calls : Alongside IsSought (calls_asked q) asked.calls.items
   pub fair : asked.fair ≡ q.fair
   pub out : asked.show.out ≡ q.out
   pub left : asked.show.left ≡ q.left
 
--- the answers are on these
-abbrev pub IsAskedBy : Question → Answers → Type 0
-IsAskedBy q a = AsksFor q (map (λ x. x.word) a.answers.items) a.asked
+-- the answers are on all that is asked, each on its question
+pub record AreOn (asked : Asked) (a : Answers) : Type 0 where
+  pub questions : map (λ x. x.question) a.answers.items ≡ questions asked
+  pub waiters : a.waiters ≡ asked.waiters
+  pub fair : a.fair ≡ asked.fair
+  pub show : a.show ≡ asked.show
+
+-- the answers are on what a question asks
+pub record IsAskedBy (q : Question) (a : Answers) : Type 0 where
+  pub asked : Asked
+  pub asks : AsksFor q asked
+  pub answered : AreOn asked a

@@ -7,11 +7,13 @@ use std::alloc::{AllocError, Global};
 use std::fmt::Display;
 
 /// The first word of a text that may not stand where it does, if there is one, and the place that is reached: the first word
-/// stands at this one. A character at the ends of words is no part of them.
-pub(crate) fn reached(first: Place, text: &str, outside: char) -> (Option<&str>, Place) {
+/// stands at this one. Between words stand blanks, or another character.
+pub(crate) fn reached(first: Place, text: &str, other: char) -> (Option<&str>, Place) {
     let mut place = first;
-    for piece in text.split(' ').filter(|piece| !piece.is_empty()) {
-        let word = piece.trim_matches(outside);
+    for word in text
+        .split(|character: char| character == ' ' || character == other)
+        .filter(|word| !word.is_empty())
+    {
         let Some(next) = place.behind(word) else {
             return (Some(word), place);
         };
@@ -21,21 +23,24 @@ pub(crate) fn reached(first: Place, text: &str, outside: char) -> (Option<&str>,
 }
 
 /// The line that says what isn't understood in a text of which the first word stands at this place, and what was meant, if that
-/// is known, where memory allows it. A character at the ends of words is no part of them.
+/// is known, where memory allows it. Between words stand blanks, or another character.
 pub(crate) fn line_on(
     alloc: Global,
     first: Place,
     text: &str,
-    outside: char,
+    other: char,
     meant: Option<&str>,
 ) -> Option<String> {
-    let (word, place) = reached(first, text, outside);
+    let (word, place) = reached(first, text, other);
     let may_end = matches!(
         place,
         Place::Many | Place::And | Place::Error | Place::Nothing | Place::At
     );
     if word.is_none() && may_end {
         return None;
+    }
+    if let (Place::HeldAnd, None) = (place, word) {
+        return advice_line(alloc, "holds takes up to eight names", None).ok();
     }
     let text = match (place, word) {
         (Place::Start, Some(word)) if OF_ENDS.contains(&word) => {

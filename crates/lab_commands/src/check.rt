@@ -1,10 +1,12 @@
 //! The command `check`: all messages about sources.
-ghost use Rattle.std.specs.Prelude.{◌≡◌, true, false, IfOk, OnOk, OnErr, string_bytes};
-ghost use Rattle.std.specs.Option.{option_map, option_copied};
-ghost use Rattle.lab_commands.specs.Complaints.{are_judged, complains};
+ghost use Rattle.std.specs.Prelude.{◌≡◌, true, false, IfOk, OnOk, OnErr};
+ghost use Rattle.std.specs.Option.{option_copied};
+ghost use Rattle.std.specs.Io.KnownBytes.{Appends};
+ghost use Rattle.lab_io.specs.Device.{AppendsPrefix};
+ghost use Rattle.lab_commands.specs.Complaints.{complains};
 ghost use Rattle.lab_sched.specs.Worlds.{WorldState};
 ghost use Rattle.lab_commands.specs.Found.{IsFound, HoldsAll};
-ghost use Rattle.lab_commands.specs.Told.{numbered_end, IsChosen, Tells, HasTold, HasBegun};
+ghost use Rattle.lab_commands.specs.Told.{numbered_end, chosen_in, told_bytes};
 
 use crate::advice::advice_line;
 use crate::complaint::{Complaint, Reason};
@@ -14,7 +16,8 @@ use crate::job::{Job, Progress};
 use lab_arguments::{Choice, Shown};
 use lab_io::Output;
 use lab_places::{Numbered, placed};
-use lab_questions::{Answers, Failure, answers_json};
+use lab_questions::{Answers, Failure, Question, answers_json};
+use lab_sched::Schedule;
 use lab_worlds::End;
 use lc3_messages::{Report, Wish, report_on};
 use lc3_table::Profile;
@@ -85,7 +88,7 @@ pub fn check_sources<T: Files, E: Write, P>(
 /// Writes what was found, with where processes stand in these sources, says which objects that conditions name nobody opens,
 /// and complains where memory was refused on the way, or not all is as it has to be. Where it doesn't complain, all that was asked
 /// is so, whatever steps are taken.
-#[tactic(auto, using(crate::proofs::TellingLemmas::nothing_told, crate::proofs::TellingLemmas::has_told, crate::proofs::TellingLemmas::has_begun, crate::proofs::TellingLemmas::all_begun))]
+#[tactic(auto, using(crate::proofs::TellingLemmas::nothing_told, crate::proofs::TellingLemmas::all_begun))]
 pub fn tell_ends<T, W: Write, P: Progress>(
     job: &Job<'_, T, P>,
     sources: &[Option<Numbered<'_>>],
@@ -93,10 +96,10 @@ pub fn tell_ends<T, W: Write, P: Progress>(
     output: &mut Output<W>,
 ) -> Result<(), Complaint<'static>>
     requires output_healthy { output.old.failed ≡ false }
-    ensures told { OnOk result (HasTold sources.now search.now
-        (W.contents output.old.device) (W.contents output.new.device)) }
-    ensures prefix { OnErr result (HasBegun sources.now search.now
-        (W.contents output.old.device) (W.contents output.new.device)) }
+    ensures told { OnOk result (Appends (W.contents output.old.device)
+        (W.contents output.new.device) (told_bytes sources.now search.now)) }
+    ensures prefix { OnErr result (AppendsPrefix (W.contents output.old.device)
+        (W.contents output.new.device) (told_bytes sources.now search.now)) }
     ensures passes { OnOk result (complains search.now ≡ false) }
     ensures holds { OnOk result ((start : WorldState) → IsFound start search.now
         → HoldsAll start search.now.answers) }
@@ -109,19 +112,18 @@ pub fn tell_ends<T, W: Write, P: Progress>(
     complain(job.alloc, search)
 }
 
-#[tactic(auto, using(crate::proofs::TellingLemmas::tells_chosen))]
+/// What tells what was found: the line of the schedule that is chosen, or all answers.
 fn told_of(
     alloc: Global,
     sources: &[Option<Numbered<'_>>],
     search: &Search,
 ) -> Result<Vec<u8>, Complaint<'static>>
-    ensures told { IfOk result (λ bytes.
-        Tells sources.now search.now search.now.inquiry.choice bytes.items) }
+    ensures told { IfOk result (λ bytes. bytes.items ≡ told_bytes sources.now search.now) }
 {
     let found = &search.answers;
     match search.inquiry.choice {
-        Some(choice) => match chosen_schedule(alloc, found, choice)? {
-            Some(text) => Ok(format!(in alloc; "{text}\n")?.into_bytes()),
+        Some(choice) => match chosen_schedule(found, choice)? {
+            Some(schedule) => Ok(format!(in alloc; "{schedule}\n")?.into_bytes()),
             None => Ok(Vec::new(alloc)),
         },
         None if search.inquiry.json => {
@@ -132,21 +134,18 @@ fn told_of(
     }
 }
 
-/// The text of a schedule that is chosen, if there is one: what isn't as it has to be has none where all is so, and an end, which
-/// must be there, has none where memory was refused.
-#[tactic(auto, using(crate::proofs::TellingLemmas::shows_failure))]
+/// A schedule that is chosen, if there is one: what isn't as it has to be has none where all is so, and an end, which must be
+/// there, has none where memory was refused.
 pub fn chosen_schedule(
-    alloc: Global,
     found: &Answers,
     choice: Choice,
-) -> Result<Option<String>, Complaint<'static>>
-    ensures chosen { IfOk result (λ shown.
-        IsChosen found.now choice (option_map string_bytes shown)) }
+) -> Result<Option<&Schedule>, Complaint<'static>>
+    ensures chosen { IfOk result (λ shown. option_copied shown ≡ chosen_in found.now choice) }
 {
     match choice {
-        Choice::Bad => Ok(found.bad_schedule(alloc)?),
+        Choice::Bad => Ok(found.bad_schedule()),
         Choice::End(number) => match numbered_end(found, number as usize) {
-            Some(end) => Ok(Some(end.schedule.text(alloc)?)),
+            Some(end) => Ok(Some(&end.schedule)),
             None if found.exploration.refused => Ok(None),
             None => Err(Reason::NoEnd.at("explore")),
         },
@@ -159,48 +158,32 @@ fn numbered_end(found: &Answers, number: usize) -> Option<&End>
     found.end(number.checked_sub(1)?)
 }
 
-/// Whether something has to be so.
-fn are_judged(found: &Answers) -> bool
-    ensures judged { result ≡ are_judged found.now }
-{
-    let asked = &found.asked;
-    !(found.answers.is_empty()
-        && asked.outputs.is_empty()
-        && asked.never.is_empty()
-        && asked.wanted.is_empty())
-}
-
 /// Complains where something has to be so and isn't, or where memory was refused on the way.
 fn complain(alloc: Global, search: &Search) -> Result<(), Complaint<'static>>
     ensures none { OnOk result (complains search.now ≡ false) }
     ensures some { OnErr result (complains search.now ≡ true) }
 {
-    let asked = &search.answers.asked;
-    let refused = search.answers.exploration.refused;
-    let judges = are_judged(&search.answers);
-    match search.answers.failure {
-        Some(Failure::Incomplete) if refused => Err(Reason::NoMemory.at("run")),
-        Some(Failure::Incomplete) if judges => Err(unmet(alloc, "incomplete", "")),
-        Some(Failure::Incomplete) | None => Ok(()),
-        Some(Failure::Endless) => Err(unmet(alloc, "endless", "")),
-        Some(Failure::Not(word)) => Err(unmet(alloc, "not ", word.text())),
-        Some(Failure::Output(number)) => {
-            let need = asked.outputs.get(number);
-            Err(unmet(alloc, "not ", need.map_or("out", |need| need.text.as_str())))
-        }
-        Some(Failure::Reached(number)) => {
-            let never = asked.never.get(number);
-            Err(unmet(alloc, "reached ", never.map_or("", |never| never.text())))
-        }
-        Some(Failure::Call(number)) => {
-            let word = asked.call_words.get(number);
-            let text = word.map_or("", |word| word.text.as_str());
-            let is_never = word.is_some_and(|word| word.never);
-            Err(unmet(alloc, if is_never { "reached " } else { "uncalled " }, text))
-        }
+    let found = &search.answers;
+    match found.failure {
+        None => Ok(()),
+        Some(Failure::Incomplete) if found.exploration.refused => Err(Reason::NoMemory.at("run")),
+        Some(Failure::Incomplete) if found.judges() => Err(told_as(alloc, "incomplete", "")),
+        Some(Failure::Incomplete) => Ok(()),
+        Some(Failure::Endless) => Err(told_as(alloc, "endless", "")),
+        Some(Failure::Unmet(number)) => match found.answers.get(number) {
+            Some(answer) => Err(unmet(alloc, &answer.question)),
+            None => Err(told_as(alloc, "not", "")),
+        },
     }
 }
 
-fn unmet(alloc: Global, head: &str, text: &str) -> Complaint<'static> {
-    Complaint::new(alloc, "explore", format_args!("{head}{text}"))
+/// The complaint about a question that isn't so.
+fn unmet(alloc: Global, question: &Question) -> Complaint<'static> {
+    told_as(alloc, question.head(), question.text())
+}
+
+/// The complaint that has this word, and a text behind it if there is one.
+fn told_as(alloc: Global, head: &str, text: &str) -> Complaint<'static> {
+    let blank = if text.is_empty() { "" } else { " " };
+    Complaint::new(alloc, "explore", format_args!("{head}{blank}{text}"))
 }

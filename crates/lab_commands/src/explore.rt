@@ -1,21 +1,20 @@
 //! The command `explore`, and what a search took.
 ghost use Rattle.std.specs.Prelude.{◌≡◌, IfOk, IfSome, ◌≤◌, None, IsTrue};
 ghost use Rattle.lab_sched.specs.Starts.{fresh};
-ghost use Rattle.lab_arguments.specs.declared.question.Question.{Question as Questioned};
-ghost use Rattle.lab_commands.specs.Asking.{AsksFor, IsAskedBy};
-ghost use Rattle.lab_commands.specs.Found.{IsFound, IsFoundBy};
+ghost use Rattle.lab_commands.specs.Asking.{AreOn, IsAskedBy};
+ghost use Rattle.lab_commands.specs.Found.{IsFound, IsFoundBy, IsSearched, AreWalked};
 ghost use Rattle.lab_commands.specs.Told.{names_no_limit, limit_of_worlds};
 
-use crate::complaint::{At, Complaint};
+use crate::complaint::Complaint;
 use crate::files::read_file;
 use crate::inquiry::{Inquiry, asked_of, inquiry_of};
 use crate::job::{Job, Progress, SearchCount, WALKS, WORLDS};
-use crate::programs::{Programs, laboratory};
+use crate::programs::{Programs, fault_of, laboratory};
 use lab_arguments::{MOST_WORLDS, Question};
-use lab_questions::{Answers, Asked, Failure, LimitMet, Reach, Standing, ask, ask_walks};
-use lab_sched::{Fresh, Process, Stepped, World};
+use lab_questions::{Answers, AskFault, Asked, Failure, LimitMet, Reach, Standing, ask, ask_walks};
+use lab_sched::{Process, Program, Stepped, World};
 use lab_sources::Source;
-use lab_worlds::{ExploreFault, Limits, Workers};
+use lab_worlds::{Limits, Walks, Workers};
 use lc3_table::Profile;
 use lc3_word::{Hex, unsigned};
 use std::alloc::{AllocError, Global};
@@ -82,9 +81,11 @@ fn searched<'a, T: Threads + Sync, P: Progress>(
     ensures asked { IfOk result (λ s. IsAskedBy question.now s.answers) }
 {
     let asked = asked_of(job.alloc, question, given.sources.as_slice())?;
-    let fresh = laboratory(job.alloc, given.programs.as_slice(), profile)?;
-    let again = laboratory(job.alloc, given.programs.as_slice(), profile)?;
-    let answers = explore(job, fresh, again, &inquiry, asked).at(job.alloc, "run")?;
+    let programs = given.programs.as_slice();
+    let answers = match inquiry.reach.walks {
+        Some(walks) => walk(job, programs, profile, inquiry.reach.limits, walks, asked)?,
+        None => explore(job, programs, profile, &inquiry, asked)?,
+    };
     Ok(Search {
         inquiry,
         answers,
@@ -93,35 +94,51 @@ fn searched<'a, T: Threads + Sync, P: Progress>(
     })
 }
 
-/// Visits every interleaving of the programs of a laboratory, which is given twice, or takes the walks of an inquiry, and judges
-/// what is asked.
+/// Takes walks through the interleavings of programs, and judges what is asked.
+fn walk<T, P: Progress>(
+    job: &Job<'_, T, P>,
+    programs: &[Program],
+    profile: Profile,
+    limits: Limits,
+    walks: Walks,
+    asked: Asked,
+) -> Result<Answers, Complaint<'static>>
+    ensures walked { IfOk result (AreWalked (fresh profile programs.now)) }
+    ensures asked { IfOk result (AreOn asked) }
+{
+    let fresh = laboratory(job.alloc, programs, profile)?;
+    let mut count = SearchCount::new(job.alloc, job.progress, WALKS);
+    let outcome = ask_walks(job.alloc, fresh, limits, walks, asked, &mut count);
+    count.clear();
+    match outcome {
+        Ok(answers) => Ok(answers),
+        Err(fault) => Err(Complaint::new(job.alloc, "run", fault)),
+    }
+}
+
+/// Visits every interleaving of programs, and judges what is asked.
 fn explore<T: Threads + Sync, P: Progress>(
     job: &Job<'_, T, P>,
-    fresh: Fresh,
-    again: Fresh,
+    programs: &[Program],
+    profile: Profile,
     inquiry: &Inquiry,
     asked: Asked,
-) -> Result<Answers, ExploreFault>
-    requires same { again ≡ fresh }
-    ensures found { IfOk result (λ a. IsFoundBy inquiry.now.reach.walks fresh a) }
-    ensures asked { IfOk result (λ a. (question : Questioned)
-        → AsksFor question asked.words.items asked → IsAskedBy question a) }
+) -> Result<Answers, Complaint<'static>>
+    ensures searched { IfOk result (IsSearched (fresh profile programs.now)) }
+    ensures asked { IfOk result (AreOn asked) }
 {
-    let Reach { limits, walks, .. } = inquiry.reach;
-    match walks {
-        Some(walks) => {
-            let mut count = SearchCount::new(job.alloc, job.progress, WALKS);
-            let outcome = ask_walks(job.alloc, fresh, limits, walks, asked, &mut count);
-            count.clear();
-            outcome
-        }
-        None => {
-            let mut count = SearchCount::new(job.alloc, job.progress, WORLDS);
-            let workers = Workers::new(job.rt, thread_count(job.rt, inquiry.threads));
-            let outcome = ask(job.alloc, fresh, again, limits, asked, &mut count, &workers);
-            count.clear();
-            outcome
-        }
+    let alloc = job.alloc;
+    let limits = inquiry.reach.limits;
+    let mut count = SearchCount::new(alloc, job.progress, WORLDS);
+    let workers = Workers::new(job.rt, thread_count(job.rt, inquiry.threads));
+    let outcome = ask(
+        alloc, programs, profile, limits, asked, &mut count, &workers,
+    );
+    count.clear();
+    match outcome {
+        Ok(answers) => Ok(answers),
+        Err(AskFault::Start(fault)) => Err(fault_of(alloc, fault)),
+        Err(AskFault::Search(fault)) => Err(Complaint::new(alloc, "run", fault)),
     }
 }
 

@@ -3,7 +3,7 @@ ghost use Rattle.std.specs.Prelude.{◌≡◌, ◌++◌, Bool, List, Ok, Err, No
 ghost use Rattle.lab_conditions.specs.declared.never.Never.{Never as Condemned};
 ghost use Rattle.lab_conditions.specs.declared.reading.ReadFault.TheVariants.{NoCondition};
 ghost use Rattle.lab_worlds.specs.Calls.{Alongside};
-ghost use Rattle.lab_commands.specs.Asking.{required_words, output_if, call_if, process_alone, waiter_at, waiter_in, AsksFor, IsAsked, AsksSo, IsNeeded, IsSaid, IsSought, MayBe};
+ghost use Rattle.lab_commands.specs.Asking.{required_words, output_if, call_if, process_alone, waiter_at, waiter_in, AsksFor, IsAsked, AsksSo, IsRequired, IsSought, MayBe};
 
 use crate::advice::{line_on, meant_by};
 use crate::complaint::{Complaint, Misuse};
@@ -12,7 +12,7 @@ use crate::places::Place;
 use crate::resolving::{need_in, outlined};
 use lab_arguments::{Choice, Question, Requirements, Rest, is_of_calls};
 use lab_conditions::{Condition, Never, Part, ReadFault, State};
-use lab_questions::{Asked, CallWord, OutputNeed, Reach, Show, Waiter, Word, read_calls};
+use lab_questions::{Asked, CallWord, Reach, Show, Waiter, Word, read_calls};
 use lab_sources::Source;
 use lab_ways::Wanted;
 use lab_worlds::{Limits, Walks};
@@ -63,34 +63,28 @@ pub fn asked_of<'a>(
     question: &Question<'a>,
     sources: &[Option<Source>],
 ) -> Result<Asked, Complaint<'a>>
-    ensures asked { IfOk result (λ asked. AsksFor question.now asked.words.items asked) }
+    ensures asked { IfOk result (λ asked. AsksFor question.now asked) }
 {
     let count = sources.len();
     let outputs = question.outputs.as_slice();
     let never = question.never.as_slice();
-    let mut asked = Asked {
-        words: words_required(alloc, question.required)?,
-        outputs: needs_of(alloc, outputs, count)?,
-        waiters: waiters_of(alloc, question.waiters.as_slice(), sources)?,
+    let mut words = words_required(alloc, question.required)?;
+    let mut needs = needs_of(alloc, outputs, count)?;
+    words.append(&mut needs)?;
+    let mut calls = Vec::new(alloc);
+    push_calls(&mut calls, outputs, false, count)?;
+    push_calls(&mut calls, never, true, count)?;
+    Ok(Asked {
+        words,
         never: nevers_of(alloc, never, sources)?,
-        call_words: Vec::new(alloc),
-        wanted: Vec::new(alloc),
+        calls,
+        waiters: waiters_of(alloc, question.waiters.as_slice(), sources)?,
         fair: question.fair,
         show: Show {
             out: question.out,
             left: question.left,
         },
-        plain: false,
-    };
-    push_calls(
-        &mut asked.call_words,
-        &mut asked.wanted,
-        outputs,
-        false,
-        count,
-    )?;
-    push_calls(&mut asked.call_words, &mut asked.wanted, never, true, count)?;
-    Ok(asked)
+    })
 }
 
 /// Refuses a question that can't be asked of so many processes, whatever their labels are.
@@ -180,12 +174,8 @@ fn words_required(alloc: Global, required: Requirements) -> Result<Vec<Word>, Al
 }
 
 /// What words require of outputs, but those that are of calls.
-fn needs_of<'a>(
-    alloc: Global,
-    words: &[&'a str],
-    count: usize,
-) -> Result<Vec<OutputNeed>, Complaint<'a>>
-    ensures needs { IfOk result (λ needs. Alongside IsNeeded
+fn needs_of<'a>(alloc: Global, words: &[&'a str], count: usize) -> Result<Vec<Word>, Complaint<'a>>
+    ensures needs { IfOk result (λ needs. Alongside IsRequired
         (flat_map (λ word. output_if word.now) words.now) needs.items) }
 {
     let mut needs = Vec::new(alloc);
@@ -196,18 +186,15 @@ fn needs_of<'a>(
 }
 
 /// Adds what a word requires of outputs, unless it is of calls.
-fn push_need<'a>(
-    needs: &mut Vec<OutputNeed>,
-    word: &'a str,
-    count: usize,
-) -> Result<(), Complaint<'a>>
-    ensures need { OnOk result ((before : List (List ℕ)) → Alongside IsNeeded before needs.old.items
-        → Alongside IsNeeded (before ++ output_if word.now) needs.new.items) }
+fn push_need<'a>(needs: &mut Vec<Word>, word: &'a str, count: usize) -> Result<(), Complaint<'a>>
+    ensures need { OnOk result ((before : List (List ℕ)) → Alongside IsRequired before needs.old.items
+        → Alongside IsRequired (before ++ output_if word.now) needs.new.items) }
 {
     if is_of_calls(word) {
         return Ok(());
     }
-    needs.push(need_in(*needs.allocator(), word, count)?)?;
+    let need = need_in(*needs.allocator(), word, count)?;
+    needs.push(Word::Output(need))?;
     Ok(())
 }
 
@@ -370,51 +357,41 @@ fn read_waiter(alloc: Global, text: &str) -> Result<Option<Waiter>, AllocError>
     }
 }
 
-/// Adds what words of `--require`, or of `--never`, ask of the calls of so many processes: as they say it, and as what has to be
-/// so on every way.
+/// Adds what words of `--require`, or of `--never`, ask of the calls of so many processes.
 fn push_calls<'a>(
-    texts: &mut Vec<CallWord>,
-    wanted: &mut Vec<Wanted>,
+    calls: &mut Vec<CallWord>,
     words: &[&'a str],
     never: bool,
     count: usize,
 ) -> Result<(), Complaint<'a>>
-    ensures said { OnOk result ((before : List (Bool × List ℕ))
-        → Alongside IsSaid before texts.old.items
-        → Alongside IsSaid (before ++ flat_map (λ word. call_if never word.now) words.now)
-        texts.new.items) }
     ensures sought { OnOk result ((before : List (Bool × List ℕ))
-        → Alongside IsSought before wanted.old.items
+        → Alongside IsSought before calls.old.items
         → Alongside IsSought (before ++ flat_map (λ word. call_if never word.now) words.now)
-        wanted.new.items) }
+        calls.new.items) }
 {
     for word in words {
-        push_call(texts, wanted, word, never, count)?;
+        push_call(calls, word, never, count)?;
     }
     Ok(())
 }
 
 fn push_call<'a>(
-    texts: &mut Vec<CallWord>,
-    wanted: &mut Vec<Wanted>,
+    calls: &mut Vec<CallWord>,
     word: &'a str,
     never: bool,
     count: usize,
 ) -> Result<(), Complaint<'a>>
-    ensures said { OnOk result ((before : List (Bool × List ℕ))
-        → Alongside IsSaid before texts.old.items
-        → Alongside IsSaid (before ++ call_if never word.now) texts.new.items) }
     ensures sought { OnOk result ((before : List (Bool × List ℕ))
-        → Alongside IsSought before wanted.old.items
-        → Alongside IsSought (before ++ call_if never word.now) wanted.new.items) }
+        → Alongside IsSought before calls.old.items
+        → Alongside IsSought (before ++ call_if never word.now) calls.new.items) }
 {
     if !is_of_calls(word) {
         return Ok(());
     }
-    let alloc = *wanted.allocator();
-    wanted.push(wanted_in(alloc, word, never, count)?)?;
+    let alloc = *calls.allocator();
+    let wanted = wanted_in(alloc, word, never, count)?;
     let text = String::from_str(alloc, word)?;
-    texts.push(CallWord { text, never })?;
+    calls.push(CallWord { text, wanted })?;
     Ok(())
 }
 

@@ -139,41 +139,41 @@ impl Place {
     pub(crate) fn text(self) -> &'static str {
         match self {
             Place::Start => {
-                "here stands sem, mq, a process, blocked, ended, crashed, at, lost or refused"
+                "expected sem, mq, a process, blocked, ended, crashed, at, lost or refused"
             }
-            Place::Part => "here stands sem, mq, a process, blocked, ended, crashed or at",
+            Place::Part => "expected sem, mq, a process, blocked, ended, crashed or at",
             Place::Name => "a name begins with / and has no other one",
-            Place::Sign => "here stands >, < or =, between blanks",
-            Place::Number => "here stands a number from 0 to 65535",
-            Place::First => "here stands blocked, ended, crashed, at or refused",
-            Place::State => "here stands blocked, ended, crashed or at",
+            Place::Sign => "expected >, < or =, between blanks",
+            Place::Number => "expected a number from 0 to 65535",
+            Place::First => "expected blocked, ended, crashed, at or refused",
+            Place::State => "expected blocked, ended, crashed or at",
             Place::Address | Place::Anywhere | Place::WaitsAt => {
-                "here stands an address or a label, or two, as x3000-x3008"
+                "expected an address or a label, or two, as x3000-x3008"
             }
-            Place::Many => "here stands and, or > with a number behind it",
-            Place::And => "here stands and",
-            Place::Error => "here stands the name of an error, as EBADF",
-            Place::Nothing | Place::Counted => "here stands nothing",
-            Place::Waiter | Place::Writer => "here stands a process, as 0",
-            Place::At => "here stands at, and an address behind it, as x3000",
-            Place::Caller | Place::Verb => "here stands calls or holds",
-            Place::Calls => "here stands a call, as sem_wait, or in order",
-            Place::Order => "here stands order",
-            Place::Call => "here stands a call, as sem_wait",
-            Place::List => "here stands a call, as sem_wait, or the name of an object",
-            Place::Called => "here stands the name of an object, as /a, or >= and a number",
-            Place::On => "here stands >= and a number, between blanks",
-            Place::Count => "here stands a number from 1 to 1000",
-            Place::Held => "here stands the name of a semaphore, as /a",
-            Place::HeldAnd => "here stands and, and up to eight names stand in all",
-            Place::NeverCaller | Place::NeverVerb => "here stands calls",
-            Place::NeverCalls => "here stands a call, as sem_wait, or other than",
-            Place::Than => "here stands than",
-            Place::Or => "here stands the name of an object, as /a, or or",
-            Place::Output | Place::Joint => "here stands out, and a process behind it",
-            Place::Relation => "here stands = or has, between blanks",
+            Place::Many => "expected and, or > with a number after it",
+            Place::And => "expected and",
+            Place::Error => "expected the name of an error, as EBADF",
+            Place::Nothing | Place::Counted => "expected nothing more",
+            Place::Waiter | Place::Writer => "expected a process, as 0",
+            Place::At => "expected at, and an address after it, as x3000",
+            Place::Caller | Place::Verb => "expected calls or holds",
+            Place::Calls => "expected a call, as sem_wait, or in order",
+            Place::Order => "expected order",
+            Place::Call => "expected a call, as sem_wait",
+            Place::List => "expected a call, as sem_wait, or the name of an object",
+            Place::Called => "expected the name of an object, as /a, or >= and a number",
+            Place::On => "expected >= and a number, between blanks",
+            Place::Count => "expected a number from 1 to 1000",
+            Place::Held => "expected the name of a semaphore, as /a",
+            Place::HeldAnd => "expected and; there may be up to eight names",
+            Place::NeverCaller | Place::NeverVerb => "expected calls",
+            Place::NeverCalls => "expected a call, as sem_wait, or other than",
+            Place::Than => "expected than",
+            Place::Or => "expected the name of an object, as /a, or or",
+            Place::Output | Place::Joint => "expected out, and a process after it",
+            Place::Relation => "expected = or has, between blanks",
             Place::Text => {
-                "here stands a text between double quotes, with the escapes of .STRINGZ, and nothing behind it"
+                "expected a text between double quotes, with the escapes of .STRINGZ, and nothing after it"
             }
         }
     }

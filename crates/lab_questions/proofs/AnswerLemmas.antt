@@ -1,5 +1,5 @@
 -- What answers on the ends of an exploration say of programs.
-use Rattle.std.proofs.Common.{ℕ, ◌≡◌, List, [], ◌∷◌, get_or, Option, Some, None, All, IfSome, slice_get, map, sym, ap, subst, refl, ◌∙◌}
+use Rattle.std.proofs.Common.{ℕ, ◌≡◌, List, [], ◌∷◌, Option, Some, None, All, Any, IfSome, true, slice_get, map, sym, ap, subst, refl, ◌∙◌}
 use Rattle.lab_sched.specs.declared.verdict.Verdict.TheVariants as verdict
 use Rattle.lab_sched.specs.Schedules.{steps_of}
 use Rattle.lab_sched.specs.Worlds.{WorldState, run, machine_of}
@@ -12,13 +12,19 @@ use Rattle.lab_worlds.proofs.Pushes.{all_at}
 use Rattle.lab_worlds.specs.Ends.{IsEnd, AreEnds, HaveAllEnds, IsReported}
 use Rattle.lab_questions.specs.declared.asked.Waiter.{Waiter}
 use Rattle.lab_questions.specs.declared.asked.Word.{Word}
-use Rattle.lab_questions.specs.declared.asked.Word.TheVariants.{Ended, Stuck, Halted, Empty, Same}
-use Rattle.lab_questions.specs.declared.answers.Answer.{Answer}
+use Rattle.lab_questions.specs.declared.asked.Word.TheVariants.{Ended, Stuck, Halted, Empty, Same, Output}
+use Rattle.lab_questions.specs.declared.asked.Question.TheVariants.{Require}
+use Rattle.lab_questions.specs.declared.answers.Found.TheVariants.{Holds, FailsAt}
+use Rattle.lab_questions.specs.declared.output.OutputNeed.{OutputNeed}
 use Rattle.lab_questions.specs.Requirements.{AreEmptied, outputs}
 use Rattle.lab_conditions.proofs.MessageCounts.{messages_alike}
-use Rattle.lab_questions.specs.Judgments.{Meets, IsMet, IsFault, IsFaultIn, IsAnswer}
-use Rattle.lab_questions.specs.Programs.{AlwaysMeet, IsRefuted}
-use Rattle.lab_questions.specs.Texts.{schedule_of, schedule_at}
+use Rattle.lab_questions.specs.Answered.{IsFound}
+use Rattle.lab_questions.specs.Judgments.{Meets, IsMet, IsFault}
+use Rattle.lab_questions.specs.Private.Judged.{IsFaultIn}
+use Rattle.lab_questions.specs.Outputs.{HasOutput, HasWritten}
+use Rattle.lab_questions.specs.Private.Founds.{AreEndsOf}
+use Rattle.lab_questions.specs.Programs.{schedule_of, schedule_at, AlwaysMeet, IsRefuted}
+use Rattle.lab_worlds.specs.declared.exploration.Exploration.{Exploration}
 
 emptied : (w v : WorldState) → AreAlike w v → AreEmptied v → AreEmptied w
 emptied w v alike empty = sym (messages_alike w.kernel v.kernel alike.kernel) ∙ empty
@@ -27,6 +33,11 @@ stuck : (w : WorldState) (e : End) → IsVerdict w e.verdict → IsVerdict e.wor
 stuck w e here there is =
     let same : e.verdict ≡ verdict.Stuck = verdict_from e.world e.verdict there ∙ sym (verdict_from e.world verdict.Stuck is) in
     subst (IsVerdict w) same here
+
+alike_written : (need : OutputNeed) (w v : WorldState) → AreAlike w v → HasWritten need v → HasWritten need w
+alike_written need w v is written =
+    subst (λ all. Any (λ a. All (λ part. HasOutput part all) a.parts.items) need.alternatives.items)
+    (ap (λ ps. map (λ s. (machine_of s).output) ps) is.processes) written
 
 -- worlds at rest are as the word requires, if the ends are that they are alike, beside one and the same
 meets : (word : Word) (waiters : List Waiter) (first w v : WorldState) (e f : End) → AreAlike v e.world → AreAlike w f.world
@@ -38,6 +49,7 @@ meets Stuck waiters first w v e f other alike here there a b = stuck w f here th
 meets Halted waiters first w v e f other alike here there a b =
     λ p s at. b p s (ap (λ ps. slice_get ps p) alike.processes ∙ at)
 meets Empty waiters first w v e f other alike here there a b = emptied w f.world alike b
+meets (Output need) waiters first w v e f other alike here there a b = alike_written need w f.world alike b
 meets Same waiters first w v e f other alike here there a b =
     sym (written w f.world alike) ∙ b ∙ sym a ∙ written v e.world other
   where
@@ -89,25 +101,12 @@ refuted word waiters start ends i each fault = by (slice_get ends 0) refl
               (subst (λ w. Meets word waiters first.world w) two.leads (subst (λ v. Meets word waiters v (run start (steps_of fault.end.schedule))) one.leads met)));
         }))
 
--- what each fault shows, the answers do
-pub each_fault : (P : Word → ℕ → Type 0) (waiters : List Waiter) (ends : List End) (answers : List Answer) → ((word : Word) (i : ℕ) → IsFault word waiters ends i → P word i)
-    → All (IsAnswer waiters ends) answers → All (λ a. IfSome a.fault (λ i. P a.word i)) answers
-each_fault P waiters ends answers shows each k d within = by (get_or answers k d).word (get_or answers k d).fault (each k d within)
-  where
-    by : (word : Word) (o : Option ℕ) → IsFaultIn word waiters ends o → IfSome o (λ i. P word i)
-    by word None fault = tt
-    by word (Some i) fault = shows word i fault
+-- a word of which an end isn't as it requires
+pub fault_found : (word : Word) (waiters : List Waiter) (e : Exploration) (i : ℕ) → IsFaultIn word waiters e.ends.items (Some i)
+    → (start : WorldState) → AreEndsOf start e → IsFound start waiters e (Require word) (FailsAt i)
+fault_found word waiters e i fault start ends = (fault, refuted word waiters start e.ends.items i ends.sound fault)
 
--- the ends that answers name show it
-pub all_refuted : (waiters : List Waiter) (start : WorldState) (ends : List End) (answers : List Answer) → AreEnds start ends → All (IsAnswer waiters ends) answers
-    → All (λ a. IfSome a.fault (λ i. IsRefuted a.word waiters start (schedule_at ends 0) (schedule_at ends i))) answers
-all_refuted waiters start ends answers sound each =
-    each_fault (λ word i. IsRefuted word waiters start (schedule_at ends 0) (schedule_at ends i)) waiters ends answers
-    (λ word i fault. refuted word waiters start ends i sound fault) each
-
--- a word without such an end holds of every world at rest
-pub all_met : (waiters : List Waiter) (start : WorldState) (ends : List End) (answers : List Answer) → AreEnds start ends → HaveAllEnds start ends
-    → All (IsAnswer waiters ends) answers → All (λ a. a.fault ≡ None → AlwaysMeet a.word waiters start) answers
-all_met waiters start ends answers sound all each k d within none =
-    let a = get_or answers k d in
-    always_meet a.word waiters start ends sound all (subst (IsFaultIn a.word waiters ends) none (each k d within))
+-- a word of which each end is as it requires, where these are all
+pub word_holds : (word : Word) (waiters : List Waiter) (e : Exploration) → IsFaultIn word waiters e.ends.items None → e.complete ≡ true
+    → (start : WorldState) → AreEndsOf start e → IsFound start waiters e (Require word) Holds
+word_holds word waiters e met complete start ends = always_meet word waiters start e.ends.items ends.sound (ends.all complete) met

@@ -1,5 +1,5 @@
 -- What the text says of programs, by what was found of them.
-use Rattle.std.proofs.Common.{ℕ, ◌≡◌, ◌+◌, Bool, true, false, List, [], ◌∷◌, ◌++◌, Option, Some, None, get_or, refl, sym, ap, subst, ◌∙◌, append_assoc, append-nil, flat_map, codes, decimal, arith, ◌≤◌}
+use Rattle.std.proofs.Common.{ℕ, ◌≡◌, ◌+◌, Bool, true, false, List, [], ◌∷◌, ◌++◌, Option, Some, None, get_or, refl, sym, ap, subst, ◌∙◌, append_assoc, append-nil, flat_map, codes, decimal, not, arith, ◌≤◌}
 use Rattle.std.specs.List.Sorted.{IsNonDecreasingBy}
 use Rattle.std.proofs.lemmas.Option.{slice_get-get_or}
 use Rattle.ipc_kernel.specs.Kernel.{KernelState}
@@ -16,9 +16,7 @@ use Rattle.lab_worlds.specs.declared.exploration.Exploration.{Exploration}
 use Rattle.lab_worlds.specs.Closed.{AreAtRest}
 use Rattle.lab_worlds.proofs.Pushes.{all_at}
 use Rattle.lab_worlds.specs.Ends.{IsEnd, AreEnds, HaveAllEnds, NoneStuck, HaveFewestCalls}
-use Rattle.lab_ways.specs.declared.ways.Ways.{Ways}
 use Rattle.lab_questions.specs.declared.answers.Answer.{Answer}
-use Rattle.lab_questions.specs.declared.asked.Asked.{Asked}
 use Rattle.lab_questions.specs.declared.asked.Show.{Show}
 use Rattle.lab_questions.specs.Claims.{SaysComplete, SaysEndless, SaysStuck, TellsEveryEnd}
 use Rattle.lab_questions.specs.EndTexts.{text_of, told_ends, schedule_line, end_lines, ends_text, endless_line, lasso_text, extent_line}
@@ -26,7 +24,8 @@ use Rattle.lab_questions.specs.Left.{left_text}
 use Rattle.lab_questions.specs.Lines.{AreLines, StandIn}
 use Rattle.lab_questions.specs.Private.Says.{Says}
 use Rattle.lab_questions.specs.Shown.{outputs_text, outcome_text, head_text, with_left, shown_text}
-use Rattle.lab_questions.specs.Texts.{Unmet, unmet_words, unmet_outputs, unmet_calls, unmet_conditions, first_line, unmet_lines, word_lines, judged_lines, answers_text}
+use Rattle.lab_questions.specs.Asked.{is_condition}
+use Rattle.lab_questions.specs.Texts.{Unmet, first_line, unmet_lines, unmet_among, answers_text}
 use Rattle.lab_questions.proofs.LineLemmas.{lines-append, lines-feed, lines-onto, same_last}
 use Rattle.lab_questions.proofs.OneText.{same_text}
 use Rattle.lab_questions.proofs.Reports.{report_lines, output_lines, same_verdict}
@@ -40,18 +39,6 @@ unmet_whole [] = tt
 unmet_whole (u ∷ us) =
     lines-append (unmet_lines u) (flat_map unmet_lines us)
     (lines-onto (u.head ++ codes " " ++ u.asked ++ codes "\n" ++ first_line u.first) (codes "schedule " ++ schedule_text u.steps)) (unmet_whole us)
-
-words_whole : (plain : Bool) (us : List Unmet) → AreLines (word_lines plain us)
-words_whole true us = tt
-words_whole false us = unmet_whole us
-
-judged_whole : (asked : Asked) (found : Exploration) (answers : List Answer) (faults : List (Option ℕ)) (ways : List Ways) → AreLines (judged_lines asked found answers faults ways)
-judged_whole asked found answers faults ways =
-    let words = word_lines asked.plain (unmet_words found.ends.items answers) in
-    let outputs = flat_map unmet_lines (unmet_outputs found.ends.items asked.outputs.items faults) in
-    lines-append (words ++ outputs) (flat_map unmet_lines (unmet_calls asked.call_words.items ways))
-    (lines-append words outputs (words_whole asked.plain (unmet_words found.ends.items answers)) (unmet_whole (unmet_outputs found.ends.items asked.outputs.items faults)))
-    (unmet_whole (unmet_calls asked.call_words.items ways))
 
 -- the verdict stands in what is told of a world, behind whole lines
 head_parts : (out : Bool) (w : WorldState) → (front : List ℕ) × AreLines front × (head_text out w ≡ front ++ verdict_text w)
@@ -78,15 +65,15 @@ stuck_stands show w n blocks text is stands =
     stand_within (above ++ head.0) (verdict_line Stuck) below text (lines-append above head.0 (lines-feed (codes "end " ++ decimal n)) head.1)
     (subst (λ l. StandIn l text) parts stands)
 
-module _ (asked : Asked) (found : Exploration) (answers : List Answer) (faults : List (Option ℕ)) (ways : List Ways) (text : List ℕ) (is : text ≡ answers_text false asked found answers faults ways) where
+module _ (show : Show) (found : Exploration) (answers : List Answer) (text : List ℕ) (is : text ≡ answers_text false show found answers) where
   abbrev ends : List ℕ
-  ends = ends_text asked.show 1 (told_ends asked.show found.ends.items)
+  ends = ends_text show 1 (told_ends show found.ends.items)
 
   abbrev words : List ℕ
-  words = judged_lines asked found answers faults ways
+  words = flat_map unmet_lines (unmet_among (λ q. not (is_condition q)) found.ends.items answers)
 
   abbrev reached : List ℕ
-  reached = flat_map unmet_lines (unmet_conditions asked.never.items found.reached.items)
+  reached = flat_map unmet_lines (unmet_among is_condition found.ends.items answers)
 
   abbrev last : List ℕ
   last = extent_line found.complete found.worlds
@@ -96,12 +83,13 @@ module _ (asked : Asked) (found : Exploration) (answers : List Answer) (faults :
   whole = is ∙ sym (append_assoc (ends ++ words) (reached ++ lasso_text found.lasso) last)
 
   front_whole : AreLines (ends ++ words)
-  front_whole = lines-append ends words (ends_whole asked.show 1 (told_ends asked.show found.ends.items)) (judged_whole asked found answers faults ways)
+  front_whole =
+      lines-append ends words (ends_whole show 1 (told_ends show found.ends.items)) (unmet_whole (unmet_among (λ q. not (is_condition q)) found.ends.items answers))
 
   above_whole : AreLines (ends ++ words ++ (reached ++ lasso_text found.lasso))
   above_whole =
       lines-append (ends ++ words) (reached ++ lasso_text found.lasso) front_whole
-      (lines-append reached (lasso_text found.lasso) (unmet_whole (unmet_conditions asked.never.items found.reached.items)) (lasso_whole found.lasso))
+      (lines-append reached (lasso_text found.lasso) (unmet_whole (unmet_among is_condition found.ends.items answers)) (lasso_whole found.lasso))
 
   -- a text that says `complete` tells an exploration that is
   is_complete : SaysComplete text → found.complete ≡ true
@@ -128,14 +116,13 @@ module _ (asked : Asked) (found : Exploration) (answers : List Answer) (faults :
           absurd (quiet (subst (StandIn endless_line) (sym whole)
           (stand_before endless_line (ends ++ words ++ (reached ++ lasso_text found.lasso)) last
           (stand_behind (ends ++ words) endless_line (reached ++ lasso_text found.lasso) front_whole
-          (stand_behind reached endless_line (lasso_text found.lasso) (unmet_whole (unmet_conditions asked.never.items found.reached.items)) stands)))))
+          (stand_behind reached endless_line (lasso_text found.lasso) (unmet_whole (unmet_among is_condition found.ends.items answers)) stands)))))
 
   -- where all ends were found, by the fewest calls, the text tells each
   tells_every_end : (start : WorldState) → AreEnds start found.ends.items
-      → IsNonDecreasingBy (λ e. e.calls) found.ends.items → HaveAllEnds start found.ends.items → HaveFewestCalls start found.ends.items → TellsEveryEnd asked.show start text
+      → IsNonDecreasingBy (λ e. e.calls) found.ends.items → HaveAllEnds start found.ends.items → HaveFewestCalls start found.ends.items → TellsEveryEnd show start text
   tells_every_end start each sorted all fewest ps rest =
       let es = found.ends.items in
-      let show = asked.show in
       let w = run start ps in
       let one = all ps rest in
       let has = fewest ps rest in
@@ -163,7 +150,6 @@ module _ (asked : Asked) (found : Exploration) (answers : List Answer) (faults :
   none_stuck : (start : WorldState) → AreEnds start found.ends.items → (SaysStuck text → ⊥) → NoneStuck found.ends.items
   none_stuck start each quiet i d within stuck =
       let es = found.ends.items in
-      let show = asked.show in
       let e = get_or es i d in
       let end = each i d within in
       let some = told_some show (λ s t. Unit {0}) (λ x. tt) es e (λ j k x h l. tt) (i, slice_get-get_or es i d within) in
@@ -173,12 +159,12 @@ module _ (asked : Asked) (found : Exploration) (answers : List Answer) (faults :
       (subst (λ r. StandIn (end_lines number r some.0.schedule) text) some.2 stands))
 
 -- what the text of a search says
-pub says : (walks : Bool) (asked : Asked) (found : Exploration) (answers : List Answer) (faults : List (Option ℕ)) (ways : List Ways) (text : List ℕ)
-    → text ≡ answers_text walks asked found answers faults ways → walks ≡ false → Says asked.show found text
-says true asked found answers faults ways text is searched = absurd (cc)
-says false asked found answers faults ways text is searched = record {
-  complete = is_complete asked found answers faults ways text is;
-  bounded = has_no_lasso asked found answers faults ways text is;
-  free = none_stuck asked found answers faults ways text is;
-  every = tells_every_end asked found answers faults ways text is;
+pub says : (walks : Bool) (show : Show) (found : Exploration) (answers : List Answer) (text : List ℕ)
+    → text ≡ answers_text walks show found answers → walks ≡ false → Says show found text
+says true show found answers text is searched = absurd (cc)
+says false show found answers text is searched = record {
+  complete = is_complete show found answers text is;
+  bounded = has_no_lasso show found answers text is;
+  free = none_stuck show found answers text is;
+  every = tells_every_end show found answers text is;
 }

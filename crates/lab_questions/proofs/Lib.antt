@@ -10,15 +10,14 @@ pub mod ClaimLemmas
 mod Numbered
 mod OrderLemmas
 mod Watched
+mod SoFar
+mod FailureLemmas
 pub mod ListLemmas
 pub mod AnswerLemmas
-mod OutputLemmas
 mod WithinLemmas
 mod ReadingLemmas
 pub mod ToldLemmas
-mod FailureLemmas
 mod ValueLemmas
 mod LeftOrder
-mod UnmetLemmas
 mod ScheduleValues
 mod CallLemmas

@@ -1,5 +1,5 @@
 -- Loops over lists.
-use Rattle.std.proofs.Common.{ℕ, ◌≡◌, ◌<◌, ◌+◌, List, [], ◌∷◌, ◌++◌, Option, Some, None, Bool, true, false, All, Any, IsTrue, flat_map, get_or, length, slice_get, take, subst, sym, ap, ◌∙◌, refl, arith}
+use Rattle.std.proofs.Common.{ℕ, ◌≡◌, ◌<◌, ◌+◌, List, [], ◌∷◌, ◌++◌, Option, Some, None, Bool, true, false, All, Any, IsTrue, flat_map, map, get_or, length, slice_get, take, subst, sym, ap, ◌∙◌, refl, arith}
 use Rattle.std.specs.Bool.{MatchBool}
 use Rattle.std.specs.List.{AllWithin, HoldsAt}
 use Rattle.std.proofs.lemmas.List.{flat_map_more, get_or_default, take_more}
@@ -32,3 +32,8 @@ pub flat_map-next : {X A : Type 0} (f : X → List A) (front : List A) (xs : Lis
 flat_map-next f front xs i x at =
     let cut = take_more xs i x (slice_get_within xs i x at) in
     flat_map_more f front (take i xs) x ∙ ap (λ l. front ++ flat_map f l) (sym (cut ∙ ap (λ y. take i xs ++ y ∷ []) (get_or_from_slice_get xs i x x at)))
+
+-- what the images of a list give
+pub flat_map-map : {X Y A : Type 0} (f : Y → List A) (g : X → Y) (xs : List X) → flat_map f (map g xs) ≡ flat_map (λ x. f (g x)) xs
+flat_map-map f g [] = refl
+flat_map-map f g (x ∷ xs) = ap (λ l. f (g x) ++ l) (flat_map-map f g xs)

@@ -1,7 +1,6 @@
 -- The answers as one line of JSON.
-use Rattle.std.specs.Prelude.{ℕ, ◌+◌, ◌&&◌, Bool, true, false, not, nat_le, nat_lt, if◌then◌else◌, Option, Some, None, List, [], ◌∷◌, ◌++◌, codes, filter, map, slice_get, string_bytes}
+use Rattle.std.specs.Prelude.{ℕ, ◌+◌, ◌&&◌, Bool, true, false, not, nat_le, nat_lt, if◌then◌else◌, Option, Some, None, List, [], ◌∷◌, ◌++◌, codes, map, slice_get, string_bytes}
 use Rattle.std.specs.Fmt.{decimal}
-use Rattle.std.specs.Bool.{beq}
 use Rattle.std.specs.List.{enumerate_from}
 use Rattle.lab_sched.specs.declared.schedule.Block.{Block}
 use Rattle.lab_sched.specs.Verdicts.{verdict_word}
@@ -10,17 +9,19 @@ use Rattle.lab_worlds.specs.declared.exploration.Exploration.{Exploration}
 use Rattle.lab_worlds.specs.declared.exploration.Limits.{Limits}
 use Rattle.lab_worlds.specs.declared.random.Walks.{Walks}
 use Rattle.lab_questions.specs.declared.answers.Answers.{Answers}
+use Rattle.lab_questions.specs.declared.asked.Question.{Question}
 use Rattle.lab_questions.specs.declared.asked.Reach.{Reach}
 use Rattle.lab_questions.specs.declared.asked.Show.{Show}
 use Rattle.lab_questions.specs.declared.limit.LimitMet.{LimitMet}
 use Rattle.lab_questions.specs.declared.limit.LimitMet.TheVariants.{Worlds, Steps, StepsOrMemory}
 use Rattle.lab_questions.specs.declared.limit.Standing.{Standing}
+use Rattle.lab_questions.specs.Asked.{is_never}
 use Rattle.lab_questions.specs.EndTexts.{extent_text}
+use Rattle.lab_questions.specs.Failures.{judges}
 use Rattle.lab_questions.specs.LeftMembers.{left_member}
 use Rattle.lab_questions.specs.Members.{objects_told, lasso_json, holds_json}
-use Rattle.lab_questions.specs.Programs.{judges}
 use Rattle.lab_questions.specs.ProcessMembers.{processes_json}
-use Rattle.lab_questions.specs.Texts.{Unmet, unmet_words, unmet_outputs, unmet_calls, unmet_conditions}
+use Rattle.lab_questions.specs.Texts.{Unmet, unmet_among}
 use Rattle.lab_questions.specs.Values.{text_json, schedule_json, truth_json, array_json, member, further_members, members_json, name_json, object_json}
 
 -- the name, if it is to be told
@@ -116,18 +117,9 @@ unmet_json u =
     if u.never then object_json (member (codes "never") (text_json u.asked) ∷ member (codes "schedule") (schedule_json u.steps) ∷ [])
     else object_json (member (codes "require") (text_json u.asked) ∷ member (codes "schedules") (schedules_json u.first u.steps) ∷ [])
 
--- of what isn't so what must never be, or what is required
-abbrev pub told_of : Bool → List Unmet → List Unmet
-told_of never all = filter (λ u. beq u.never never) all
-
--- all that must never be so and is, or all that is required and isn't so
-unfoldable pub unmet_told : Bool → Answers → List Unmet
-unmet_told never answers =
-    let ends = answers.exploration.ends.items in
-    told_of never (unmet_words ends answers.answers.items)
-    ++ told_of never (unmet_outputs ends answers.asked.outputs.items answers.output_faults.items)
-    ++ told_of never (unmet_conditions answers.asked.never.items answers.exploration.reached.items)
-    ++ told_of never (unmet_calls answers.asked.call_words.items answers.ways.items)
+-- all questions among some that aren't so
+abbrev pub unmet_of : (Question → Bool) → Answers → List Unmet
+unmet_of among answers = unmet_among among answers.exploration.ends.items answers.answers.items
 
 -- the last members, and the end of the line
 unfoldable pub last_part : Answers → List ℕ
@@ -136,16 +128,16 @@ last_part answers =
     member (codes "unopened") (array_json (objects_told answers.unopened.items))
     ∷ member (codes "fair") (truth_json answers.exploration.fair)
     ∷ member (codes "endless") (lasso_json answers.exploration.lasso)
-    ∷ member (codes "holds") (holds_json (judges answers.asked) answers.failure)
+    ∷ member (codes "holds") (holds_json (judges answers.answers.items) answers.failure)
     ∷ []) (codes "}\n")
 
 -- the members for the ends, and for what isn't as it has to be, and those behind them
 unfoldable pub found_part : Answers → List ℕ
 found_part answers =
     further_members (
-    member (codes "ends") (array_json (ends_told answers.asked.show answers.exploration.ends.items answers.told.items))
-    ∷ member (codes "not") (array_json (map unmet_json (unmet_told false answers)))
-    ∷ member (codes "reached") (array_json (map unmet_json (unmet_told true answers)))
+    member (codes "ends") (array_json (ends_told answers.show answers.exploration.ends.items answers.told.items))
+    ∷ member (codes "not") (array_json (map unmet_json (unmet_of (λ q. not (is_never q)) answers)))
+    ∷ member (codes "reached") (array_json (map unmet_json (unmet_of is_never answers)))
     ∷ []) (last_part answers)
 
 -- the answers as one object, and the end of the line

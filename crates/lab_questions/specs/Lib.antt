@@ -11,8 +11,11 @@ pub mod Written
 pub mod Objects
 pub mod Judgments
 pub mod Programs
-pub mod Called
 pub mod CallWords
+pub mod Asked
+pub mod Answered
+pub mod Failures
+pub mod Searches
 pub mod Texts
 pub mod Values
 pub mod Members

@@ -1,5 +1,5 @@
 -- The semaphores and queues that conditions name, and whether any steps lead to a world that has them.
-use Rattle.std.specs.Prelude.{ℕ, ◌≡◌, ◌<◌, ◌⊎◌, Some, List, [], ◌∷◌, ◌++◌, All, Contains, codes, flat_map, slice_get}
+use Rattle.std.specs.Prelude.{ℕ, ◌≡◌, ◌<◌, ◌⊎◌, Bool, false, Some, List, [], ◌∷◌, ◌++◌, All, AllPairs, Contains, IsTrue, codes, flat_map, slice_get}
 use Rattle.lab_sched.specs.declared.schedule.Block.{Block}
 use Rattle.lab_sched.specs.Execution.{AreEffective}
 use Rattle.lab_sched.specs.Schedules.{steps_of}
@@ -64,3 +64,9 @@ pub record AreUnopened (start : WorldState) (conditions : List Never) (objects :
   pub among : All (Contains (named conditions)) objects
   pub never : All (IsNeverOpened start) objects
   pub others : (o : Object) → Contains (named conditions) o → Contains objects o ⊎ IsOpened start o
+
+-- the same of a search: of one that isn't complete nothing is told; each stands once, in the order in which the conditions name them first
+pub record TellsUnopened (start : WorldState) (conditions : List Never) (complete : Bool) (objects : List Object) : Type 0 where
+  pub whole : IsTrue complete → AreUnopened start conditions objects
+  pub unknown : complete ≡ false → objects ≡ []
+  pub order : AllPairs (StandsBefore (named conditions)) objects

@@ -3,6 +3,7 @@ pub mod Told
 pub mod Presences
 pub mod Lefts
 pub mod Readings
-pub mod CallFailures
+pub mod Founds
 pub mod Rows
 pub mod Says
+pub mod Judged

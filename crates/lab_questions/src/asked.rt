@@ -1,15 +1,16 @@
 //! What is asked of the programs of a laboratory.
-ghost use Rattle.std.specs.Prelude.{◌≡◌, ◌↔◌, IsTrue};
-ghost use Rattle.lab_questions.specs.Programs.{AsksRest, judges};
-ghost use Rattle.lab_questions.specs.Texts.{word_text};
+ghost use Rattle.std.specs.Prelude.{◌≡◌};
+ghost use Rattle.lab_questions.specs.Asked.{asks_rest, head_of, is_never, is_of_calls, question_text, word_text};
+ghost use Rattle.lab_questions.specs.CallWords.{forbids};
+ghost use Rattle.lab_questions.specs.Private.Rows.{is_in};
 
-use crate::{CallWord, OutputNeed};
+use crate::OutputNeed;
 use lab_conditions::Never;
-use lab_ways::Wanted;
+use lab_ways::{Pattern, Wanted};
 use lab_worlds::{Limits, Walks};
 
 /// What can be required of each end.
-#[derive(Clone, Copy, Debug, PartialEq, Eq)]
+#[derive(Drop)]
 pub enum Word {
     /// Each process has ended, or waits where it may.
     Ended,
@@ -21,12 +22,14 @@ pub enum Word {
     Empty,
     /// The processes have written the same as at every other end.
     Same,
+    /// The processes have written this.
+    Output(OutputNeed),
 }
 
 impl Word {
     /// The word as it is written.
-    pub fn text(self) -> &'static str
-        ensures text { result.now ≡ word_text self }
+    pub fn text(&self) -> &str
+        ensures text { result.now ≡ word_text self.now }
     {
         match self {
             Word::Ended => "ended",
@@ -34,14 +37,112 @@ impl Word {
             Word::Halted => "halted",
             Word::Empty => "empty",
             Word::Same => "same",
+            Word::Output(need) => need.text.as_str(),
+        }
+    }
+}
+
+/// What is asked of calls, on every way.
+#[derive(Drop)]
+pub struct CallWord {
+    /// As it was written.
+    pub text: String,
+    pub wanted: Wanted,
+}
+
+/// One thing that is asked.
+#[derive(Drop)]
+pub enum Question {
+    /// Each end is as the word requires.
+    Require(Word),
+    /// This is never so.
+    Never(Never),
+    /// This is so of the calls of every way.
+    Calls(CallWord),
+}
+
+/// Which questions are told together.
+#[derive(Clone, Copy, Debug, PartialEq, Eq)]
+pub(crate) enum Part {
+    /// Those of ends and of ways.
+    Judged,
+    /// What must never be so of a world or a step.
+    Conditions,
+    /// What is required.
+    Required,
+    /// What must never be so.
+    Never,
+}
+
+/// Whether a pattern says what must never be so, and not what must be.
+fn forbids(pattern: &Pattern) -> bool
+    ensures forbids { result ≡ forbids pattern.now }
+{
+    matches!(pattern, Pattern::NoneOf(_) | Pattern::NoneBut(_))
+}
+
+impl Question {
+    /// What is asked, as it was written.
+    pub fn text(&self) -> &str
+        ensures text { result.now ≡ question_text self.now }
+    {
+        match self {
+            Question::Require(word) => word.text(),
+            Question::Never(never) => never.text(),
+            Question::Calls(word) => word.text.as_str(),
         }
     }
 
-    /// Whether the word asks that each run comes to rest.
-    pub fn asks_rest(self) -> bool
-        ensures asks { IsTrue result ↔ AsksRest self }
+    /// Whether it says what must never be so.
+    pub fn is_never(&self) -> bool
+        ensures never { result ≡ is_never self.now }
     {
-        matches!(self, Word::Ended | Word::Stuck | Word::Halted)
+        match self {
+            Question::Require(_) => false,
+            Question::Never(_) => true,
+            Question::Calls(word) => forbids(&word.wanted.pattern),
+        }
+    }
+
+    /// How the line begins that tells that it isn't so.
+    pub fn head(&self) -> &'static str
+        ensures head { result.now ≡ head_of self.now }
+    {
+        match self {
+            Question::Require(_) => "not",
+            Question::Never(_) => "reached",
+            Question::Calls(_) if self.is_never() => "reached",
+            Question::Calls(_) => "uncalled",
+        }
+    }
+
+    /// Whether it is asked of the calls of every way.
+    pub(crate) fn is_of_calls(&self) -> bool
+        ensures calls { result ≡ is_of_calls self.now }
+    {
+        matches!(self, Question::Calls(_))
+    }
+
+    /// Whether it asks that each run comes to rest.
+    pub fn asks_rest(&self) -> bool
+        ensures rest { result ≡ asks_rest self.now }
+    {
+        matches!(
+            self,
+            Question::Require(Word::Ended | Word::Stuck | Word::Halted)
+        )
+    }
+
+    /// Whether it is one of those that are told together.
+    pub(crate) fn is_in(&self, part: Part) -> bool
+        ensures value { result ≡ is_in part self.now }
+    {
+        match part {
+            Part::Judged => !matches!(self, Question::Never(_)),
+            Part::Conditions => matches!(self, Question::Never(_)),
+            Part::Required => !self.is_never(),
+            Part::Never => self.is_never(),
+        }
     }
 }
 
@@ -62,40 +163,22 @@ pub struct Show {
     pub left: bool,
 }
 
-/// What is asked of the programs of a laboratory.
+/// What is asked of the programs of a laboratory: its questions are these words, then what must never be so, and then what is
+/// asked of calls.
 #[derive(Drop)]
 pub struct Asked {
     /// What is required of each end.
     pub words: Vec<Word>,
-    /// What is required of what processes have written at each end.
-    pub outputs: Vec<OutputNeed>,
-    /// The processes that may wait.
-    pub waiters: Vec<Waiter>,
     /// What must never be so.
     pub never: Vec<Never>,
-    /// What is asked of calls, as it was written.
-    pub call_words: Vec<CallWord>,
-    /// The same, in order, as what has to be so on every way.
-    pub wanted: Vec<Wanted>,
+    /// What is asked of the calls of every way.
+    pub calls: Vec<CallWord>,
+    /// The processes that may wait.
+    pub waiters: Vec<Waiter>,
     /// Whether only lassos that are fair are told.
     pub fair: bool,
     /// What is told of each end.
     pub show: Show,
-    /// Whether no more is asked than the ends, or that each has one verdict: then the text tells of no word, and what wasn't
-    /// visited counts before what was found.
-    pub plain: bool,
-}
-
-impl Asked {
-    /// Whether something has to be so.
-    pub fn judges(&self) -> bool
-        ensures judges { result ≡ judges self.now }
-    {
-        !(self.words.is_empty()
-            && self.outputs.is_empty()
-            && self.never.is_empty()
-            && self.wanted.is_empty())
-    }
 }
 
 /// How far an exploration was to go.

@@ -1,163 +1,238 @@
-//! Explorations with what is required of their ends.
-ghost use Rattle.std.specs.Prelude.{◌≡◌, ◌↔◌, None, false, [], map, string_bytes, All, AllPairs, IfOk, IfSome, IsTrue, ◌≤◌, ◌++◌, List, OnOk, drop, length, take, flat_map};
-ghost use Rattle.std.specs.List.Sorted.{IsNonDecreasingBy};
-ghost use Rattle.lab_ways.specs.Ways.{AreAllWays};
-ghost use Rattle.lab_worlds.specs.Calls.{Alongside};
-ghost use Rattle.lab_worlds.specs.Ends.{AreEnds, HaveAllEnds, HaveFewestCalls, NeverStuck};
-ghost use Rattle.lab_worlds.specs.Reached.{AreReached, AreKept};
-ghost use Rattle.lab_worlds.specs.Lassos.{IsLasso, CanBeRepeated, AreBounded};
-ghost use Rattle.lab_worlds.specs.Fairness.{IsFairLasso, AreFairlyEndless, AreFairlyBounded};
-ghost use Rattle.lab_questions.specs.Claims.{SaysComplete, SaysEndless, SaysStuck, TellsEveryEnd};
-ghost use Rattle.lab_questions.specs.EndTexts.{text_of, told_ends, AreTold};
-ghost use Rattle.lab_questions.specs.Judgments.{IsAnswer, HasOtherVerdict, verdict_asked};
-ghost use Rattle.lab_questions.specs.Objects.{named, AreUnopened, StandsBefore, presence, objects_in};
-ghost use Rattle.lab_questions.specs.Outputs.{IsOutputAnswer, IsOutputRefuted, AlwaysWritten};
-ghost use Rattle.lab_questions.specs.Programs.{TellEveryEnd, AlwaysMeet, ComeTo, IsRefuted, Passes};
-ghost use Rattle.lab_questions.specs.Called.{AreAlways, IsFailureOfAll};
-ghost use Rattle.lab_questions.specs.Texts.{schedule_at, answers_text};
+//! Explorations, and the answers on what is asked.
+ghost use Rattle.std.specs.Prelude.{◌≡◌, ◌++◌, ◌≤◌, None, false, [], map, string_bytes, All, IfOk, IsTrue, List, OnOk, drop, length, take, flat_map};
 ghost use Rattle.lab_conditions.specs.declared.never.Never.{Never as Asking};
+ghost use Rattle.lab_explore.specs.Visits.{start_of, IsWhole};
+ghost use Rattle.lab_sched.specs.Starts.{fresh};
+ghost use Rattle.lab_worlds.specs.Calls.{Alongside};
+ghost use Rattle.lab_questions.specs.Answered.{IsAnswer, IsThrough};
+ghost use Rattle.lab_questions.specs.Asked.{questions};
+ghost use Rattle.lab_questions.specs.EndTexts.{text_of, told_ends, AreTold};
+ghost use Rattle.lab_questions.specs.Failures.{failure_of, Passes};
+ghost use Rattle.lab_questions.specs.Objects.{named, objects_in, presence, TellsUnopened};
+ghost use Rattle.lab_questions.specs.Programs.{TellEveryEnd};
+ghost use Rattle.lab_questions.specs.Searches.{HasEnds, HasRound, IsTrueText};
+ghost use Rattle.lab_questions.specs.Texts.{answers_text};
+ghost use Rattle.lab_questions.specs.declared.asked.Question.TheVariants.{Never as Condemn, Calls};
+ghost use Rattle.lab_questions.specs.Private.Founds.{IsCallAnswer, IsConditionAnswer, IsFoundOnWays};
 ghost use Rattle.lab_questions.specs.Private.Presences.{AreNamed, AsksFor, unseen};
 
-use crate::answers::said_of;
-use crate::called::ways_in;
-use crate::{Answers, Asked};
+use crate::answers::{all_answers, condition_answers, said_of};
+use crate::{Answer, Answers, Asked, CallWord, Found, Question};
 use ipc_names::Name;
 use lab_conditions::{Condition, Never, Part, Relation};
-use lab_explore::explore;
-use lab_sched::{Fresh, Schedule};
-use lab_worlds::{ExploreFault, Limits, Observer, Workers};
+use lab_explore::{Visited, explore, visit};
+use lab_sched::{Fresh, FreshFault, Program, Schedule};
+use lab_ways::{Wanted, Ways, ways_of};
+use lab_worlds::{Exploration, ExploreFault, Limits, Observer, Workers, discard};
+use lc3_table::Profile;
 use std::alloc::{AllocError, Global};
 use std::fmt;
+use std::mem::replace;
 use std::thread::Threads;
+use thiserror::Error;
 
-/// Explores the programs of a laboratory, as far as the limits allow, and judges each end by each
-/// word and output. Where the last line of the text says that the search is complete, no steps lead to rest
-/// where something is told that the text doesn't, or by fewer calls than its schedule has. Where one
-/// isn't so, the schedules that are told with it lead to ends which show that.
-/// Where the exploration is complete and it is so, every world at rest that any steps lead to
-/// is as it requires. The schedule of what must never be so leads to it; where the exploration is
-/// complete and there is none, no steps do. Where it is complete, exactly those of the semaphores and
-/// queues that conditions name are unopened which no steps lead to. They are told once, in the order in
-/// which the conditions name them first. If only fair lassos are asked for, a
-/// lasso that is told is fair; where the exploration is complete and has none, no more than some number
-/// of passes that serve each process can follow each other. Workers judge conditions side by side.
-/// What is asked of calls is looked for by another search, of `again`, which is the same laboratory:
-/// where it is so on every way, it is whatever steps are taken; else the steps of a schedule show that
-/// it isn't, or it isn't known.
+/// Explores the programs of a laboratory, as far as the limits allow, and answers each question: it is so, whatever steps are
+/// taken, in any order; or the steps of a schedule show that it isn't; or that isn't known, since not everything was visited.
+/// Where the last line of the text says that the search is complete, no steps lead to rest where something is told that the text
+/// doesn't, or by fewer calls than its schedule has. Where it is complete, exactly those of the semaphores and queues that
+/// conditions name are unopened which no steps lead to. They are told once, in the order in which the conditions name them first.
+/// If only fair lassos are asked for, a lasso that is told is fair; where the exploration is complete and has none, no more than
+/// some number of passes that serve each process can follow each other. Workers judge conditions side by side. What is asked of
+/// calls is looked for by another search. A fault is that there is no laboratory of so many programs, or want of memory.
 pub fn ask<O: Observer, R: Threads + Sync>(
     alloc: Global,
-    fresh: Fresh,
-    again: Fresh,
+    programs: &[Program],
+    profile: Profile,
     limits: Limits,
     asked: Asked,
     observer: &mut O,
     workers: &Workers<'_, R>,
-) -> Result<Answers, ExploreFault>
-    requires same { again ≡ fresh }
-    ensures words { IfOk result (λ a. map (λ x. x.word) a.answers.items ≡ asked.words.items) }
-    ensures outputs { IfOk result (λ a. a.asked.outputs ≡ asked.outputs) }
-    ensures conditions { IfOk result (λ a. a.asked.never.items ≡ asked.never.items) }
-    ensures call_words { IfOk result (λ a. a.asked.call_words ≡ asked.call_words) }
-    ensures wanted { IfOk result (λ a. a.asked.wanted ≡ asked.wanted) }
-    ensures shows { IfOk result (λ a. a.asked.show ≡ asked.show) }
-    ensures plain { IfOk result (λ a. a.asked.plain ≡ asked.plain) }
-    ensures waiters { IfOk result (λ a. a.asked.waiters.items ≡ asked.waiters.items) }
-    ensures fairness { IfOk result (λ a. a.asked.fair ≡ asked.fair) }
-    ensures text { IfOk result (λ a. string_bytes a.text
-        ≡ answers_text false a.asked a.exploration a.answers.items a.output_faults.items
-        a.ways.items) }
-    ensures numbers { IfOk result (λ a.
-        AreTold asked.show a.exploration.ends.items a.told.items) }
-    ensures texts { IfOk result (λ a. map string_bytes a.texts.items
-        ≡ map (text_of asked.show) (told_ends asked.show a.exploration.ends.items)) }
-    ensures answers { IfOk result (λ a.
-        All (IsAnswer asked.waiters.items a.exploration.ends.items) a.answers.items) }
-    ensures output_answers { IfOk result (λ a. Alongside (IsOutputAnswer a.exploration.ends.items)
-        asked.outputs.items a.output_faults.items) }
-    ensures sound { IfOk result (λ a. AreEnds fresh a.exploration.ends.items) }
-    ensures ordered { IfOk result (λ a.
-        IsNonDecreasingBy (λ e. e.calls) a.exploration.ends.items) }
-    ensures lasso { IfOk result (λ a. IfSome a.exploration.lasso (λ r. IsLasso fresh r)) }
-    ensures repeats { IfOk result (λ a.
-        IfSome a.exploration.lasso (λ r. CanBeRepeated fresh r)) }
-    ensures complete { IfOk result (λ a. IsTrue a.exploration.complete
-        → HaveAllEnds fresh a.exploration.ends.items) }
-    ensures fewest { IfOk result (λ a. IsTrue a.exploration.complete
-        → HaveFewestCalls fresh a.exploration.ends.items) }
-    ensures told { IfOk result (λ a. IsTrue a.exploration.complete
-        → TellEveryEnd asked.show fresh (told_ends asked.show a.exploration.ends.items)) }
-    ensures bounded { IfOk result (λ a. asked.fair ≡ false → IsTrue a.exploration.complete
-        → a.exploration.lasso ≡ None → AreBounded fresh) }
-    ensures says_all { IfOk result (λ a. SaysComplete (string_bytes a.text)
-        → TellsEveryEnd asked.show fresh (string_bytes a.text)) }
-    ensures says_free { IfOk result (λ a. SaysComplete (string_bytes a.text)
-        → (SaysStuck (string_bytes a.text) → ⊥) → NeverStuck fresh) }
-    ensures says_bounded { IfOk result (λ a. asked.fair ≡ false
-        → SaysComplete (string_bytes a.text) → (SaysEndless (string_bytes a.text) → ⊥)
-        → AreBounded fresh) }
+) -> Result<Answers, AskFault>
+    ensures asked { IfOk result (λ a. map (λ x. x.question) a.answers.items ≡ questions asked) }
+    ensures shows { IfOk result (λ a. a.show ≡ asked.show) }
+    ensures waiters { IfOk result (λ a. a.waiters ≡ asked.waiters) }
+    ensures fairness { IfOk result (λ a. a.fair ≡ asked.fair) }
     ensures fair { IfOk result (λ a. a.exploration.fair ≡ asked.fair) }
-    ensures fair_lasso { IfOk result (λ a. IsTrue asked.fair
-        → IfSome a.exploration.lasso (λ r. IsFairLasso fresh r)) }
-    ensures fairly_endless { IfOk result (λ a. IsTrue asked.fair
-        → IfSome a.exploration.lasso (λ r. AreFairlyEndless fresh)) }
-    ensures fairly_bounded { IfOk result (λ a. IsTrue asked.fair → IsTrue a.exploration.complete
-        → a.exploration.lasso ≡ None → AreFairlyBounded fresh) }
-    ensures refuted { IfOk result (λ a. All (λ x. IfSome x.fault (λ i.
-        IsRefuted x.word asked.waiters.items fresh (schedule_at a.exploration.ends.items 0)
-        (schedule_at a.exploration.ends.items i))) a.answers.items) }
-    ensures others { IfOk result (λ a. All (λ x. IfSome x.fault (λ i.
-        HasOtherVerdict a.exploration.ends.items x.word i)) a.answers.items) }
-    ensures met { IfOk result (λ a. IsTrue a.exploration.complete
-        → All (λ x. x.fault ≡ None → AlwaysMeet x.word asked.waiters.items fresh)
-        a.answers.items) }
-    ensures unwritten { IfOk result (λ a. Alongside (λ need fault. IfSome fault (λ i.
-        IsOutputRefuted need fresh (schedule_at a.exploration.ends.items i)))
-        asked.outputs.items a.output_faults.items) }
-    ensures written { IfOk result (λ a. IsTrue a.exploration.complete
-        → Alongside (λ need fault. fault ≡ None → AlwaysWritten need fresh)
-        asked.outputs.items a.output_faults.items) }
-    ensures ways { IfOk result (λ a. AreAllWays fresh asked.wanted.items a.ways.items) }
-    ensures reached { IfOk result (λ a.
-        AreReached fresh asked.never.items a.exploration.reached.items) }
-    ensures unreached { IfOk result (λ a. IsTrue a.exploration.complete
-        → AreKept fresh asked.never.items a.exploration.reached.items) }
-    ensures unopened { IfOk result (λ a. IsTrue a.exploration.complete
-        → AreUnopened fresh asked.never.items a.unopened.items) }
-    ensures unknown { IfOk result (λ a. a.exploration.complete ≡ false
-        → a.unopened.items ≡ []) }
-    ensures order { IfOk result (λ a.
-        AllPairs (StandsBefore (named asked.never.items)) a.unopened.items) }
-    ensures passes { IfOk result (λ a. (a.failure ≡ None)
-        ↔ (Passes a.exploration a.answers.items a.output_faults.items
-        × AreAlways a.ways.items)) }
+    ensures answers { IfOk result (λ a. All (IsAnswer (fresh profile programs.now)
+        a.waiters.items a.exploration) a.answers.items) }
+    ensures text { IfOk result (λ a. string_bytes a.text
+        ≡ answers_text false a.show a.exploration a.answers.items) }
+    ensures numbers { IfOk result (λ a.
+        AreTold a.show a.exploration.ends.items a.told.items) }
+    ensures texts { IfOk result (λ a. map string_bytes a.texts.items
+        ≡ map (text_of a.show) (told_ends a.show a.exploration.ends.items)) }
+    ensures ends { IfOk result (λ a. HasEnds (fresh profile programs.now) a.exploration) }
+    ensures told { IfOk result (λ a. IsTrue a.exploration.complete → TellEveryEnd a.show
+        (fresh profile programs.now) (told_ends a.show a.exploration.ends.items)) }
+    ensures round { IfOk result (λ a. HasRound (fresh profile programs.now) a.exploration) }
+    ensures says { IfOk result (λ a. IsTrueText (fresh profile programs.now) a.exploration.fair
+        a.show (string_bytes a.text)) }
+    ensures unopened { IfOk result (λ a. TellsUnopened (fresh profile programs.now)
+        asked.never.items a.exploration.complete a.unopened.items) }
+    ensures through { IfOk result (λ a. IsThrough a.exploration.lasso a.through) }
     ensures failure { IfOk result (λ a.
-        IfSome a.failure (λ f. IsFailureOfAll asked.plain a.exploration a.answers.items
-        a.output_faults.items a.ways.items f)) }
-    ensures come { IfOk result (λ a. asked.waiters.items ≡ [] → asked.fair ≡ false
-        → a.failure ≡ None → All (λ x. IfSome (verdict_asked x.word) (λ v. ComeTo v fresh))
-        a.answers.items) }
+        a.failure ≡ failure_of a.exploration a.answers.items) }
+    ensures passes { IfOk result (λ a.
+        a.failure ≡ None → Passes a.exploration a.answers.items) }
 {
-    let mut asked = asked;
-    let ways = ways_in(alloc, again, limits, &asked.wanted, observer)?;
-    let count = asked.never.len();
-    let objects = watch(alloc, &mut asked.never)?;
-    let fair = asked.fair;
-    let mut exploration = explore(alloc, fresh, limits, &asked.never, fair, observer, workers)?;
-    asked.never.truncate(count);
-    let complete = exploration.complete;
-    let unopened = unopened_in(alloc, complete, objects, &mut exploration.reached, count)?;
-    let said = said_of(alloc, &asked, &exploration, &ways, false)?;
-    Ok(Answers {
-        asked,
+    let Asked {
+        words,
+        never,
+        calls,
+        waiters,
+        fair,
+        show,
+    } = asked;
+    let called = call_answers(alloc, programs, profile, limits, calls, observer)?;
+    let fresh = Fresh::new(alloc, programs, profile)?;
+    let Searched {
         exploration,
-        answers: said.answers,
-        output_faults: said.output_faults,
-        ways,
+        conditions,
         unopened,
+    } = search(alloc, fresh, limits, never, fair, observer, workers)?;
+    let answers = all_answers(alloc, words, &waiters, &exploration, conditions, called)?;
+    let said = said_of(alloc, show, &exploration, &answers, false)?;
+    Ok(Answers {
+        waiters,
+        fair,
+        show,
+        exploration,
+        answers,
+        unopened,
+        through: said.through,
         text: said.text,
         told: said.told,
         texts: said.texts,
         failure: said.failure,
+    })
+}
+
+/// Why there are no answers.
+#[derive(Clone, Copy, Debug, PartialEq, Eq, Error)]
+pub enum AskFault {
+    /// There is no laboratory of the programs.
+    #[error(transparent)]
+    Start(FreshFault),
+    /// There is no exploration of it.
+    #[error(transparent)]
+    Search(ExploreFault),
+}
+
+impl From<FreshFault> for AskFault {
+    fn from(fault: FreshFault) -> AskFault {
+        AskFault::Start(fault)
+    }
+}
+
+impl From<ExploreFault> for AskFault {
+    fn from(fault: ExploreFault) -> AskFault {
+        AskFault::Search(fault)
+    }
+}
+
+impl From<AllocError> for AskFault {
+    fn from(_refused: AllocError) -> AskFault {
+        AskFault::Search(ExploreFault::NoMemory)
+    }
+}
+
+/// The answers on what is asked of calls, by a search of its own, if anything is.
+fn call_answers<O: Observer>(
+    alloc: Global,
+    programs: &[Program],
+    profile: Profile,
+    limits: Limits,
+    calls: Vec<CallWord>,
+    observer: &mut O,
+) -> Result<Vec<Answer>, AskFault>
+    ensures asked { IfOk result (λ answers.
+        map (λ a. a.question) answers.items ≡ map Calls calls.items) }
+    ensures each { IfOk result (λ answers.
+        All (IsCallAnswer (fresh profile programs.now)) answers.items) }
+{
+    if calls.is_empty() {
+        return Ok(Vec::new(alloc));
+    }
+    let fresh = Fresh::new(alloc, programs, profile)?;
+    let visited = visit(alloc, fresh, limits, observer, false)?;
+    let answers = called_of(&visited, alloc, calls);
+    discard(visited);
+    Ok(answers?)
+}
+
+/// What a search shows of one thing that is asked of calls.
+fn found_on_ways(visited: &Visited, alloc: Global, wanted: &Wanted) -> Result<Found, ExploreFault>
+    requires whole { IsWhole visited.now }
+    ensures found { IfOk result (IsFoundOnWays (start_of visited.now) wanted.now) }
+{
+    match ways_of(visited, alloc, wanted)? {
+        Ways::Always => Ok(Found::Holds),
+        Ways::Without(schedule) => Ok(Found::Fails(schedule)),
+        Ways::Unknown => Ok(Found::Unknown),
+    }
+}
+
+/// What a search shows of all that is asked of calls.
+fn called_of(
+    visited: &Visited,
+    alloc: Global,
+    calls: Vec<CallWord>,
+) -> Result<Vec<Answer>, ExploreFault>
+    requires whole { IsWhole visited.now }
+    ensures asked { IfOk result (λ answers.
+        map (λ a. a.question) answers.items ≡ map Calls calls.items) }
+    ensures each { IfOk result (λ answers.
+        All (IsCallAnswer (start_of visited.now)) answers.items) }
+{
+    let mut answers = Vec::new(alloc);
+    for word in calls {
+        let found = found_on_ways(visited, alloc, &word.wanted)?;
+        let question = Question::Calls(word);
+        answers.push(Answer { question, found })?;
+    }
+    Ok(answers)
+}
+
+/// What a search found, the answers on what must never be so, and which objects that conditions name are never there.
+#[derive(Drop)]
+struct Searched {
+    exploration: Exploration,
+    conditions: Vec<Answer>,
+    unopened: Vec<Object>,
+}
+
+/// Explores the programs of a laboratory, and looks for what must never be so and for the objects that it names.
+fn search<O: Observer, R: Threads + Sync>(
+    alloc: Global,
+    fresh: Fresh,
+    limits: Limits,
+    mut never: Vec<Never>,
+    fair: bool,
+    observer: &mut O,
+    workers: &Workers<'_, R>,
+) -> Result<Searched, ExploreFault>
+    ensures ends { IfOk result (λ s. HasEnds fresh s.exploration) }
+    ensures fair { IfOk result (λ s. s.exploration.fair ≡ fair) }
+    ensures round { IfOk result (λ s. HasRound fresh s.exploration) }
+    ensures asked { IfOk result (λ s.
+        map (λ a. a.question) s.conditions.items ≡ map Condemn never.items) }
+    ensures each { IfOk result (λ s.
+        All (IsConditionAnswer fresh s.exploration.complete) s.conditions.items) }
+    ensures unopened { IfOk result (λ s.
+        TellsUnopened fresh never.items s.exploration.complete s.unopened.items) }
+{
+    let count = never.len();
+    let objects = watch(alloc, &mut never)?;
+    let mut exploration = explore(alloc, fresh, limits, &never, fair, observer, workers)?;
+    never.truncate(count);
+    let complete = exploration.complete;
+    let unopened = unopened_in(alloc, complete, objects, &mut exploration.reached, count)?;
+    let reached = replace(&mut exploration.reached, Vec::new(alloc));
+    let conditions = condition_answers(alloc, never, reached, complete)?;
+    Ok(Searched {
+        exploration,
+        conditions,
+        unopened,
     })
 }
 

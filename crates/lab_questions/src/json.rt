@@ -1,16 +1,17 @@
 //! The answers as one object.
 ghost use Rattle.std.specs.Prelude.{◌≡◌, Some, IfOk, map, string_bytes, option_map};
 ghost use Rattle.std.specs.Option.{option_copied};
-ghost use Rattle.lab_questions.specs.Findings.{answers_line, found_part, last_part, limits_met, unit_text, schedules_json, unmet_json, unmet_told};
+ghost use Rattle.lab_questions.specs.Findings.{answers_line, found_part, last_part, limits_met, unit_text, schedules_json, unmet_json};
 ghost use Rattle.std.specs.Fmt.{decimal};
 ghost use Rattle.lab_questions.specs.Values.{array_json, member, name_json};
 ghost use Rattle.lab_questions.specs.Members.{objects_told, lasso_json, holds_json};
-ghost use Rattle.lab_questions.specs.Private.Rows.{unmet_of};
+ghost use Rattle.lab_questions.specs.Private.Rows.{unmet_view, unmets_of};
 
 mod ends;
 mod values;
 
-use crate::called::{Judged, Unmet, unmet_told};
+use crate::asked::Part;
+use crate::called::{Unmet, unmets_in};
 use crate::json::ends::{Ends, Limit};
 use crate::json::values::{Array, Characters, Quoted, StepsValue, Text, Values};
 use crate::texts::extent_of;
@@ -76,7 +77,7 @@ impl fmt::Display for Last<'_> {
         let unopened = Array(Objects(&answers.unopened));
         let fair = answers.exploration.fair;
         let endless = Cycle(&answers.exploration.lasso);
-        let holds = holds_name(answers.asked.judges(), answers.failure);
+        let holds = holds_name(answers.judges(), answers.failure);
         write!(
             f,
             ",\"unopened\":{unopened},\"fair\":{fair},\"endless\":{endless},\"holds\":{holds}}}\n"
@@ -97,8 +98,8 @@ impl fmt::Display for Found<'_> {
     #[tactic(auto, unfolding(crate::specs::Findings::found_part))]
     fn fmt<W: fmt::Write>(&self, f: &mut fmt::Formatter<W>) -> fmt::Result {
         let ends = Array(Ends(*self));
-        let required = UnmetArray(*self, false);
-        let never = UnmetArray(*self, true);
+        let required = UnmetArray(*self, Part::Required);
+        let never = UnmetArray(*self, Part::Never);
         let last = Last(self.answers);
         write!(
             f,
@@ -201,7 +202,7 @@ impl fmt::Display for Schedules<'_> {
 struct Unmets<'a>(&'a [Unmet<'a>]);
 
 impl Values for Unmets<'_> {
-    ghost values = { λ u. map (λ unmet. unmet_json (unmet_of unmet)) u.0.now };
+    ghost values = { λ u. map (λ unmet. unmet_json (unmet_view unmet)) u.0.now };
 
     fn count(&self) -> usize {
         self.0.len()
@@ -220,24 +221,18 @@ impl Values for Unmets<'_> {
     }
 }
 
-/// All that must never be so and is (`true`), or all that is required and isn't so, as an array.
+/// All that isn't so of what is told together, as an array.
 #[derive(Clone, Copy)]
-struct UnmetArray<'a>(pub Found<'a>, pub bool);
+struct UnmetArray<'a>(pub Found<'a>, pub Part);
 
 impl fmt::Display for UnmetArray<'_> {
     ghost output = { λ u. Some
-        (array_json (map unmet_json (unmet_told u.1 u.0.answers.now))) };
+        (array_json (map unmet_json (unmets_of u.1 u.0.answers.now))) };
 
     fn fmt<W: fmt::Write>(&self, f: &mut fmt::Formatter<W>) -> fmt::Result {
         let Found { alloc, answers } = self.0;
-        let judged = Judged {
-            asked: &answers.asked,
-            found: &answers.exploration,
-            answers: &answers.answers,
-            faults: &answers.output_faults,
-            ways: &answers.ways,
-        };
-        let unmet = unmet_told(alloc, judged, self.1)?;
-        write!(f, "{}", Array(Unmets(&unmet)))
+        let ends = answers.exploration.ends.as_slice();
+        let unmets = unmets_in(alloc, &answers.answers, ends, self.1)?;
+        write!(f, "{}", Array(Unmets(&unmets)))
     }
 }

@@ -16,12 +16,11 @@ mod output;
 mod reading;
 mod texts;
 
-pub use answers::{Answer, Answers, ask_walks};
-pub use asked::{Asked, Reach, Show, Waiter, Word};
-pub use asking::{Object, ask};
-pub use called::CallWord;
+pub use answers::{Answer, Answers, Found, ask_walks};
+pub use asked::{Asked, CallWord, Question, Reach, Show, Waiter, Word};
+pub use asking::{AskFault, Object, ask};
 pub use calling::{call_count, read_calls};
-pub use failure::{Failure, through_round};
+pub use failure::Failure;
 pub use json::answers_json;
 pub use limit::{LimitMet, Standing};
 pub use output::{Alternative, OutputNeed, OutputPart, OutputRelation};

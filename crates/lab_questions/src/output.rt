@@ -1,16 +1,13 @@
 //! What is required of what processes have written, and the ends that are judged by it.
-ghost use Rattle.std.specs.Prelude.{◌↔◌, All, IfOk, IsTrue, ◌≡◌, slice_get};
-ghost use Rattle.lab_worlds.specs.Calls.{Alongside};
-ghost use Rattle.lab_questions.specs.Outputs.{IsWithin, HasOutput, HasWritten, IsOutputAnswer};
+ghost use Rattle.std.specs.Prelude.{◌↔◌, All, IsTrue, ◌≡◌, slice_get};
+ghost use Rattle.lab_questions.specs.Outputs.{IsWithin, HasOutput, HasWritten};
 ghost use Rattle.lab_questions.specs.Requirements.{outputs, HasSettled, HaveSettled};
 ghost use Rattle.std.specs.Option.{option_map};
 ghost use Rattle.lab_sched.specs.Held.{process_view};
 
 use crate::Waiter;
 use lab_sched::{Process, World};
-use lab_worlds::End;
 use lc3_machine::How;
-use std::alloc::{AllocError, Global};
 
 /// How bytes stand to what a process has written.
 #[derive(Clone, Copy, Debug, PartialEq, Eq)]
@@ -73,40 +70,13 @@ fn have_outputs(alternative: &Alternative, world: &World) -> bool
     alternative.parts.iter().all(|part| has_output(part, world))
 }
 
-fn has_written(need: &OutputNeed, world: &World) -> bool
+/// Whether the processes of a world have written what is needed.
+pub(crate) fn has_written(need: &OutputNeed, world: &World) -> bool
     ensures written { IsTrue result ↔ HasWritten need.now world.now }
 {
     need.alternatives
         .iter()
         .any(|alternative| have_outputs(alternative, world))
-}
-
-/// The number of the first end, counted from 0, that hasn't what is needed, if there is one.
-fn fault_in(need: &OutputNeed, ends: &[End]) -> Option<usize>
-    ensures fault { IsOutputAnswer ends.now need.now result }
-{
-    for number in 0..ends.len() {
-        if !has_written(need, &ends[number].world) {
-            return Some(number);
-        }
-    }
-    None
-}
-
-/// For each need, in order, the number of the first end that hasn't what is needed, if there is one.
-pub(crate) fn faults_in(
-    alloc: Global,
-    needs: &[OutputNeed],
-    ends: &[End],
-) -> Result<Vec<Option<usize>>, AllocError>
-    ensures faults { IfOk result (λ faults.
-        Alongside (IsOutputAnswer ends.now) needs.now faults.items) }
-{
-    let mut faults = Vec::with_capacity(alloc, needs.len())?;
-    for need in needs {
-        faults.push(fault_in(need, ends))?;
-    }
-    Ok(faults)
 }
 
 fn has_settled(by_halt: bool, waiters: &[Waiter], pid: usize, process: &Process) -> bool

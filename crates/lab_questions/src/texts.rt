@@ -5,12 +5,13 @@ ghost use Rattle.lab_questions.specs.Texts.{last_lines, answers_text};
 ghost use Rattle.lab_questions.specs.Private.Told.{TellsNext};
 ghost use Rattle.lab_questions.specs.Shown.{outcome_text, shown_text};
 
-use crate::Show;
-use crate::called::{Judged, Kind, push_unmet};
+use crate::asked::Part;
+use crate::called::push_unmets;
 use crate::left::push_left;
+use crate::{Answer, Show};
 use lab_sched::{Steps, World};
 use lab_texts::{out_text, report_text, verdict_text};
-use lab_worlds::{End, Lasso};
+use lab_worlds::{End, Exploration, Lasso};
 use std::alloc::{AllocError, Global};
 use std::fmt;
 use std::fmt::Write;
@@ -44,39 +45,42 @@ impl fmt::Display for LassoLines<'_> {
 
 /// Adds the last lines: of walks how many were taken; else what was reached, a lasso, and whether everything was visited.
 #[tactic(auto, unfolding(crate::specs::Texts::walks_line, crate::specs::EndTexts::extent_line))]
-fn push_last(text: &mut String, judged: Judged<'_>, walks: bool) -> Result<(), AllocError>
+fn push_last(
+    text: &mut String,
+    found: &Exploration,
+    answers: &[Answer],
+    walks: bool,
+) -> Result<(), AllocError>
     ensures text { OnOk result (string_bytes text.new ≡ string_bytes text.old
-        ++ last_lines walks judged.entry.asked.now.never.items judged.entry.found.now) }
+        ++ last_lines walks found.now answers.now) }
 {
-    let found = judged.found;
     let worlds = found.worlds;
     if walks {
         return write!(text, "incomplete {worlds} walks\n");
     }
-    push_unmet(text, judged, Kind::Conditions)?;
+    push_unmets(text, answers, &found.ends, Part::Conditions)?;
     let lasso = LassoLines(&found.lasso);
     let extent = extent_of(found.complete);
     write!(text, "{lasso}{extent} {worlds} worlds\n")
 }
 
 /// Tells what was found, by walks or by a search, and answers.
-pub(crate) fn tell(alloc: Global, judged: Judged<'_>, walks: bool) -> Result<Told, AllocError>
+pub(crate) fn tell(
+    alloc: Global,
+    show: Show,
+    found: &Exploration,
+    answers: &[Answer],
+    walks: bool,
+) -> Result<Told, AllocError>
     ensures text { IfOk result (λ told. string_bytes told.text
-        ≡ answers_text walks judged.entry.asked.now judged.entry.found.now
-        judged.entry.answers.now judged.entry.faults.now judged.entry.ways.now) }
+        ≡ answers_text walks show found.now answers.now) }
     ensures texts { IfOk result (λ told. map string_bytes told.texts.items
-        ≡ map (text_of judged.entry.asked.now.show)
-        (told_ends judged.entry.asked.now.show judged.entry.found.now.ends.items)) }
-    ensures told { IfOk result (λ told. AreTold judged.entry.asked.now.show
-        judged.entry.found.now.ends.items told.numbers.items) }
+        ≡ map (text_of show) (told_ends show found.now.ends.items)) }
+    ensures told { IfOk result (λ told. AreTold show found.now.ends.items told.numbers.items) }
 {
-    let mut told = told_of(alloc, judged.asked.show, &judged.found.ends)?;
-    if !judged.asked.plain {
-        push_unmet(&mut told.text, judged, Kind::Words)?;
-    }
-    push_unmet(&mut told.text, judged, Kind::Outputs)?;
-    push_unmet(&mut told.text, judged, Kind::Calls)?;
-    push_last(&mut told.text, judged, walks)?;
+    let mut told = told_of(alloc, show, &found.ends)?;
+    push_unmets(&mut told.text, answers, &found.ends, Part::Judged)?;
+    push_last(&mut told.text, found, answers, walks)?;
     Ok(told)
 }
 

@@ -4,7 +4,6 @@ use Rattle.lab_sched.specs.Worlds.{WorldState, step, run}
 use Rattle.lab_sched.specs.Execution.{AreEffective}
 use Rattle.lab_sched.specs.Schedules.{steps_of}
 use Rattle.lab_sched.specs.declared.schedule.Block.{Block}
-use Rattle.lab_worlds.specs.Calls.{Alongside}
 use Rattle.lab_worlds.specs.Closed.{AreAtRest}
 use Rattle.lab_worlds.specs.Unwaiting.{NoneGoesOn}
 use Rattle.lab_ways.specs.declared.wanted.Wanted.{Wanted}
@@ -48,7 +47,3 @@ abbrev pub AreWays : WorldState → Wanted → Ways → Type 0
 AreWays start x Always = IsEveryWay x start
 AreWays start x (Without s) = IsWayWithout x start s
 AreWays start x Unknown = Unit {0}
-
--- what is found of each, in order, is so
-abbrev pub AreAllWays : WorldState → List Wanted → List Ways → Type 0
-AreAllWays start xs found = Alongside (AreWays start) xs found

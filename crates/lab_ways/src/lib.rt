@@ -9,4 +9,4 @@ mod ways;
 
 pub use calls::CallKind;
 pub use wanted::{MOST_STATES, Pattern, Wanted};
-pub use ways::{Ways, ask_ways};
+pub use ways::{Ways, ways_of};

@@ -1,7 +1,7 @@
 //! Whether what is asked of calls is so on every way.
 ghost use Rattle.std.specs.Prelude.{IfOk, ℕ, ◌<◌, IsTrue, ◌≡◌};
 ghost use Rattle.lab_explore.specs.Visits.{start_of, IsWhole, IsVisited};
-ghost use Rattle.lab_ways.specs.Ways.{AreWays, AreAllWays};
+ghost use Rattle.lab_ways.specs.Ways.{AreWays};
 ghost use Rattle.lab_search.specs.Stored.{IsStore, IsAt};
 ghost use Rattle.lab_ways.specs.Private.Marked.{IsMarked, KeepsMarks, KeepsMarksAt, IsRight, AreRightAt, AreShown};
 ghost use Rattle.lab_sched.specs.Worlds.{WorldState};
@@ -10,11 +10,11 @@ ghost use Rattle.lab_ways.specs.Wanted.{next_in};
 use crate::marking::{Marks, mark};
 use crate::walking::way_along;
 use crate::wanted::Wanted;
-use lab_explore::{Visited, visit};
-use lab_sched::{Fresh, Schedule};
+use lab_explore::Visited;
+use lab_sched::Schedule;
 use lab_search::Store;
 use lab_states::{Edge, place_of};
-use lab_worlds::{ExploreFault, Limits, Observer, discard};
+use lab_worlds::ExploreFault;
 use std::alloc::Global;
 
 /// Whether what is asked is so on every way.
@@ -28,9 +28,12 @@ pub enum Ways {
     Unknown,
 }
 
-/// What a search shows of what is asked: that it is so, or a way on which it isn't, as the marks have it,
-/// if there is one.
-fn ways_of(visited: &Visited, alloc: Global, wanted: &Wanted) -> Result<Ways, ExploreFault>
+/// What a search of every world at calls shows of what is asked. Where it is so, it is whatever steps are
+/// taken, in any order. A way on which it isn't has effective steps: they lead to rest, or the last is the
+/// call that must not be. Only a call that is answered with a reply that is no error is read. The object
+/// behind its descriptor or slot counts by the name that it has then, and by none once it is unlinked.
+/// An error is want of memory, or that more than `MOST_STATES` states are needed.
+pub fn ways_of(visited: &Visited, alloc: Global, wanted: &Wanted) -> Result<Ways, ExploreFault>
     requires whole { IsWhole visited.now }
     ensures found { IfOk result (AreWays (start_of visited.now) wanted.now) }
 {
@@ -52,41 +55,6 @@ fn ways_of(visited: &Visited, alloc: Global, wanted: &Wanted) -> Result<Ways, Ex
     let path = marks.path_to(alloc, &visited.store.edges, place)?;
     let schedule = way_along(visited, wanted, path.as_slice(), breaks)?;
     Ok(Ways::Without(schedule))
-}
-
-/// What a search shows of all that is asked, in order.
-fn all_ways(visited: &Visited, alloc: Global, wanted: &[Wanted]) -> Result<Vec<Ways>, ExploreFault>
-    requires whole { IsWhole visited.now }
-    ensures found { IfOk result (λ found.
-        AreAllWays (start_of visited.now) wanted.now found.items) }
-{
-    let mut found = Vec::with_capacity(alloc, wanted.len())?;
-    for one in wanted {
-        let ways = ways_of(visited, alloc, one)?;
-        found.push(ways)?;
-    }
-    Ok(found)
-}
-
-/// For all that is asked, in order, whether it is so on every way. Every world at calls that a laboratory
-/// can come to is visited, as far as the limits allow. Where it is so, it is whatever steps are taken, in
-/// any order. A way on which it isn't has effective steps: they lead to rest, or the last is the call
-/// that must not be. Only a call that is answered with a reply that is no error is read. The object
-/// behind its descriptor or slot counts by the name that it has then, and by none once it is unlinked.
-/// An error is want of memory, or that more than `MOST_STATES` states are needed.
-pub fn ask_ways<O: Observer>(
-    alloc: Global,
-    fresh: Fresh,
-    limits: Limits,
-    wanted: &[Wanted],
-    observer: &mut O,
-) -> Result<Vec<Ways>, ExploreFault>
-    ensures ways { IfOk result (λ found. AreAllWays fresh wanted.now found.items) }
-{
-    let visited = visit(alloc, fresh, limits, observer, false)?;
-    let found = all_ways(&visited, alloc, wanted);
-    discard(visited);
-    Ok(found?)
 }
 
 fn is_marked(marks: &Marks, row: usize, state: u32) -> bool

@@ -1,7 +1,7 @@
 -- What the words of `--require` and `--show` say.
 use Rattle.std.specs.Prelude.{ℕ, ◌≡◌, ◌+◌, ◌==◌, Bool, true, false, Option, Some, None, List, codes, filter, flat_map, length, bytes_eq}
 use Rattle.std.specs.List.{count_by, slice_split}
-use Rattle.lab_arguments.specs.Pieces.{pieces, is_output}
+use Rattle.lab_arguments.specs.Private.Outputs.{outputs_of}
 use Rattle.lab_arguments.specs.declared.requirements.Requirements.{Requirements}
 use Rattle.lab_arguments.specs.declared.requirements.Rest.{Rest}
 use Rattle.lab_arguments.specs.declared.requirements.Rest.TheVariants.{Ended, Stuck, Halted}
@@ -40,7 +40,7 @@ words_of text = slice_split (λ c. c == 44) text
 
 -- what some values say of outputs and calls
 abbrev pub outputs_in : List (List ℕ) → List (List ℕ)
-outputs_in values = filter is_output (flat_map pieces values)
+outputs_in values = flat_map outputs_of values
 
 -- these words, each once and with no others, show `out` or not, and `left` or not
 pub record AreShown (words : List (List ℕ)) (out left : Bool) : Type 0 where

@@ -79,7 +79,7 @@ impl Values for Processes<'_> {
 pub(crate) struct Ends<'a>(pub Found<'a>);
 
 impl Values for Ends<'_> {
-    ghost values = { λ e. ends_told e.0.answers.now.asked.show
+    ghost values = { λ e. ends_told e.0.answers.now.show
         e.0.answers.now.exploration.ends.items e.0.answers.now.told.items };
 
     #[tactic(auto, using(crate::proofs::ValueLemmas::ends_count))]
@@ -93,7 +93,7 @@ impl Values for Ends<'_> {
         let Some(end) = answers.exploration.ends.get(answers.told[place]) else {
             return write!(f, "null");
         };
-        let show = answers.asked.show;
+        let show = answers.show;
         let number = place + 1;
         let processes = Array(Processes {
             world: &end.world,

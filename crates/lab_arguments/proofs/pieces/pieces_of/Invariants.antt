@@ -1,7 +1,12 @@
-use Rattle.std.proofs.Common.{◌≡◌, flat_map, map, take}
-use Rattle.lab_arguments.specs.Pieces.{pieces}
+use Rattle.std.proofs.Common.{◌≡◌, ◌++◌, length, map}
+use denote.Text.{Utf8}
+use denote.Shadow.{shadow}
+use Rattle.lab_arguments.specs.Pieces.{cut_pieces}
 use Rattle.lab_arguments.proofs.pieces.pieces_of.Given as goal
 
--- the pieces of the values so far
-abbrev pub invariant-loop-value : goal.invariant-loop-value
-invariant-loop-value l = map (λ p. p.now) l.found.items ≡ flat_map pieces (take l.value-index (map (λ v. v.now) l.values))
+-- the pieces so far are found, and those of the rest are left
+abbrev pub invariant-loop-piece : goal.invariant-loop-piece
+invariant-loop-piece l = shadow (Utf8 l.rest) × (map (λ p. p.now) l.found.items ++ cut_pieces l.rest ≡ cut_pieces l.value)
+
+abbrev pub decreases-loop-piece : goal.decreases-loop-piece
+decreases-loop-piece l = length l.rest

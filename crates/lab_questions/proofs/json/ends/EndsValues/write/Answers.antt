@@ -16,8 +16,8 @@ returns-in_default g c =
     let none : slice_get a.exploration.ends.items number ≡ None = ap (λ es. slice_get es number) (sym c.deref.ensures.value) ∙ slice_get_past ends number past in
     record {
       value = λ plain ok. has_written_of_eq _ _ _ _ _
-          (sym (end_at a.asked.show a.exploration.ends.items a.told.items c.args.place number c.requires.there c.index.ensures
-          ∙ ap (end_or_null a.asked.show (c.args.place + 1)) none)) (c.write.ensures.writes plain ok);
+          (sym (end_at a.show a.exploration.ends.items a.told.items c.args.place number c.requires.there c.index.ensures
+          ∙ ap (end_or_null a.show (c.args.place + 1)) none)) (c.write.ensures.writes plain ok);
     }
 
 pub returns : goal.returns
@@ -29,7 +29,7 @@ returns g c =
     let there : slice_get a.exploration.ends.items number ≡ Some end = got c.deref.result.now a.exploration.ends.items number end c.deref.ensures.value found.0 (found.1 end) in
     record {
       value = λ plain ok. has_written_of_eq _ _ _ _ _
-          (end_written a.asked.show (c.args.place + 1) end c.word-verdict.result.now c.kernel.result.now c.blocks-2.result.now c.word-verdict.ensures.word c.kernel.ensures.kernel c.blocks-2.ensures.value
-          ∙ sym (end_at a.asked.show a.exploration.ends.items a.told.items c.args.place number c.requires.there c.index.ensures
-          ∙ ap (end_or_null a.asked.show (c.args.place + 1)) there)) (c.write-2.ensures.writes plain ok);
+          (end_written a.show (c.args.place + 1) end c.word-verdict.result.now c.kernel.result.now c.blocks-2.result.now c.word-verdict.ensures.word c.kernel.ensures.kernel c.blocks-2.ensures.value
+          ∙ sym (end_at a.show a.exploration.ends.items a.told.items c.args.place number c.requires.there c.index.ensures
+          ∙ ap (end_or_null a.show (c.args.place + 1)) there)) (c.write-2.ensures.writes plain ok);
     }
