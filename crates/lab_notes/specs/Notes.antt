@@ -1,8 +1,20 @@
--- Of each process of a run the first call that was refused, and how many more were.
-use Rattle.std.specs.Prelude.{ℕ, ◌+◌, min, is_some, length, replicate, slice_set, slice_get, Option, Some, None, List, [], ◌∷◌}
+-- What is noted of a run: of each process the first call that was refused, and how many more were, and of its objects what is remarked.
+use Rattle.std.specs.Prelude.{ℕ, ◌+◌, min, is_some, length, replicate, slice_set, slice_get, Option, Some, None, List, [], ◌∷◌, if◌then◌else◌, filter}
+use Rattle.ipc_kernel.specs.Kernel.{KernelState}
+use Rattle.ipc_traps.specs.Services.{is_open}
+use Rattle.ipc_traps.specs.declared.service.Service.{Service}
+use Rattle.lab_told.specs.Answers.{call_done}
+use Rattle.lab_notes.specs.Objects.{is_there, made_with}
+use Rattle.lab_notes.specs.Openers.{opened_with}
+use Rattle.lab_notes.specs.Remarks.{remark_of, remarks_with}
+use Rattle.lab_notes.specs.declared.objects.Made.{Made}
+use Rattle.lab_notes.specs.declared.openers.Opened.{Opened}
+use Rattle.lab_notes.specs.declared.remarks.Remark.{Remark}
+use Rattle.lab_notes.specs.declared.waiting.Waiting.{Waiting}
+use Rattle.lab_notes.specs.Waiting.{waits_of}
 use Rattle.lab_sched.specs.Worlds.{WorldState, Process, machine_of, step}
 use Rattle.lc3_machine.specs.Process.{reg}
-use Rattle.lab_told.specs.Scenes.{Scene, told, next, first_scene}
+use Rattle.lab_told.specs.Scenes.{Scene, told, next, first_scene, scene_after}
 use Rattle.lab_told.specs.declared.answers.Outcome.{Outcome}
 use Rattle.lab_told.specs.declared.answers.Outcome.TheVariants.{Refused}
 use Rattle.lab_told.specs.declared.told.Act.{Act}
@@ -85,11 +97,64 @@ rows_by p registers other rows = rows
 abbrev pub registers_behind : Scene → ℕ → Registers
 registers_behind s p = registers_of (slice_get (step s.world p).processes p)
 
--- after these steps
-unfoldable pub rows_after : Scene → List ℕ → List Noted → List Noted
-rows_after s [] rows = rows
-rows_after s (p ∷ ps) rows = rows_after (next s p) ps (rows_by p (registers_behind s p) (told s p) rows)
+-- what is noted of a run: of each process its refused calls, what is there and who made it, what is remarked of objects, and the
+-- names that were opened
+pub record NotesState : Type 0 where
+  pub rows : List Noted
+  pub made : List Made
+  pub remarks : List Remark
+  pub opened : List Opened
 
--- what is noted of each process, as these steps are taken from a world
-abbrev pub notes : WorldState → List ℕ → List Noted
-notes w ps = rows_after (first_scene w) ps (new_rows (length w.processes))
+-- before the first step
+abbrev pub new_notes : ℕ → NotesState
+new_notes count = record { rows = new_rows count; made = []; remarks = []; opened = [] }
+
+-- what was made, and the names that were opened, behind an open of process p
+abbrev pub opens_with : ℕ → Called → ℕ → NotesState → NotesState
+opens_with p c place n = record n { made = made_with p c place n.made; opened = opened_with p c n.opened }
+
+-- behind a call of process p on the object in a place, by the kernel after it
+abbrev pub objects_with : KernelState → ℕ → Event → Called → ℕ → NotesState → NotesState
+objects_with k p event c place n =
+    let remarked : NotesState = record n { remarks = remarks_with (remark_of k p event c place n.made) n.remarks } in
+    if is_open c.service then opens_with p c place remarked else remarked
+
+-- behind a call, of which this is the place where it was answered and not refused
+abbrev pub objects_when : KernelState → ℕ → Event → Called → Option (Service × ℕ) → NotesState → NotesState
+objects_when k p event c None n = n
+objects_when k p event c (Some done) n = objects_with k p event c done.1 n
+
+-- behind what process p did
+abbrev pub objects_in : KernelState → ℕ → Event → Act → NotesState → NotesState
+objects_in k p event (Calls c) n = objects_when k p event c (call_done c) n
+objects_in k p event other n = n
+
+-- without what is no more
+abbrev pub with_present : KernelState → NotesState → NotesState
+with_present k n = record n { made = filter (is_there k) n.made }
+
+-- after what is told of a step of process p, by the kernel after it
+abbrev pub objects_by : KernelState → ℕ → Told → NotesState → NotesState
+objects_by k p (Shown event) n = with_present k (objects_in k p event event.act n)
+objects_by k p other n = n
+
+-- after what is told of a step of process p, by the kernel and by what its registers hold behind it
+abbrev pub notes_by : KernelState → ℕ → Registers → Told → NotesState → NotesState
+notes_by k p registers told n = objects_by k p told (record n { rows = rows_by p registers told n.rows })
+
+-- after the next step of a scene, of process p
+abbrev pub notes_next : Scene → ℕ → NotesState → NotesState
+notes_next s p n = notes_by (step s.world p).kernel p (registers_behind s p) (told s p) n
+
+-- after these steps
+unfoldable pub notes_after : Scene → List ℕ → NotesState → NotesState
+notes_after s [] n = n
+notes_after s (p ∷ ps) n = notes_after (next s p) ps (notes_next s p n)
+
+-- what is noted, as these steps are taken from a world
+abbrev pub notes : WorldState → List ℕ → NotesState
+notes w ps = notes_after (first_scene w) ps (new_notes (length w.processes))
+
+-- what the processes wait for that wait, after these steps from a world
+abbrev pub waits_after : WorldState → List ℕ → List Waiting
+waits_after w ps = waits_of (scene_after (first_scene w) ps).world (scene_after (first_scene w) ps).tally

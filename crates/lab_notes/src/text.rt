@@ -1,10 +1,13 @@
 //! A note in words.
 ghost use Rattle.std.specs.Prelude.{◌≡◌, ◌++◌, OnOk, string_bytes};
-ghost use Rattle.lab_notes.specs.Texts.{more_text};
+ghost use Rattle.lab_notes.specs.Texts.{anew_text, call_text, change_text, exceeded_text, more_text, object_text, opener_text, process_text, remark_text, twins_text};
 ghost use Rattle.ipc_names.specs.declared.errno.Errno.TheVariants.{Invalid};
 ghost use Rattle.lab_notes.specs.Private.Why.{range_text, long_name_text, has_attributes, fault_text, no_create_text, size_fault, why_text};
 
+use crate::openers::Opened;
+use crate::remarks::{Change, Remark};
 use crate::rows::{Refusal, Registers};
+use crate::waiting::Waiting;
 use ipc_errors::error_name;
 use ipc_names::{Errno, Flags, O_CREAT};
 use ipc_objects::{MQ_PRIO_MAX, SEM_VALUE_MAX};
@@ -37,6 +40,123 @@ pub fn push_note(
     )?;
     push_why(text, refusal)?;
     text.push_str(")")
+}
+
+/// Adds what a semaphore was made with, and what it comes to.
+fn push_exceeded(text: &mut String, first: u16, maker: usize, value: u16) -> Result<(), AllocError>
+    ensures text { OnOk result (string_bytes text.new ≡ string_bytes text.old
+        ++ exceeded_text first maker value) }
+{
+    write!(
+        text,
+        ", made with {first} by process {maker}, comes to {value}"
+    )
+}
+
+/// Adds that an object is made anew.
+fn push_anew(text: &mut String, holder: usize) -> Result<(), AllocError>
+    ensures text { OnOk result (string_bytes text.new ≡ string_bytes text.old ++ anew_text holder) }
+{
+    write!(
+        text,
+        " is made anew, while process {holder} has the one that was unlinked"
+    )
+}
+
+/// Adds what became of an object.
+fn push_change(text: &mut String, change: Change) -> Result<(), AllocError>
+    ensures text { OnOk result (string_bytes text.new ≡ string_bytes text.old ++ change_text change) }
+{
+    match change {
+        Change::Exceeded {
+            first,
+            maker,
+            value,
+        } => push_exceeded(text, first, maker, value),
+        Change::MadeAnew { holder } => push_anew(text, holder),
+    }
+}
+
+/// Adds the call of a remark, which stands at a place.
+fn push_call(text: &mut String, remark: &Remark, place: &str) -> Result<(), AllocError>
+    ensures text { OnOk result (string_bytes text.new ≡ string_bytes text.old
+        ++ call_text remark.now place.now) }
+{
+    let (call, pid) = (remark.service.name(), remark.pid);
+    write!(text, "process {pid}: {call}, at {place}")
+}
+
+/// Adds what is remarked of an object, by a call that stands at a place.
+#[tactic(auto, unfolding(crate::specs::Texts::remark_text))]
+pub fn push_remark(text: &mut String, remark: &Remark, place: &str) -> Result<(), AllocError>
+    ensures text { OnOk result (string_bytes text.new ≡ string_bytes text.old
+        ++ remark_text remark.now place.now) }
+{
+    text.push_str("lc3lab: note: ")?;
+    text.push_str(remark.name.as_str())?;
+    push_change(text, remark.change)?;
+    text.push_str(" (")?;
+    push_call(text, remark, place)?;
+    text.push_str(")")?;
+    Ok(())
+}
+
+/// Adds that a process opens a name.
+fn push_opener(text: &mut String, opened: &Opened) -> Result<(), AllocError>
+    ensures text { OnOk result (string_bytes text.new ≡ string_bytes text.old
+        ++ opener_text opened.now) }
+{
+    let (name, pid) = (opened.name.as_str(), opened.pid);
+    write!(text, "process {pid} opens {name}")
+}
+
+/// Adds that two processes open names that differ by the case of letters alone.
+#[tactic(auto, unfolding(crate::specs::Texts::twins_text))]
+pub fn push_twins(text: &mut String, one: &Opened, other: &Opened) -> Result<(), AllocError>
+    ensures text { OnOk result (string_bytes text.new ≡ string_bytes text.old
+        ++ twins_text one.now other.now) }
+{
+    text.push_str("lc3lab: note: only ")?;
+    push_opener(text, one)?;
+    text.push_str(", only ")?;
+    push_opener(text, other)?;
+    text.push_str(": is one name meant?")?;
+    Ok(())
+}
+
+/// Adds a process, with its program, unless that has no name.
+fn push_process(text: &mut String, pid: usize, program: &str) -> Result<(), AllocError>
+    ensures text { OnOk result (string_bytes text.new ≡ string_bytes text.old
+        ++ process_text pid program.now) }
+{
+    if program.is_empty() {
+        write!(text, "P{pid}")
+    } else {
+        write!(text, "P{pid} ({program})")
+    }
+}
+
+/// Adds what a process waits for.
+fn push_object(text: &mut String, wait: &Waiting) -> Result<(), AllocError>
+    ensures text { OnOk result (string_bytes text.new ≡ string_bytes text.old ++ object_text wait.now) }
+{
+    let object = wait.object.as_str();
+    match (wait.service, wait.taker) {
+        (Service::MqReceive, _) => write!(text, " waits for a message in {object}"),
+        (Service::MqSend, _) => write!(text, " waits for room in {object}"),
+        (_, Some(taker)) => write!(text, " waits for {object}, which P{taker} has"),
+        (_, None) => write!(text, " waits for a post to {object}"),
+    }
+}
+
+/// Adds what a process waits for, whose program has this name, or none.
+pub fn push_wait(text: &mut String, wait: &Waiting, program: &str) -> Result<(), AllocError>
+    ensures text { OnOk result (string_bytes text.new ≡ string_bytes text.old
+        ++ (process_text wait.now.pid program.now ++ object_text wait.now)) }
+{
+    push_process(text, wait.pid, program)?;
+    push_object(text, wait)?;
+    Ok(())
 }
 
 const GREATEST_PRIORITY: u16 = MQ_PRIO_MAX - 1;

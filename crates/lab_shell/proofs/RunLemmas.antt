@@ -18,7 +18,7 @@ use Rattle.lab_page.specs.declared.ends.Extent.{Extent}
 use Rattle.lab_page.specs.declared.source.Source.{Source}
 use Rattle.lab_commands.specs.declared.explore.Search.{Search}
 use Rattle.lab_commands.specs.Found.{IsFound}
-use Rattle.lab_commands.specs.Told.{HasTold}
+use Rattle.lab_commands.specs.Told.{told_bytes}
 use Rattle.lab_shell.specs.declared.ends_page.Explored.{Explored}
 use Rattle.lab_shell.specs.Private.Explored.{HasExplored, IsTraceOf}
 use Rattle.lab_shell.specs.Private.Runs.{HasRuns, IsPageOfEnds, start_of, runs_to, with_run}
@@ -61,7 +61,7 @@ is_page_of_ends e l worlds bytes is pictured runs =
 -- what was appended tells what was found
 pub has_explored : (profile : Profile) (programs : List Program) (s : Search) (sources : List (Option SourceSeen)) (old between new : Option (List ℕ))
     → IsFound (fresh profile programs) s
-    → HasTold sources s old between
+    → Appends old between (told_bytes sources s)
     → ((text : List ℕ) × IsTraceOf (fresh profile programs) text × Appends between new text)
     → HasExplored profile old new
 has_explored profile programs s sources old between new found told behind =

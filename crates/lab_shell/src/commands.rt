@@ -14,11 +14,14 @@ use lab_commands::{
     read_schedule, report_given, run_given, standing_at, write_bytes,
 };
 use lab_io::{Input, Output, Prompt};
-use lab_notes::{Refusal, noted, push_more, push_note};
-use lab_sched::{Schedule, World};
+use lab_notes::{
+    Notes as Noted, Opened, Refusal, Remark, Waiting, noted, push_more, push_note, push_remark,
+    push_twins, push_wait, twin_after,
+};
+use lab_sched::{Schedule, Verdict, World};
 use lab_sources::Source;
 use lab_trace::{missing_after, trace};
-use std::alloc::AllocError;
+use std::alloc::{AllocError, Global};
 use std::io::{Read, Write};
 use std::rt::Files;
 use std::sync::Wait;
@@ -137,7 +140,7 @@ fn tell_debugged<T, P: Progress>(
     debugged: &Debugged,
 ) -> Result<(), AllocError> {
     let sources = (0..start.count()).map(|process| debugged.source(process));
-    let mut notes = Notes::new(job, sources.collect(job.alloc)?);
+    let mut notes = Notes::new(job, sources.collect(job.alloc)?, Vec::new(job.alloc));
     if let Some(schedule) = debugged.schedule(job.alloc)? {
         notes.tell(start, &schedule)?;
     }
@@ -214,10 +217,10 @@ impl<T, P: Progress> Given<'_, '_, T, P> {
             return;
         }
         let sources = self.programs.sources.iter().map(|source| source.as_ref());
-        let Ok(sources) = sources.collect(self.job.alloc) else {
+        let (Ok(sources), Ok(names)) = (sources.collect(self.job.alloc), self.names()) else {
             return;
         };
-        let mut notes = Notes::new(self.job, sources);
+        let mut notes = Notes::new(self.job, sources, names);
         for schedule in schedules {
             let Ok(world) = self.world() else {
                 return;
@@ -229,12 +232,32 @@ impl<T, P: Progress> Given<'_, '_, T, P> {
     }
 }
 
+/// Of more processes that are stuck a note says only how many they are.
+const MOST_WAITS: usize = 6;
+
+/// What the first of some processes wait for, which are called so.
+fn stuck_note(alloc: Global, waits: &[Waiting], names: &[String]) -> Result<String, AllocError> {
+    let mut note = String::from_str(alloc, "lc3lab: note: stuck: ")?;
+    for (index, wait) in waits.iter().take(MOST_WAITS).enumerate() {
+        if index > 0 {
+            note.push_str("; ")?;
+        }
+        match names.get(wait.pid) {
+            Some(name) => push_wait(&mut note, wait, name)?,
+            None => push_wait(&mut note, wait, "")?,
+        }
+    }
+    Ok(note)
+}
+
 /// The notes of runs of some programs, each of which is told once.
 #[derive(Drop)]
 pub struct Notes<'a, T, P> {
     job: &'a Job<'a, T, P>,
     /// Of each process its source, where it was given as one.
     sources: Vec<Option<&'a Source>>,
+    /// How the processes are called, or nothing.
+    names: Vec<String>,
     /// What was told.
     told: Vec<String>,
     /// How many steps are looked at, at most.
@@ -242,17 +265,22 @@ pub struct Notes<'a, T, P> {
 }
 
 impl<'a, T, P: Progress> Notes<'a, T, P> {
-    pub fn new(job: &'a Job<'a, T, P>, sources: Vec<Option<&'a Source>>) -> Notes<'a, T, P> {
+    pub fn new(
+        job: &'a Job<'a, T, P>,
+        sources: Vec<Option<&'a Source>>,
+        names: Vec<String>,
+    ) -> Notes<'a, T, P> {
         Notes {
             job,
             sources,
+            names,
             told: Vec::new(job.alloc),
             left: MOST_NOTED,
         }
     }
 
-    /// Tells of each process of a run its first refused call, where it has one and that wasn't told of another run; with
-    /// whether the run wasn't too long for it.
+    /// Tells the notes of a run that weren't told of another one: of each process its first refused call, what is remarked of
+    /// objects, and the names that differ by the case of letters alone; with whether the run wasn't too long for it.
     pub fn tell(&mut self, mut world: World, schedule: &Schedule) -> Result<bool, AllocError> {
         let Some(left) = self.left.checked_sub(schedule.total().max(LEAST_COUNTED)) else {
             return Ok(false);
@@ -261,26 +289,72 @@ impl<'a, T, P: Progress> Notes<'a, T, P> {
         if missing_after(&mut world, schedule).is_some() {
             return Ok(true);
         }
-        let rows = noted(self.job.alloc, &mut world, schedule)?;
-        for (pid, row) in rows.iter().enumerate() {
-            if let Some(first) = &row.first {
-                self.tell_first(pid, first, row.more)?;
-            }
+        let (notes, waits) = noted(self.job.alloc, &mut world, schedule)?;
+        self.tell_noted(&notes)?;
+        if matches!(world.verdict(), Verdict::Stuck) {
+            self.tell_waits(&waits)?;
         }
         Ok(true)
     }
 
-    /// Tells the first refused call of a process and how many more there were, unless it was told before.
+    /// Tells what is noted of a run.
+    fn tell_noted(&mut self, notes: &Noted) -> Result<(), AllocError> {
+        for (pid, row) in notes.rows().iter().enumerate() {
+            if let Some(first) = &row.first {
+                self.tell_first(pid, first, row.more)?;
+            }
+        }
+        for remark in notes.remarks() {
+            self.tell_remark(remark)?;
+        }
+        self.tell_twins(notes.opened())
+    }
+
+    /// Tells the first refused call of a process and how many more there were.
     fn tell_first(&mut self, pid: usize, first: &Refusal, more: u32) -> Result<(), AllocError> {
         let alloc = self.job.alloc;
         let source = self.sources.get(pid).copied().flatten();
         let standing = standing_at(alloc, source, first.pc, first.word)?;
         let mut note = String::new(alloc);
         push_note(&mut note, pid, first, &format!(in alloc; "{standing}")?)?;
+        self.tell_once(note, more)
+    }
+
+    /// Tells what is remarked of an object.
+    fn tell_remark(&mut self, remark: &Remark) -> Result<(), AllocError> {
+        let alloc = self.job.alloc;
+        let source = self.sources.get(remark.pid).copied().flatten();
+        let standing = standing_at(alloc, source, remark.pc, remark.word)?;
+        let mut note = String::new(alloc);
+        push_remark(&mut note, remark, &format!(in alloc; "{standing}")?)?;
+        self.tell_once(note, 0)
+    }
+
+    /// Tells of names that differ by the case of letters alone.
+    fn tell_twins(&mut self, opened: &[Opened]) -> Result<(), AllocError> {
+        for (index, one) in opened.iter().enumerate() {
+            if let Some(other) = twin_after(opened, index) {
+                let mut note = String::new(self.job.alloc);
+                push_twins(&mut note, one, other)?;
+                self.tell_once(note, 0)?;
+            }
+        }
+        Ok(())
+    }
+
+    /// Tells what the processes wait for that are stuck: of the first of them, and how many more there are.
+    fn tell_waits(&mut self, waits: &[Waiting]) -> Result<(), AllocError> {
+        let note = stuck_note(self.job.alloc, waits, self.names.as_slice())?;
+        let more = waits.len().saturating_sub(MOST_WAITS);
+        self.tell_once(note, u32::try_from(more).unwrap_or(u32::MAX))
+    }
+
+    /// Tells a note, and how many more there are of its kind, unless it was told before.
+    fn tell_once(&mut self, note: String, more: u32) -> Result<(), AllocError> {
         if self.told.iter().any(|told| told.as_str() == note.as_str()) {
             return Ok(());
         }
-        let mut line = String::from_str(alloc, &note)?;
+        let mut line = String::from_str(self.job.alloc, &note)?;
         push_more(&mut line, more)?;
         line.push_str("\n")?;
         self.job.progress.tell(&line);

@@ -10,7 +10,7 @@ use Rattle.lab_trace.specs.Traces.{trace_text}
 use Rattle.lab_places.specs.Placed.{SourceSeen}
 use Rattle.lab_commands.specs.declared.explore.Search.{Search}
 use Rattle.lab_commands.specs.Found.{IsFound}
-use Rattle.lab_commands.specs.Told.{HasTold}
+use Rattle.lab_commands.specs.Told.{told_bytes}
 
 -- the trace of some programs, on machines of this profile, by some steps, with the labels of some sources
 abbrev pub IsTrace : Profile → List ℕ → Type 0
@@ -28,7 +28,7 @@ pub record HasExplored (profile : Profile) (old new : Option (List ℕ)) : Type 
   pub found : IsFound (fresh profile programs) search
   pub sources : List (Option SourceSeen)
   pub between : Option (List ℕ)
-  pub told : HasTold sources search old between
+  pub told : Appends old between (told_bytes sources search)
   pub trace : List ℕ
   pub traced : IsTraceOf (fresh profile programs) trace
   pub behind : Appends between new trace

@@ -1,12 +1,12 @@
 -- What a page shows of a search.
-use Rattle.std.specs.Prelude.{◌≡◌, ◌⊎◌, List, All, IsTrue, is_some, map}
+use Rattle.std.specs.Prelude.{◌≡◌, ◌&&◌, ◌||◌, Bool, List, All, map}
 use Rattle.lab_sched.specs.Worlds.{WorldState}
-use Rattle.lab_worlds.specs.declared.exploration.Exploration.{Exploration}
 use Rattle.lab_pictures.specs.Pictures.{IsNode, IsStep, HaveAllSteps, BeginsAt}
 use Rattle.lab_pictures.specs.declared.picture.Arrow.{Arrow}
 use Rattle.lab_pictures.specs.declared.picture.Node.{Node}
 use Rattle.lab_page.specs.declared.worlds.WorldEdge.{WorldEdge}
-use Rattle.lab_questions.specs.Programs.{AsksRest}
+use Rattle.lab_questions.specs.Answered.{fails}
+use Rattle.lab_questions.specs.Asked.{asks_rest}
 use Rattle.lab_questions.specs.declared.answers.Answer.{Answer}
 
 -- an arrow of a picture as a page has it
@@ -23,6 +23,6 @@ pub record ArePictured (start : WorldState) (edges : List WorldEdge) : Type 0 wh
   pub steps : All (IsStep nodes) arrows
   pub all : HaveAllSteps nodes arrows
 
--- it was found that not all is as a word requires: an end isn't, or some run never ends, and the word asks that each does
-abbrev pub IsUnmet : Exploration → Answer → Type 0
-IsUnmet found a = IsTrue (is_some a.fault) ⊎ (AsksRest a.word × IsTrue (is_some found.lasso))
+-- it was found that a question isn't so: something shows it, or some run never ends, and it asks that each comes to rest
+abbrev pub is_unmet : Bool → Answer → Bool
+is_unmet endless a = fails a.found || asks_rest a.question && endless
