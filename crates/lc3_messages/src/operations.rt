@@ -20,23 +20,23 @@ pub(crate) fn bad_label(place: Place<'_>) -> Result<String, AllocError> {
     let alloc = place.source.alloc;
     let name = name_of(place.part.word);
     let said = match name.as_bytes() {
-        [] => return String::from_str(alloc, "a : stands right behind a label"),
+        [] => return String::from_str(alloc, "write : directly after a label"),
         bytes if is_label(bytes) => return String::from_str(alloc, ".ORIG takes no label"),
         bytes if is_number(bytes) => " is a number, so it can't be a label",
         bytes if is_register(bytes) => " is a register, so it can't be a label",
         bytes if is_operation(bytes) => NO_LABEL_BUT_OPERATION,
-        [b'/' | b'#' | b'*', ..] => " is no label; a comment begins with ;",
-        [b'0'..=b'9', ..] => " is no label; a label begins with a letter or _",
+        [b'/' | b'#' | b'*', ..] => " isn't a label; a comment begins with ;",
+        [b'0'..=b'9', ..] => " isn't a label; a label begins with a letter or _",
         _ => {
             let shown = Excerpt(name);
             let mut characters = name.chars();
             return match characters.find(|it| !it.is_ascii_alphanumeric() && *it != '_') {
                 Some(character) => format!(in alloc;
-                    "{shown} is no label; a label has letters, digits and _ alone, and no {}",
+                    "{shown} isn't a label; a label has only letters, digits and _, not {}",
                     picture(character)
                 ),
                 None => format!(in alloc;
-                    "{shown} is no label; it has {} characters, and a label has at most {LABEL_LENGTH}",
+                    "{shown} isn't a label; it has {} characters, and a label has at most {LABEL_LENGTH}",
                     name.len()
                 ),
             };
@@ -48,8 +48,10 @@ pub(crate) fn bad_label(place: Place<'_>) -> Result<String, AllocError> {
 fn no_operation(alloc: Global, part: Part<'_>, meant: Option<&str>) -> Result<Remark, AllocError> {
     let (word, mean) = (Excerpt(part.word), DidYouMean(meant));
     let text = match vector_named(alloc, part.word)? {
-        Some(vector) => format!(in alloc; "{word} is no operation; the call is TRAP x{vector:02X}"),
-        None => format!(in alloc; "{word} is no operation and no directive{mean}"),
+        Some(vector) => format!(in alloc;
+            "{word} isn't an operation; the call is TRAP x{vector:02X}"
+        ),
+        None => format!(in alloc; "{word} is neither an operation nor a directive{mean}"),
     };
     Ok(part.remark(text?))
 }
@@ -78,7 +80,7 @@ fn operand_behind(
         return no_operation(alloc, place.part, meant);
     };
     let text = format!(in alloc;
-        "behind the label {} stands an operation or a directive{as_which}",
+        "expected an operation or a directive after the label {}{as_which}",
         Excerpt(name_of(word))
     )?;
     Ok(second.remark(text))
@@ -90,7 +92,7 @@ pub(crate) fn bad_operation(place: Place<'_>) -> Result<Remark, AllocError> {
     let Token::Word(word) = first.token else {
         let text = String::from_str(
             alloc,
-            "a string begins no statement; here stands a label, an operation or a directive",
+            "a string can't begin a statement; expected a label, an operation or a directive",
         )?;
         return Ok(first.remark(text));
     };

@@ -23,7 +23,7 @@ fn remark_at(place: Place<'_>, kind: Fault) -> Result<Remark, AllocError> {
         Fault::BadOperation => return bad_operation(place),
         Fault::NoOrig => String::from_str(
             alloc,
-            "the first statement has to be .ORIG with the address of the first word, as .ORIG x3000",
+            "the first statement must be .ORIG with the address of the first word, as .ORIG x3000",
         ),
         Fault::SecondOrig => {
             let mut lines = place.source.reader.lines().iter();
@@ -42,7 +42,7 @@ fn remark_at(place: Place<'_>, kind: Fault) -> Result<Remark, AllocError> {
         Fault::DuplicateLabel => {
             let name = name_of(place.part.word);
             let line = line_of(alloc, &place.source.labels.definitions, name)?.unwrap_or(1);
-            format!(in alloc; "line {line} defines the label {} already", Excerpt(name))
+            format!(in alloc; "line {line} already defines the label {}", Excerpt(name))
         }
         Fault::Undefined => undefined(place),
         Fault::OffsetRange => offset_range(place),
@@ -106,7 +106,7 @@ impl fmt::Display for Count {
     }
 }
 
-/// What may stand as each of these operands, behind a text.
+/// What each of these operands may be, after a text.
 #[derive(Clone, Copy)]
 struct Forms(&'static [Form]);
 
@@ -121,7 +121,7 @@ impl fmt::Display for Forms {
 }
 
 fn misplaced(alloc: Global, word: &str, said: &str, form: Form) -> Result<String, AllocError> {
-    format!(in alloc; "{}{said}; here stands {}", Excerpt(word), form_text(form))
+    format!(in alloc; "{}{said}; expected {}", Excerpt(word), form_text(form))
 }
 
 fn bad_operands(place: Place<'_>) -> Result<String, AllocError> {
@@ -135,14 +135,13 @@ fn bad_operands(place: Place<'_>) -> Result<String, AllocError> {
         let taken = place.forms.len();
         let given = place.parts.len().saturating_sub(place.at.saturating_add(1));
         let s = if taken == 1 { "" } else { "s" };
-        let are = if given > 1 { "are" } else { "is" };
         let hint = if given > taken {
             " (a comment begins with ;)"
         } else {
             ""
         };
         return format!(in alloc;
-            "{} takes {} operand{s}, here {are} {}{}{hint}",
+            "{} takes {} operand{s}, but has {}{}{hint}",
             Excerpt(word),
             Count(taken, "no"),
             Count(given, "none"),
@@ -151,13 +150,13 @@ fn bad_operands(place: Place<'_>) -> Result<String, AllocError> {
     }
     let form = place.form();
     let (name, said) = if form == Form::Characters {
-        (word, " is no string")
+        (word, " isn't a string")
     } else if word.starts_with('"') {
-        ("a string", " can't stand here")
+        ("a string", " isn't allowed here")
     } else if is_register(word.as_bytes()) {
-        ("a register", " can't stand here")
+        ("a register", " isn't allowed here")
     } else {
-        (word, " is no register")
+        (word, " isn't a register")
     };
     misplaced(alloc, name, said, form)
 }
@@ -186,14 +185,14 @@ fn bad_number(place: Place<'_>) -> Result<String, AllocError> {
         return Ok(text);
     }
     let said = if is_label(bytes) {
-        " is no number, and a label can't stand here"
+        " isn't a number, and a label isn't allowed here"
     } else if let Some(number) = number_meant(alloc, word)? {
         let (word, number) = (Excerpt(word), Excerpt(&number));
-        return format!(in alloc; "{word} is no number; did you mean {number}?");
+        return format!(in alloc; "{word} isn't a number; did you mean {number}?");
     } else if takes_label {
-        " is no number and no label"
+        " is neither a number nor a label"
     } else {
-        " is no number"
+        " isn't a number"
     };
     misplaced(alloc, word, said, form)
 }
@@ -205,8 +204,8 @@ fn range(place: Place<'_>) -> Result<String, AllocError> {
     } else {
         ""
     };
-    let (word, stands) = (Excerpt(place.part.word), form_text(form));
-    format!(in place.source.alloc; "the number {word} is out of range; here stands {stands}{hint}")
+    let (word, expected) = (Excerpt(place.part.word), form_text(form));
+    format!(in place.source.alloc; "the number {word} is out of range; expected {expected}{hint}")
 }
 
 /// What is left of a string from its first character on that is bad.
@@ -242,14 +241,14 @@ fn bad_string(alloc: Global, part: Part<'_>) -> Result<Remark, AllocError> {
         (Some('\\'), Some(character)) => (
             character.len_utf8().saturating_add(1),
             format!(in alloc;
-                "\\{} is no escape; the escapes are \\n \\t \\r \\a \\b \\f \\v \\e \\0 \\\" \\\\",
+                "\\{} isn't an escape; the escapes are \\n \\t \\r \\a \\b \\f \\v \\e \\0 \\\" \\\\",
                 picture(character)
             )?,
         ),
         (first, _) => {
             let character = first.unwrap_or('"');
             let text = format!(in alloc;
-                "the character U+{:04X} can't stand in a string; strings have characters from x20 to x7E, tabs and escapes",
+                "the character U+{:04X} isn't allowed in a string; strings have characters from x20 to x7E, tabs and escapes",
                 u32::from(character)
             )?;
             (character.len_utf8(), text)
@@ -279,7 +278,7 @@ fn undefined(place: Place<'_>) -> Result<String, AllocError> {
     let shown = Excerpt(word);
     if let Some(line) = line_of(alloc, &labels.behind, word)? {
         return format!(in alloc;
-            "no line before .END defines the label {shown}; line {line} behind it does"
+            "no line before .END defines the label {shown}; line {line} after it does"
         );
     }
     let name = upper(alloc, word.as_bytes())?;
@@ -302,7 +301,7 @@ fn offset_range(place: Place<'_>) -> Result<String, AllocError> {
         _ => "from -256 to 255",
     };
     format!(in source.alloc;
-        "the label {} is too far away: its offset is {}, and here it is {bounds}",
+        "the label {} is too far away: its offset is {}, and must be {bounds}",
         Excerpt(place.part.word),
         Grouped(i64::from(target) - i64::from(address) - 1)
     )
@@ -320,7 +319,7 @@ fn bad_token(place: Place<'_>) -> Result<Remark, AllocError> {
         ),
         _ if is_typographic_quote(character) => (
             "this is a typographic quote, ",
-            "; a string stands between two \"",
+            "; write a string between two \"",
         ),
         '\u{2010}'..='\u{2015}' | '\u{2212}' => ("this is a dash, ", "; a minus is written -"),
         '\u{A0}' | '\u{2000}'..='\u{200B}' | '\u{202F}' | '\u{3000}' | '\u{FEFF}' => (
@@ -329,7 +328,7 @@ fn bad_token(place: Place<'_>) -> Result<Remark, AllocError> {
         ),
         _ => (
             "the character ",
-            " can't stand in a word; words have characters from x21 to x7E",
+            " isn't allowed in a word; words have characters from x21 to x7E",
         ),
     };
     let end = start.saturating_add(character.len_utf8());

@@ -35,7 +35,7 @@ field_text f = codes "a number"
 
 -- the text of a warning about a word
 abbrev pub warning_text : Kind → List ℕ → List ℕ
-warning_text (kind.Wraps f value) word = word ++ codes " is taken as " ++ number_text value ++ codes "; here stands " ++ field_text f
+warning_text (kind.Wraps f value) word = word ++ codes " is taken as " ++ number_text value ++ codes "; expected " ++ field_text f
 warning_text kind.UnknownTrap word = codes "this trap ends the process as badtrap; the traps are x20 to x25, x40 to x46 and x50 to x56"
 warning_text (kind.DecimalOrigin n) word =
     word ++ codes " is decimal, the address " ++ hexadecimal_text n ++ codes "; did you mean x" ++ decimal n ++ codes "?"
@@ -44,14 +44,14 @@ warning_text (kind.CallName n) word = word ++ codes " is read as a label; the ca
 warning_text kind.UnusedLabel word = codes "no line names the label " ++ word
 warning_text kind.StartsInData word = codes "execution begins here, and this is data"
 warning_text (kind.RunsIntoData n) word = codes "execution goes on into the data of line " ++ decimal n ++ codes "; is a HALT missing?"
-warning_text kind.RunsPastEnd word = codes "execution goes on behind this last word; is a HALT missing?"
+warning_text kind.RunsPastEnd word = codes "execution goes on after this last word; is a HALT missing?"
 warning_text kind.FallsInto word = codes "execution goes on from above into the subroutine " ++ word ++ codes "; is a RET or a HALT missing?"
 warning_text (kind.LostReturn n) word =
-    word ++ codes " in line " ++ decimal n ++ codes " has written R7, so this goes back behind it; store R7 before it and load it again"
+    word ++ codes " in line " ++ decimal n ++ codes " has written R7, so this goes back to just after it; store R7 before it and load it again"
 warning_text (kind.StaleCodes n) word =
     word ++ codes " in line " ++ decimal n
     ++ codes " sets no condition codes, so this reads those from before it; ADD R0,R0,#0 between them sets them by R0"
 warning_text (kind.LoadedString n) word =
     word ++ codes " loads a word into R0, and line " ++ decimal n
     ++ codes " prints the string at the address in R0; LEA loads the address of a string"
-warning_text (kind.AfterEnd n) word = codes "nothing behind the .END of line " ++ decimal n ++ codes " is read"
+warning_text (kind.AfterEnd n) word = codes "nothing after the .END of line " ++ decimal n ++ codes " is read"

@@ -57,7 +57,7 @@ impl fmt::Display for WarningText<'_> {
         match self.0 {
             Kind::Wraps { form, value } => {
                 let field = field_text(form);
-                write!(f, "{word} is taken as #{value}; here stands {field}")
+                write!(f, "{word} is taken as #{value}; expected {field}")
             }
             Kind::UnknownTrap => write!(
                 f,
@@ -81,7 +81,7 @@ impl fmt::Display for WarningText<'_> {
             ),
             Kind::RunsPastEnd => write!(
                 f,
-                "execution goes on behind this last word; is a HALT missing?"
+                "execution goes on after this last word; is a HALT missing?"
             ),
             Kind::FallsInto => write!(
                 f,
@@ -89,7 +89,7 @@ impl fmt::Display for WarningText<'_> {
             ),
             Kind::LostReturn { writer } => write!(
                 f,
-                "{word} in line {writer} has written R7, so this goes back behind it; store R7 before it and load it again"
+                "{word} in line {writer} has written R7, so this goes back to just after it; store R7 before it and load it again"
             ),
             Kind::StaleCodes { trap } => write!(
                 f,
@@ -99,7 +99,7 @@ impl fmt::Display for WarningText<'_> {
                 f,
                 "{word} loads a word into R0, and line {next} prints the string at the address in R0; LEA loads the address of a string"
             ),
-            Kind::AfterEnd { end } => write!(f, "nothing behind the .END of line {end} is read"),
+            Kind::AfterEnd { end } => write!(f, "nothing after the .END of line {end} is read"),
         }
     }
 }
