@@ -5,13 +5,17 @@ import time
 from pathlib import Path
 
 from browsed import HOSTILE, HOSTILE_NAMES, visible
-from browsed_play import try_play
+from browsed_play import calls_in, try_play
+from browsed_stage import SEEN_STAGE, try_beside, try_decision
 
 ROOT = Path(__file__).resolve().parent.parent
 EXAMPLES = ROOT / "examples"
 SECONDS = 300
-MOST_DRAWN = 2000
+MOST_DRAWN, SOME = 2000, 3
 SIZES = {"wide": (1400, 900), "phone": (360, 640)}
+TWO = ["two-semaphores-1.asm", "two-semaphores-2.asm"]
+BESIDE_TWO = {1: "On the right P0 waits on /b before P1 does. So it doesn't wait for ever for /b.",
+              2: "On the right P1 waits on /b before P0 does. So P0 waits for ever for /b."}
 MEDIA = {"light": ("", "light"), "dark": ("", "dark"), "printed": ("print", "light")}
 
 # One posts four times, the other looks at the value four times and writes what it sees: 70 ends.
@@ -80,6 +84,7 @@ def explored():
     yield "ends/patterns", {}, patterns
     yield "ends/many", {"posts.asm": POSTS, "looks.asm": LOOKS}, ["posts.asm", "looks.asm"]
     yield "ends/endless", {"asks.asm": ASKS}, ["asks.asm", "--worlds", "2"]
+    yield "ends/none", {"asks.asm": ASKS.replace("BRn AGAIN", "BR AGAIN")}, ["asks.asm"]
     hostile = {f"{name}.asm": HOSTILE for name in HOSTILE_NAMES}
     yield "ends/hostile", hostile, list(hostile)
 
@@ -94,7 +99,7 @@ class Ends:
                               timeout=SECONDS)
         if done.returncode or done.stderr:
             raise RuntimeError(f"lc3lab explore: {done.stderr.decode('latin-1').strip()}")
-        self.text = done.stdout.decode("latin-1")
+        self.text, self.program, self.folder = done.stdout.decode("latin-1"), program, folder
         self.programs = [it for it in words if it.endswith(".asm")]
         self.names = [it.split("/")[-1] for it in self.programs]
         parts = re.split(r"^end \d+\n", re.split(r"^(?:endless|complete|incomplete)\b", self.text, flags=re.M)[0],
@@ -111,6 +116,19 @@ class Ends:
         schedule = re.search(r"^schedule(.*)$", part, re.M)[1].split()
         shown = ", ".join(f'P{p} "{visible(text)}"' for p, text in outs) or "no output"
         return re.search(r"^verdict (\w+)$", part, re.M)[1], shown, len(schedule) - 1, " ".join(schedule)
+
+    def lines(self, n):
+        """The lines of the trace of a run."""
+        done = subprocess.run([self.program, "trace", *self.programs], cwd=self.folder, input=self.ends[n][3].encode(),
+                              capture_output=True, timeout=SECONDS)
+        return [it for it in done.stdout.decode("latin-1").splitlines() if re.match(r" *\d+ P", it)]
+
+    def counts(self, n):
+        """How many calls and ends a run has in the lines of its trace, and how many tries of calls that wait."""
+        found = self.lines(n)
+        waits = sum(re.search(r"\) waits( ;|$)", it) is not None for it in found)
+        calls = sum(re.search(r"\) = |\+\d+ ends ", it) is not None for it in found)
+        return number(calls, "call", "calls") + (f", {number(waits, 'wait', 'waits')}" if waits else "")
 
 
 SEEN_ENDS = """({
@@ -139,10 +157,16 @@ def compare_list(ends, found):
     for (_, output, switches, _), item in zip(shown, found["items"]):
         if f", {number(switches, 'switch', 'switches')} " not in item or not item.endswith(" ".join(output.split())):
             yield f"an end of {switches} switches with {output!r} is told as {item!r}"
+    for n in range(min(len(shown), SOME)):
+        counts = f"End {n + 1}: {shown[n][0]} {ends.counts(n)}, "
+        if not found["items"][n].startswith(counts):
+            yield f"end {n + 1} is told as {found['items'][n]!r}, and its trace has {counts}"
     rest, last = len(ends.ends) - len(shown), ends.text.splitlines()[-1].split()
     if (f"{rest:,} more end" in found["rest"]) != (rest > 0) or (rest and len(shown) != 64):
         yield f"of {len(ends.ends)} ends it shows {len(shown)} and says {found['rest']!r}"
-    if not found["extent"].startswith(f"{last[0]}: {number(int(last[1]), 'world', 'worlds')} visited"):
+    other = ", and there is no other end." if ends.ends else ", and there is no end."
+    if not found["extent"].startswith(f"{last[0]}: {number(int(last[1]), 'world', 'worlds')} visited") or \
+            found["extent"].endswith(other) != (last[0] == "complete"):
         yield f"it says {found['extent']!r}"
     for line in re.findall(r"^endless\n(schedule .*)\n(round .*)$", ends.text, re.M) or [()]:
         if bool(line) != bool(found["round"]) or not all(it in found["round"].splitlines() for it in line):
@@ -157,7 +181,7 @@ def reloaded(browser):
     browser.evaluate("new Promise(d => document.readyState === 'complete' ? d() : addEventListener('load', () => d()))")
 
 
-def try_ways(browser, ends, count):
+def try_ways(browser, ends, count, told):
     """Tab goes through the list, and Enter opens the run of an end; the first button there leads back to that end."""
     reached = []
     for _ in range(count):
@@ -180,6 +204,9 @@ def try_ways(browser, ends, count):
             yield f"the run of end {n} has {found['verdict']!r}"
         if browser.evaluate("location.hash.split('&')[0]") != f"#end={n}":
             yield f"the address of end {n} is {browser.evaluate('location.hash')}"
+        found = browser.evaluate(SEEN_STAGE)
+        if not told and (found["buttons"] or "isn't known. There is no picture of the worlds: " not in found["when"]):
+            yield f"without a picture it says {found['when']!r}"
         browser.press("Tab")
         if browser.evaluate("document.activeElement.id") != "back":
             yield "the way back isn't the first that Tab reaches"
@@ -257,6 +284,42 @@ def try_worlds(browser, ends, count):
         yield f"Enter on the world of end 1 leads to {browser.evaluate('location.hash')}"
 
 
+def try_names(browser):
+    """A screen reader meets the worlds and not the arrows, below the one main part; the kinds of worlds are those of the picture."""
+    found = browser.evaluate("""({
+      arrows: [...document.querySelectorAll('#map .call')].filter(e => !e.closest('[aria-hidden="true"]')).length,
+      mains: [...document.querySelectorAll('main, [role=main]')].filter(e => e.checkVisibility()).map(e => e.id),
+      kinds: [...document.querySelectorAll('#worldkinds .world')].map(e => e.classList[1] || ''),
+      worlds: [...document.querySelectorAll('#map .world')].map(e => e.classList[1]),
+    })""")
+    if found["arrows"] or found["mains"] != ["ends"] or set(found["kinds"]) != set(found["worlds"]):
+        yield f"a screen reader meets {found['arrows']} arrows and the main parts {found['mains']}, and the kinds are {found['kinds']}"
+
+
+def try_stage(browser, seen, ends, n, page, worlds):
+    """The call from which an end was the only one, beside the worlds in words; and the first two ends beside each other."""
+    browser.show(page, SIZES["wide"])
+    browser.evaluate(f"location.hash = 'end={n + 1}'")
+    reloaded(browser)
+    if n == 0 and len(ends.ends) > 1:
+        for one, other in ((1, 2), (2, 1)):
+            browser.evaluate(f"location.hash = 'end={one}&beside={other}'")
+            reloaded(browser)
+            browser.evaluate(seen)
+            yield from try_beside(browser, ends.lines(one - 1), ends.lines(other - 1))
+            yield from browser.evaluate("[...seen.spoilt(), ...seen.faint(), ...seen.foreign()]")
+            told = browser.evaluate("difference.textContent")
+            if [it.split("/")[-1] for it in ends.programs] == TWO and told != BESIDE_TWO[one]:
+                yield f"end {other} beside end {one} is told as {told!r}"
+        browser.evaluate("other.value = ''; other.dispatchEvent(new Event('change'))")
+        reloaded(browser)
+        if browser.evaluate("document.querySelector('main').checkVisibility()") is not True:
+            yield "the stage isn't there after the ends beside each other"
+        browser.evaluate("location.hash = 'end=1'")
+        reloaded(browser)
+    yield from try_decision(browser, worlds, calls_in(worlds), ends.lines(n), ends.ends[n][0], reloaded)
+
+
 def try_looks(browser, page):
     """In two sizes of the window nothing is cut, texts have contrast, and paper has the whole list."""
     for name, size in SIZES.items():
@@ -283,15 +346,18 @@ def try_ends(browser, seen, program, folder, given, page):
     if browser.faults or not found["isList"] or found["shown"]:
         return [f"the page's script: {it}" for it in browser.faults] or [f"the list isn't shown, but {found['shown']}"]
     worlds = browser.evaluate(SEEN_WORLDS)
-    wrong = [*compare_list(ends, found), *compare_worlds(ends, worlds), *browser.evaluate("seen.foreign()"), *try_looks(browser, page)]
+    wrong = [*compare_list(ends, found), *compare_worlds(ends, worlds), *browser.evaluate("seen.foreign()"), *try_names(browser),
+             *try_looks(browser, page)]
     if name == "ends/hostile" and browser.evaluate("document.title.includes('ran')"):
         wrong.append("a text of the run was run")
     if found["buttons"]:
-        wrong += try_ways(browser, ends, len(found["buttons"]))
+        wrong += try_ways(browser, ends, len(found["buttons"]), worlds["told"])
+    for n in range(min(len(found["buttons"]), SOME) if worlds["told"] else 0):
+        wrong += try_stage(browser, seen, ends, n, page, worlds["told"])
     if found["buttons"] and worlds["nodes"]:
         browser.show(page, SIZES["wide"])
         browser.evaluate(seen)
-        wrong += try_play(browser, program, folder, ends.programs, worlds["told"])
+        wrong += try_play(browser, program, folder, ends.programs, worlds["told"], lambda: (reloaded(browser), browser.evaluate(seen)))
         browser.show(page, SIZES["wide"])
         browser.evaluate(seen)
         wrong += try_worlds(browser, ends, len(found["buttons"]))

@@ -3,6 +3,7 @@ import re
 import subprocess
 
 from browsed import visible
+from browsed_stage import ends_in, reached
 
 SECONDS = 300
 SIZES = {"wide": (1400, 900), "phone": (360, 640)}
@@ -10,7 +11,9 @@ SEEN_PLAY = """(() => {
   const list = selector => [...document.querySelectorAll(selector)].map(e => e.textContent);
   return {
     says: document.getElementById('gamesay').textContent, plan: document.getElementById('gameplan').textContent,
-    world: list('#gameworld > li'), lines: list('#gamelines > li'), turns: list('#turns button > span'),
+    world: [...list('#turns .stand'), ...list('#gameworld > li')], command: list('#command')[0],
+    has: [...document.querySelectorAll('#turns .turn')].map(e => [...e.querySelectorAll('.chip')].map(c => c.textContent)),
+    lines: list('#gamelines > li'), turns: list('#turns button > span'),
     open: [...document.querySelectorAll('#turns button')].map(e => e.getAttribute('aria-disabled') === 'false'),
     chosen: [...document.querySelectorAll('#map .world.chosen')].map(e => Number(e.id.slice(5))),
     lit: document.querySelectorAll('#map .call.way').length, plans: document.querySelectorAll('#map .call.plan').length,
@@ -48,8 +51,8 @@ def way_to(calls, goals):
 class Game:
     """A page that is played, and the programs that it is of."""
 
-    def __init__(self, browser, program, folder, programs, told):
-        self.browser, self.program, self.folder, self.programs = browser, program, folder, programs
+    def __init__(self, browser, program, folder, programs, told, reload):
+        self.browser, self.program, self.folder, self.programs, self.reload = browser, program, folder, programs, reload
         self.told, self.calls = told, calls_in(told)
 
     def printed(self, command, text):
@@ -80,7 +83,7 @@ class Game:
             state, pc, *how = stands[p].split(" ")
             wanted = "waiting" if state == "waiting" and seen[2] == "waits" else STATES[seen[2]]
             text = f'"{visible(outs[p])}"' if outs[p] else "none"
-            ended = state != "ended" or seen[4].split(",")[0] == " ".join(how)
+            ended = state != "ended" or seen[4] == " ".join(how).split(",")[0]
             if (wanted, seen[3], seen[5]) != (state, pc, text) or not ended:
                 yield f"by {found['plan']} P{p} is told as {found['world'][int(p)]!r}, and step prints {stands[p]!r}, {outs[p]!r}"
 
@@ -131,22 +134,119 @@ class Game:
         self.browser.click("document.getElementById('again')")
         yield from self.compare(1, 0)
 
+    def keep(self, way):
+        """The picture stays at the game's world, whatever is pointed at; an arrow's world takes the game there; its address keeps it."""
+        world = 1
+        for process in way[:-1]:
+            world = self.calls[world][process]
+        last, count = self.calls[world][way[-1]], len(way)
+        self.browser.evaluate("document.getElementById('end1').focus(); document.getElementById('end1').dispatchEvent("
+                              "new Event('mouseover', { bubbles: true })); document.querySelector('#map .world').focus()")
+        yield from self.compare(last, count)
+        self.browser.click("document.getElementById('undo')")
+        self.browser.click(f"document.querySelector('#world{last} .shape')")
+        yield from self.compare(last, count)
+        wanted = "#play=" + ("." if len(self.programs) > 10 else "").join(map(str, way))
+        for leave in ("location.reload()", "document.getElementById('end1').click()"):
+            if self.browser.evaluate("location.hash") != wanted:
+                yield f"the address of the game is {self.browser.evaluate('location.hash')}, not {wanted}"
+            self.browser.evaluate(leave)
+            self.reload()
+            if "reload" not in leave:
+                self.browser.evaluate("history.back()")
+                self.reload()
+            yield from self.compare(last, count)
+        self.browser.evaluate(f"location.hash = '{wanted}{'.' if len(self.programs) > 10 else ''}9'")
+        self.browser.evaluate("new Promise(d => setTimeout(d, 100))")
+        yield from self.compare(last, count)
+
+    def take(self, way):
+        """A schedule that is given is played, and what it says of an arrow that isn't there is told."""
+        world = 1
+        for process in way:
+            world = self.calls[world][process]
+        plan = self.seen()["plan"]
+        for given, says in (plan, ""), (f"{plan} 0*9999", ""), ("0", "World 1,"):
+            self.browser.evaluate("again.click()")
+            self.browser.evaluate(f"document.getElementById('given').value = {given!r}; take.click()")
+            if says and not self.seen()["says"].startswith(says):
+                yield f"after {given!r} the game says {self.seen()['says']!r}"
+            yield from [] if says or "9999" in given else self.compare(world, len(way))
+        self.browser.evaluate(f"document.getElementById('given').value = {plan!r}; take.click()")
+        if f"'{plan}' | lc3lab trace --page " not in self.seen()["command"]:
+            yield f"the command is {self.seen()['command']!r}"
+
+    def ask(self, way):
+        """Before a call after which all can still end or not, as with another call, it is asked; the answer is that of the worlds."""
+        can_end = lambda n: any(": ended. P0" in self.told[it - 1] for it in reached(self.calls, n)[0])  # noqa: E731
+        self.browser.evaluate("again.click(); asks.checked = true")
+        world, right = 1, 0
+        for process in way:
+            wanted = len({can_end(n) for n in self.calls[world].values()}) > 1
+            self.browser.evaluate(f"document.querySelector('#turns button[data-p=\"{process}\"]').click()")
+            found = self.browser.evaluate("question.hidden ? '' : ask.textContent")
+            if found != (f"If P{process} goes now, can all still end?" if wanted else ""):
+                yield f"before a call of P{process} in world {world} it asks {found!r}"
+            world = self.calls[world][process]
+            if wanted:
+                right += 1
+                self.browser.evaluate("yes.click()" if can_end(world) else "no.click()")
+                told = "all can still end" if can_end(world) else "not all can end any more"
+                if f"Right: {told}. {right} of {right} right." not in self.seen()["says"]:
+                    yield f"a right answer is told as {self.seen()['says']!r}"
+        self.browser.evaluate("asks.checked = false")
+        yield from self.compare(world, len(way))
+
+    def compare_has(self):
+        """Who has what others wait for in the last lines of the trace."""
+        found = self.seen()
+        taken = re.compile(r"^end .* in sem_wait\(\d+<(/[^ ]*)>\): value 0, taken by (P\d+(?: P\d+)*), ", re.M)
+        for name, takers in taken.findall(self.printed("trace", found["plan"])):
+            wanted = [f"P{p}" for p, chips in enumerate(found["has"]) if name in chips]
+            if wanted != takers.split():
+                yield f"{name} is taken by {takers}, and the cards show {wanted}"
+
+    def compare_kinds(self):
+        """What can come from each world, beside a plain enumeration, where all ends have numbers."""
+        if any(", an end: " in it for it in self.told):
+            return
+        ends, left = ends_in(self.told), {}
+        for n in range(1, len(self.told) + 1):
+            worlds, is_round = reached(self.calls, n)
+            left[n] = {ends[it] for it in worlds if it in ends} | ({("", "round")} if is_round else set())
+        is_good = lambda it: it[1] == "ended"  # noqa: E731
+        is_mixed = any(map(is_good, left[1])) and not all(map(is_good, left[1]))
+        wanted = []
+        for n in sorted(left):
+            alike = all(map(is_good, left[n])) if is_mixed else len(left[n]) == 1
+            never = is_mixed and not any(map(is_good, left[n]))
+            wanted.append(ends[n][1] if n in ends else "free" if alike else "doom" if never else "both")
+        found = self.browser.evaluate("[...document.querySelectorAll('#map .world')]"
+                                      ".sort((a, b) => a.dataset.n - b.dataset.n).map(e => e.classList[1])")
+        if found != wanted:
+            n = next(k for k, (a, b) in enumerate(zip(found, wanted), 1) if a != b)
+            yield f"world {n} is drawn as {found[n - 1]}, and by its calls it is {wanted[n - 1]}"
+
     def go_on(self, goal):
         """The way to a chosen end lights up, and is gone."""
-        way = way_to(self.calls, {goal})
-        self.browser.evaluate(f"goal.value = '{goal - 1}'; goal.dispatchEvent(new Event('change'))")
+        end = re.search(r", end (\d+): ", self.told[goal - 1])[1]
+        way = way_to(self.calls, {n for n, it in enumerate(self.told, 1) if f", end {end}: " in it})
+        self.browser.evaluate(f"goal.value = '{int(end) - 1}'; goal.dispatchEvent(new Event('change'))")
         found = self.seen()
+        world = 1
         if found["plans"] != len(way):
             yield f"{found['plans']} calls light up on the way to world {goal}, not {len(way)}"
         self.browser.click("document.getElementById('goon')")
-        yield from self.compare(goal, len(way))
+        for process in way:
+            world = self.calls[world][process]
+        yield from self.compare(world, len(way))
         if self.seen()["lit"] != len(way):
             yield f"{self.seen()['lit']} calls stand out behind world {goal}, not {len(way)}"
 
 
-def try_play(browser, program, folder, programs, told):
+def try_play(browser, program, folder, programs, told, reload):
     """Plays to a stuck world, or to an end where none is stuck, by keys and by the pointer, in two sizes of the window."""
-    game = Game(browser, program, folder, programs, told)
+    game = Game(browser, program, folder, programs, told, reload)
     ends = {n for n, it in enumerate(told, 1) if re.search(r": (stuck|ended)\. P0", it)}
     stuck = {n for n in ends if re.search(r": stuck\. P0", told[n - 1])}
     way = way_to(game.calls, stuck or ends)
@@ -158,8 +258,10 @@ def try_play(browser, program, folder, programs, told):
         says = game.seen()["says"]
         if stuck and f"Stuck after {len(way)} call" not in says or stuck and f"; the fewest are {len(way)}." not in says:
             yield f"{name}: stuck after {len(way)} calls, of which is told {says!r}"
+        yield from (f"{name}: {it}" for it in [*game.compare_has(), *game.compare_kinds(), *game.ask(way), *game.take(way)])
+        yield from (f"{name}, kept: {it}" for it in game.keep(way))
         yield from (f"{name}: {it}" for it in game.turn_back(way))
-        yield from (f"{name}: {it}" for it in game.go_on(max(ends)))
+        yield from (f"{name}: {it}" for it in game.go_on(max(n for n in ends if ", end " in told[n - 1])))
         yield from (f"{name}, played: {it}" for it in browser.evaluate("seen.spoilt()") + browser.evaluate("seen.faint()"))
         yield from browser.evaluate("seen.foreign()")
     browser.resize(SIZES["wide"])

@@ -118,18 +118,18 @@ const seen = (() => {
     return bad;
   }
   function cutElements() {
-    const scrolls = e => /auto|scroll/.test(getComputedStyle(e).overflowX), isWhole = e => e.id === 'schedule';
-    const html = list(document, 'body *').filter(e => e instanceof HTMLElement && e.clientWidth && !isWhole(e));
+    const scrolls = e => /auto|scroll/.test(getComputedStyle(e).overflowX);
+    const html = list(document, 'body *').filter(e => e instanceof HTMLElement && e.clientWidth);
     const bad = html.filter(e => e.scrollWidth > e.clientWidth + 1 && !scrolls(e)).map(e => 'cut: ' + nameOf(e));
     const { left } = document.getElementById('left').getBoundingClientRect();
-    for (const e of list(document, '#ending, #atend')) {
+    for (const e of list(document, '#atend')) {
       if (e.getBoundingClientRect().left < left) bad.push('scrolled away: ' + nameOf(e));
     }
-    for (const g of list(document, '#pic g.ev')) {
+    for (const g of list(document, '#pic g.ev, #show g.ev')) {
       const [r, t] = [g.querySelector('rect'), g.querySelector('text')].map(e => e.getBBox());
       if (t.width > r.width + 1) bad.push('a text is wider than its box: ' + nameOf(g));
     }
-    for (const svg of list(document, '#head, #pic')) {
+    for (const svg of list(document, '#head, #pic, #show')) {
       for (const t of list(svg, 'text')) {
         const b = t.getBBox();
         if (b.x < -1 || b.x + b.width > Number(svg.getAttribute('width')) + 1) bad.push('beyond the picture: ' + nameOf(t));
@@ -141,7 +141,10 @@ const seen = (() => {
     const isStill = document.getElementById('left').scrollLeft === 0, texts = list(document, '#pic text');
     return [
       ...(document.documentElement.scrollWidth > innerWidth ? ['the page is wider than the window'] : []),
-      ...overlaps('controls', list(document, '.controls > :not(.of), .of > *'), 1),
+      ...overlaps('controls', list(document, 'header > *, .controls > *'), 1),
+      ...overlaps('chips', list(document, '#show g.ev > rect'), 1),
+      ...overlaps('words of the stage', list(document, '#show text, #pairs text'), 2),
+      ...overlaps('who waits for whom', list(document, '#relations circle, #relations rect'), 1),
       ...overlaps('parts', scrollY === 0 ? list(document, 'header, main, .bottom') : [], 1),
       ...overlaps('panel', list(document, '#objects, details.card'), document.getElementById('procs').scrollTop ? 1e9 : 1),
       ...overlaps('registers', list(document, '.regs > span'), 1),
@@ -206,8 +209,8 @@ const seen = (() => {
     return (high + .05) / (low + .05);
   }
   function behind(e) {                            // the colour on which an element stands
-    const box = e instanceof SVGElement && e.closest('.ev, .sem, .mq, .obj, .out, .bad, .end');
-    if (box) return parts(getComputedStyle(box.querySelector('rect')).fill).slice(0, 3);
+    const box = e instanceof SVGElement && e.closest('.ev, .sem, .mq, .obj, .out, .bad, .end, .band, .node, .row');
+    if (box) return parts(getComputedStyle(box.querySelector('rect, circle')).fill).slice(0, 3);
     for (let at = e; at; at = at.parentElement) {
       const { backgroundColor } = getComputedStyle(at);
       if (!isClear(backgroundColor)) return parts(backgroundColor).slice(0, 3);

@@ -1,6 +1,6 @@
 // ---- where things stand
 
-let lay = null;
+let lay = null, isTold = false;                   // on a phone the calls stand beside the lanes after a tap on a head
 const CHAR = 6.65;                                // the width of a character of the picture
 const limited = (least, value, most) => Math.max(least, Math.min(value, most));
 
@@ -14,7 +14,7 @@ function layout() {
   const most = seen > 640 ? 14 : 9, columnText = c => Math.max(c.name.length, ...c.at.map(levelLength));
   const colW = cols.map(c => Math.max(50, Math.min(c.kind === 'queue' ? columnText(c) + 2 : c.name.length, most) * CHAR + 10));
   const colsW = colW.reduce((a, b) => a + b, 0) + 12, isNarrow = N > 4 && (room - num - colsW) / N < 74;
-  const text = isNarrow ? 236 : 0, lane = laneWidth(room - num - text - colsW), x0 = num + text, colX = [];
+  const text = isNarrow && (seen > 480 || isTold) ? 236 : 0, lane = laneWidth(room - num - text - colsW), x0 = num + text, colX = [];
   let x = x0 + lane * N + 12, spare = room - x - colsW + 12;
   cols.forEach((c, i) => {                        // what is left over shows more of the queues
     const more = c.kind === 'queue' ? limited(0, spare, 220) : 0;

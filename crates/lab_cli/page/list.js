@@ -1,8 +1,13 @@
 // ---- the list of ends
 
 const several = (n, one, more) => `${n.toLocaleString('en')} ${n === 1 ? one : more}`;
-function endItem([calls, { schedule, outcome: [verdict, , , outputs] }], k) {
-  const counts = several(calls, 'call', 'calls') + ', ' + several(schedule.length - 1, 'switch', 'switches');
+const isTry = ([, , , event]) => event && event[3][0] === 'call' && event[3][5] === null;  // the first one of a call that waits
+function countsText(calls, moments) {             // the calls, as the picture counts them, and the tries apart
+  const waits = moments.filter(isTry).length;
+  return several(calls - waits, 'call', 'calls') + (waits ? ', ' + several(waits, 'wait', 'waits') : '');
+}
+function endItem([calls, { schedule, moments, outcome: [verdict, , , outputs] }], k) {
+  const counts = countsText(calls, moments) + ', ' + several(schedule.length - 1, 'switch', 'switches');
   const texts = outputs.map((bytes, p) => bytes.length > 0 ? `P${p} "${shown(bytes)}"` : '');
   const written = texts.filter(text => text).join(', ') || 'no output';
   return `<li><button type="button" id="end${k + 1}" class="${verdict}" data-to="end=${k + 1}">End ${k + 1}: ${verdict}</button> ` +
@@ -17,22 +22,24 @@ function reasonText([, worlds, , mostWorlds, mostSteps, mostMemory, isRefused, i
 }
 function extentText(extent) {
   const [complete, worlds] = extent, visited = several(worlds, 'world', 'worlds');
-  if (complete) return `complete: ${visited} visited, and there is no other end`;
+  if (complete) return `complete: ${visited} visited, and there is no ${DATA.ends.length ? 'other ' : ''}end`;
   return `incomplete: ${visited} visited, ${reasonText(extent)}. There may be other ends`;
 }
 function restText(count) {
   return `${several(count, 'more end isn\'t', 'more ends aren\'t')} shown: a page has ${MOST_ENDS} runs at most, with ` +
     `${MOST_END_BYTES.toLocaleString('en')} bytes of data. lc3lab explore prints them all`;
 }
-function noWorldsText([isComplete]) {             // why there is no picture
-  const many = 'there are more than 2,000, if each order of calls is counted, or too much stands in them';
+function noWorldsText([isComplete, , , most]) {   // why there is no picture
+  const limit = Math.min(most, 2000).toLocaleString('en');
+  const many = `there are more than ${limit}, if each order of calls is counted, or too much stands in them`;
   return `There is no picture of the worlds: ${isComplete ? many : 'not all of them are known'}.`;
 }
 // ---- what was asked
 
 function otherText() {                            // what a run beside those to ends shows
-  const shows = ([, , runs]) => runs.some(([kind, k]) => kind === 'run' && k === NUMBER - 1), asked = DATA.asked.find(shows);
-  return (asked ? `${visible(asked[0])} not met, ` : '') + (ROUND_AT === null ? `run ${NUMBER}` : 'a run that never ends');
+  const shows = ([, , runs]) => runs.some(([kind, k]) => kind === 'run' && k === NUMBER - 1);
+  const asked = DATA.asked.filter(shows).map(([text]) => visible(text)).join(', ');
+  return (asked && `${asked} not met, `) + (ROUND_AT === null ? `run ${NUMBER}` : 'a run that never ends');
 }
 function wayTo([kind, k]) {
   const isRound = kind === 'run' && DATA.endless && DATA.endless[2] === k;
@@ -53,7 +60,7 @@ function fillAsked() {
   $('askedtitle').textContent = `What was asked: ${worst ? `${countOf(worst)} of ${asked.length} ${worst}` : 'all met'}`;
   $('askedlist').innerHTML = asked.map(askedItem).join('');
   $('openround').innerHTML = endless && endless[2] !== null ? wayTo(['run', endless[2]]) : '';
-  on('ends', 'click', event => { const way = event.target.closest('[data-to]'); if (way) location.hash = way.dataset.to; });
+  on('ends', 'click', event => { const way = event.target.closest('[data-to]'); if (way) location.hash = withGame(way.dataset.to); });
 }
 function fillEnds() {
   const { ends, endless, extent } = DATA, [, , count] = extent, rest = count - ends.length;
@@ -71,10 +78,11 @@ function fillEnds() {
 function showEnds() {                             // the list, or the way back to it
   history.scrollRestoration = 'manual';
   $('back').hidden = isList; $('ends').hidden = !isList;
-  on('back', 'click', () => { location.hash = 'list=' + SHOWN; });
+  fillBeside();
+  on('back', 'click', () => { location.hash = withGame('list=' + SHOWN); });
   if (!isList) return;
   document.body.classList.add('list');
   fillEnds();
   const ways = [...document.querySelectorAll('[data-to]')];
-  ways.findLast(way => location.hash === '#list=' + way.dataset.to)?.focus();
+  ways.findLast(way => location.hash.split('&play=')[0] === '#list=' + way.dataset.to)?.focus();
 }

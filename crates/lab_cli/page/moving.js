@@ -9,7 +9,7 @@ function markNow() {                              // its line, and its box
   const y = cur === R.length ? height : posY[cur];
   $('now').setAttribute('transform', `translate(0,${y})`);
   $('now').firstChild.setAttribute('height', cur === R.length ? 0 : full());
-  markCurrent('pic', document.querySelector(`g.ev[data-k="${cur - 1}"]`));
+  markCurrent('pic', document.querySelector(`#pic g.ev[data-k="${cur - 1}"]`));
   return y;
 }
 function mark() {                                 // it comes into view
@@ -25,23 +25,26 @@ function mark() {                                 // it comes into view
 // ---- going to a moment
 
 function say(e, step) {
-  const what = e ? `${e.step} P${e.process} ${hex(e.from)} ${isEvent(e) ? e.what : didText(e)}` : 'nothing has been done yet';
+  const did = e && `${e.step} P${e.process} ${hex(e.from)} ${isEvent(e) ? e.what : didText(e)}`;
+  const what = e ? did + (step > e.step ? ', then steps without effect' : '') : 'nothing has been done yet';
   $('say').textContent = what;
   $('count').textContent = `step ${step} of ${STEPS}` + roundText();
+  $('calls').textContent = `call ${COUNTED.filter(it => it.k < cur).length} of ${COUNTED.length},`;
   $('slider').value = cur;
   $('slider').setAttribute('aria-valuetext', `step ${step} of ${STEPS}, ${what}`);
 }
-const addressOf = step => (SHOWN ? `#${SHOWN}&step=` : '#step=') + step;
+function keepAddress(text) {
+  try { history.replaceState(null, '', text); } catch { /* no history there */ }
+}
 function go(k, isAddressed) {
   cur = limited(0, k, R.length);
   if (cur < ROUND_AT) rounds = 1;
   const e = cur ? R[cur - 1] : null, step = cur === R.length && D.whole ? STEPS : e ? e.step : 0;
-  say(e, step);
-  panel(e);
-  mark();
+  say(e, step); showObjects(e);
+  if (!isList && !BESIDE) { markStage(); showRing(); showHere(e); }
+  if ($('details').open && lay) { panel(e); mark(); }
   markCurrent('lines', $('lines').children[lastIndex(EVENTS, it => it.k < cur)]);
-  if (isAddressed || isList) return;
-  try { history.replaceState(null, '', addressOf(step)); } catch { /* no history there */ }
+  if (!isAddressed && !isList && !BESIDE) keepAddress(withGame((SHOWN && SHOWN + '&') + 'step=' + step));
 }
 function goToEvent(direction, p) {                // to the next event, of process p where one is named
   const isWanted = e => isEvent(e) && (p === undefined || e.process === p);
@@ -62,8 +65,8 @@ function play(isOn) {
   timer = setTimeout(tick, 300);
 }
 function goToAddress() {                          // #step=12, or #end=2&step=12 or #run=1&step=12 where there are ends
-  const found = /^#(?:(?:end|run)=\d+&)?step=(\d+)$/.exec(location.hash);
-  const after = found ? R.findIndex(e => e.step > Number(found[1])) : 0;
+  const found = /^#(?:(?:end|run)=\d+&)?step=(\d+)(?:&|$)/.exec(location.hash);
+  const after = found ? R.findIndex(e => e.step > Number(found[1])) : VERDICT === 'stuck' ? -1 : 0;  // else what went wrong
   go(after < 0 ? R.length : after, found !== null);
 }
 const chosen = () => Number($('who').value);
@@ -99,23 +102,37 @@ function onPart(id, kind, name, act) {            // on a part within, by its nu
 for (const { id, dataset } of document.querySelectorAll('[data-key]')) on(id, 'click', () => pressed(dataset.key));
 on('play', 'click', playOrPause);
 on('who', 'change', () => choose(chosen()));
-onPart('head', 'click', 'p', choose);
+onPart('head', 'click', 'p', p => { choose(p); isTold = !isTold; draw(); });
 on('slider', 'input', event => { play(false); go(Number(event.target.value)); });
 onPart('pic', 'click', 'k', k => { play(false); go(k + 1); });
+onPart('show', 'click', 'k', k => { play(false); go(k + 1); });
+on('shot', 'scroll', () => { markStage(true); });
+on('lecture', 'click', () => {
+  $('lecture').setAttribute('aria-pressed', document.body.classList.toggle('lecture'));
+  set.width = 0; markStage();
+});
+on('details', 'toggle', () => { if ($('details').open) { draw(); go(cur, true); } });
 on('left', 'scroll', () => { keepGutter(); paintNear(); });
 let resized = null;
-function redraw() { if ($('left').clientWidth === lay.seen) paintNear(); else draw(); }
-new ResizeObserver(() => { clearTimeout(resized); resized = setTimeout(redraw, 120); }).observe($('left'));
+function redraw() {
+  if (!isList && !BESIDE) markStage();
+  if (!$('details').open) return;
+  if (lay && $('left').clientWidth === lay.seen) paintNear(); else draw();
+}
+const sizes = new ResizeObserver(() => { clearTimeout(resized); resized = setTimeout(redraw, 120); });
+for (const id of ['left', 'shot']) sizes.observe($(id));
 window.addEventListener('hashchange', () => {     // to another end the page is opened anew
-  if (shownIn(location.hash).join('=') === SHOWN) goToAddress(); else location.reload();
+  if (shownIn(location.hash).join('=') !== SHOWN || besideIn(location.hash) !== BESIDE) location.reload();
+  else if (isList) readGame(); else goToAddress();
 });
 let closed = [];                                  // what is open on paper alone
 window.addEventListener('beforeprint', () => {
-  closed = [...document.querySelectorAll('.bottom > details:not([open])')];
+  closed = [...document.querySelectorAll('#details:not([open]), .bottom > details:not([open])')];
   for (const details of closed) details.open = true;
+  layout(); drawHead(); panel(cur ? R[cur - 1] : null);
   paint(0, full());
 });
 window.addEventListener('afterprint', () => {
   for (const details of closed.splice(0)) details.open = false;
-  draw();
+  if ($('details').open) draw();
 });

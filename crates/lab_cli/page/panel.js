@@ -27,11 +27,12 @@ function codeLines({ pc, first, code }) {         // the words around the next i
   return code.map(([word, text, call], i) =>
     codeLine(first + i === pc, hex(first + i) + ' ' + hex(word), text, call)).join('');
 }
+const nearComment = text => text.replace(/^((?:[^";]|"(?:[^"\\]|\\.)*")*?)\s{3,};/, '$1  ;');  // at most two blanks before it
 function sourceLines(p, next) {                   // the lines of the source, and which is that of the next instruction
   const { lines } = SOURCES[p.process], most = String(lines.length).length;
   return lines.map(({ text, address, words, call }, i) => {
     const place = String(i + 1).padStart(most) + ' ' + (words ? hex(address) : '     ');
-    return codeLine(i === next.at, place, text, text.includes(';') ? undefined : call);
+    return codeLine(i === next.at, place, nearComment(text), text.includes(';') ? undefined : call);
   }).join('');
 }
 function around(p) {
@@ -47,8 +48,8 @@ function openText([kind, number, place, more, isNonblock]) {
   return `sem ${number} ${name}` + (more > 1 ? ' *' + more : '');
 }
 function card(p, acts) {                          // of a process, and whether it took the step
-  const open = p.open.map(it => `<span class="held">${esc(openText(it))}</span>`).join('') || '-';
-  const output = marked(acts && p.output !== undefined, p.written ? '"' + esc(p.written) + '"' : '-', 'output');
+  const open = p.open.map(it => `<span class="held">${esc(openText(it))}</span>`).join('') || 'none';
+  const output = marked(acts && p.output !== undefined, p.written ? '"' + esc(p.written) + '"' : 'none', 'output');
   return `<div class="regs mono">${registersOf(p, acts)}</div>${variablesText(p, cur ? R[cur - 1].step : 0)}${around(p)}` +
     `<div class="mono part"><i class="none">output</i> ${output}</div>` +
     `<div class="mono part"><i class="none">open</i> <span>${open}</span></div>`;
@@ -89,7 +90,6 @@ function reveal(element) {                        // the card of the process tha
   if (top < view.scrollTop || end > view.scrollTop + view.clientHeight) view.scrollTop = top - 10;
 }
 function panel(e) {                               // e is the record of the last step, where there is one
-  showObjects(e);
   for (const p of PROCESSES.map(p => processAt(p, cur))) showProcess(p, p === e);
   if (e) reveal($('card' + e.process));
 }

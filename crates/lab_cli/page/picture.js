@@ -145,7 +145,7 @@ function paintNear(isNew) {                       // again, where the window has
 function keepGutter() {                           // it and the texts below stay where one scrolls sideways
   const { scrollLeft: left } = $('left');
   for (const g of document.querySelectorAll('.gut')) g.setAttribute('transform', `translate(${left},0)`);
-  for (const id of ['ending', 'atend']) $(id).style.transform = `translateX(${left}px)`;
+  $('atend').style.transform = `translateX(${left}px)`;
 }
 function draw() {
   layout();

@@ -1,6 +1,7 @@
 // ---- the reader as the scheduler, in the picture of all worlds
 
-let played = [], isPuzzle = false;                // the calls that were chosen, by their arrows; whether to get stuck is asked
+let played = [], isPuzzle = false, unread = '';   // the calls that were chosen, by their arrows; whether to get stuck is asked
+let pending = null, score = [0, 0];                  // the call before which a question is open, and how many answers were right
 const isPlaying = () => $('game').open;
 const worldNow = () => played.length ? WORLD_MAP.edges[played[played.length - 1]].to : 0;
 const legsSoFar = () => [...WORLD_MAP.starts, ...played.map(k => WORLD_MAP.edges[k])];
@@ -13,28 +14,49 @@ function lineText({ pc, word }, process) {        // the line of the source that
   return line ? `, line ${line.at + 1}` : '';
 }
 const CHANGES = { sem_wait: 1, sem_trywait: 1, sem_post: -1 };
-function takersNow(object) {                      // the processes that took more units of a semaphore than they gave, and how many
-  const { processes } = WORLD_MAP.nodes[worldNow()], counts = PROCESSES.map(() => 0);
+function unitsNow(object) {                       // how many more units of a semaphore than it gave each process took
+  const counts = PROCESSES.map(() => 0);
   for (const { process, events } of legsSoFar()) {
     const done = events.filter(({ name, result }) => name === nameOf(object) && typeof result === 'number');
     for (const { call } of done) counts[process] += CHANGES[call] || 0;
   }
-  return takers(counts.map((count, p) => [p, count, processes[p].state === 'ended']).filter(([, count]) => count > 0));
+  return counts;
 }
+function takersNow(object) {
+  const { processes } = WORLD_MAP.nodes[worldNow()];
+  return takers(unitsNow(object).map((count, p) => [p, count, processes[p].state === 'ended']).filter(([, count]) => count > 0));
+}
+const isSignal = object => legsSoFar().flatMap(({ events }) => events).find(({ call, name, result }) =>  // made at 0: nobody has it
+  call === 'sem_open' && name === nameOf(object) && result !== null)?.text.endsWith('; value 0');
 function objectText(object) {                     // the level of an object, and what it holds or who has it
   const name = visible(nameOf(object)) + (object.name === null ? ' (unlinked)' : '');
-  if (object.kind === 'sem') return `${name}: value ${object.value}, taken by ${takersNow(object) || 'nobody'}`;
+  if (object.kind === 'sem') return `${name}: value ${object.value}` +
+    (isSignal(object) ? '' : `, taken by ${takersNow(object) || 'nobody'}`);
   const level = `${name}: ${object.messages.length} of ${object.most}`;
   return [level, ...object.messages.map(m => `${message(m)} prio ${m[0]}`)].join(', ');
 }
-function turnText(stand, p, objects) {            // what a process does next, or why it doesn't
-  if (stand.state === 'ended') return `P${p} has ended: ${visible(stand.text)}`;
-  const next = visible(stand.text) + lineText(stand, p), on = objects.find(({ place }) => place === stand.place);
-  return stand.state === 'goes on' ? `P${p}: ${next}` : `P${p} must wait: ${next}` + (on ? `. ${objectText(on)}` : '');
+function thenText(p, { state, text, place }, objects) {  // what its next call would do, or what it waits for
+  const call = WORLD_MAP.edges[arrowOf(worldNow(), p)], on = objects.find(it => it.place === place);
+  if (!call) return state === 'waits' && on ? 'waits for ' + objectText(on) : '';
+  const [{ text: done }, ...more] = call.events;
+  const answer = done.startsWith(text) ? done.slice(text.length).trim() : done;
+  return `would answer ${visible([answer, ...more.map(it => it.text)].join(', then '))}`;
 }
+function codeNow({ pc, word, state }, process) {  // the line of its source, and those beside it
+  const line = state !== 'ended' && sourceAt({ process, first: pc, code: [[word]] }, pc);
+  if (!line) return '';
+  const lines = SOURCES[process].lines.slice(Math.max(0, line.at - 1), line.at + 2);
+  return lines.map(it => codeLine(it === line, String(it.at + 1).padStart(3), nearComment(it.text).trim())).join('');
+}
+function turnText(stand, p) {                     // what a process does next
+  if (stand.state === 'ended') return `P${p} has ended: ${visible(stand.text)}`;
+  return `P${p}${stand.state === 'goes on' ? '' : ' must wait'}: ${visible(stand.text)}`;
+}
+const inShell = name => /^[\w.\/=+-]+$/.test(name) ? name : `'${visible(name).replace(/'/g, `'\\''`)}'`;
 function placeText({ processes, outputs }, p) {   // where a process stands, and what it has written
   const output = outputs[p].length ? `"${shown(outputs[p])}"` : 'none';
-  return `${standingText(processes[p], p)}${lineText(processes[p], p)}; output ${output}`;
+  const line = processes[p].state === 'ended' ? '' : lineText(processes[p], p);
+  return `${standingText(processes[p], p)}${line}; output ${output}`;
 }
 
 // ---- what was played
@@ -68,8 +90,11 @@ function planSoFar() {                            // the steps; at the end those
 // ---- ways to an end
 
 const goalNow = () => $('goal').value === '' ? null : Number($('goal').value);
-const planNow = () => goalNow() === null ? [] : fewestCalls(worldNow(), n => n === goalNow());
-const goalName = (node, n) => (endOfWorld(node) < 0 ? `world ${n + 1}` : `end ${node.end + 1}`) + `: ${node.verdict}`;
+const planNow = () => goalNow() === null ? [] : fewestCalls(worldNow(), n => WORLD_MAP.nodes[n].end === goalNow());
+function goalText([end, { verdict, outputs }]) {
+  const wrote = outputs.map((bytes, p) => bytes.length ? ` P${p} "${cut(shown(bytes), 20)}"` : '').join('');
+  return `<option value="${end}">end ${end + 1}: ${verdict}${esc(wrote)}</option>`;
+}
 function puzzleText() {                           // how many calls it took to get stuck, beside the fewest
   const { nodes } = WORLD_MAP, { verdict } = nodes[worldNow()], fewest = fewestCalls(0, n => nodes[n].verdict === 'stuck');
   if (fewest === null) return isPuzzle ? 'No way gets stuck. ' : '';
@@ -84,11 +109,15 @@ function planText(plan) {
 
 // ---- playing
 
-function showTurns({ processes, objects }) {      // the buttons stay, so that the focus does
+function showTurns(node) {                        // the buttons stay, so that the focus does
+  const { processes, objects } = node, takenBy = p => objects.filter(o => o.kind === 'sem' && !isSignal(o) && unitsNow(o)[p] > 0);
   processes.forEach((stand, p) => {
-    const button = $('turns').children[p];
-    button.lastChild.textContent = turnText(stand, p, objects);
-    button.setAttribute('aria-disabled', stand.state !== 'goes on');
+    const [head, button] = $('turns').children[p].children, mustWait = stand.state !== 'goes on';
+    const has = takenBy(p).map(o => `<span class="chip">${esc(visible(nameOf(o)))}</span>`).join(' ');
+    head.innerHTML = `<p class="stand">${esc(placeText(node, p))}</p>${has && `<p>has ${has}</p>`}` +
+      `<pre class="code">${codeNow(stand, p)}</pre><p class="then">${esc(thenText(p, stand, objects))}</p>`;
+    button.lastChild.textContent = turnText(stand, p);
+    button.setAttribute('aria-disabled', mustWait); button.parentElement.classList.toggle('waits', mustWait);
   });
 }
 function bringWorld(n) {                          // into view in the picture, and the page stays
@@ -98,36 +127,83 @@ function bringWorld(n) {                          // into view in the picture, a
 }
 function showPlay() {
   const n = worldNow(), node = WORLD_MAP.nodes[n], plan = planNow(), lines = linesSoFar(), last = lines[lines.length - 1];
-  const at = `World ${n + 1}, after ${calls(played.length)}. `;
+  const at = `World ${n + 1}, after ${calls(played.length)}. ${unread}${node.verdict ? '' : leftText(n) + ' '}`;
   $('gamesay').textContent = at + puzzleText() + planText(plan) + (last ? `P${last.process}: ${visible(last.text)}` : '');
   showTurns(node);
-  listTexts('gameworld', [...PROCESSES.map(p => placeText(node, p)), ...node.objects.map(objectText)]);
+  listTexts('gameworld', node.objects.map(objectText));
   listTexts('gamelines', lines.map(line => visible(lineSoFar(line))));
   $('gamelines').scrollTop = $('gamelines').scrollHeight;
   $('gameplan').textContent = planSoFar();
+  const files = DATA.processes.map(([name]) => inShell(name)).join(' ');
+  $('command').textContent = `printf '%s\\n' '${planSoFar()}' | lc3lab trace --page my.html ${files}`;
   $('undo').disabled = $('again').disabled = played.length === 0;
   $('goon').disabled = plan === null || plan.length === 0;
   chooseWorld(n, played, plan || []);
   bringWorld(n);
 }
-function press(p) {                               // the process goes on, where it can
-  const k = WORLD_MAP.edges.findIndex(({ from, process }) => from === worldNow() && process === p);
-  if (k >= 0) playFrom([...played, k], isPuzzle);
+const canEnd = k => (LEFT[WORLD_MAP.edges[k].to] & ENDED) !== 0n;  // whether all can still end after a call
+function press(p) {                               // the process goes on, where it can; before a call that matters it is asked, if wanted
+  const k = arrowOf(worldNow(), p), ways = PROCESSES.map(q => arrowOf(worldNow(), q)).filter(way => way >= 0);
+  if (k < 0) return;
+  if (!$('asks').checked || new Set(ways.map(canEnd)).size < 2) playFrom([...played, k], isPuzzle); else askOf(p, k);
 }
-function playFrom(calls, asked) {
-  played = calls; isPuzzle = asked;
+function askOf(p, k) {
+  pending = k;
+  $('ask').textContent = k === null ? '' : `If P${p} goes now, can all still end?`;
+  $('question').hidden = k === null; $('ends').classList.toggle('asking', k !== null);
+}
+function answer(says) {
+  const isRight = says === canEnd(pending), told = canEnd(pending) ? 'all can still end' : 'not all can end any more';
+  score = [score[0] + isRight, score[1] + 1];
+  playFrom([...played, pending], isPuzzle, `${isRight ? 'Right' : 'No'}: ${told}. ${score.join(' of ')} right. `);
+}
+function playFrom(calls, asked, rest = '') {
+  played = calls; isPuzzle = asked; unread = rest; askOf(null, null);
+  gameText = played.map(k => WORLD_MAP.edges[k].process).join(N > 10 ? '.' : '');
+  keepAddress(withGame(''));
   showPlay();
 }
+function takeCalls(processes) {                   // those that follow arrows, up to the first that doesn't
+  const found = followedBy(processes), rest = processes.length - found.length;
+  $('game').open = true;
+  playFrom(found, isPuzzle, rest ? `Only the first ${calls(found.length)} of ${processes.length} can be made. ` : '');
+}
+function readGame() {                             // the game of the address
+  const [, text] = /[#&]play=([\d.]*)/.exec(location.hash) || [];
+  if (text !== undefined && WORLD_MAP) takeCalls((text.split(N > 10 ? '.' : '')).filter(p => p).map(Number));
+}
+function callsOf(schedule) {                      // who makes calls in the steps of a schedule; tries that wait are none
+  const ahead = WORLD_MAP.starts.map(({ steps }) => steps), found = [];
+  let n = 0;
+  for (const [, p, count] of schedule.matchAll(/(\d+)(?:\*(\d+))?/g)) {
+    for (let left = Number(count || 1); left > 0 && p < N;) {
+      const local = Math.min(left, ahead[p]), k = local === left ? -1 : arrowOf(n, Number(p));
+      ahead[p] -= local; left -= local;
+      if (k < 0) break;
+      found.push(Number(p)); n = WORLD_MAP.edges[k].to; ahead[p] = WORLD_MAP.edges[k].steps;
+    }
+  }
+  return found;
+}
 function fillPlay() {
-  $('turns').innerHTML = PROCESSES.map(p =>
-    `<button type="button" data-p="${p}"${p < 10 ? ` aria-keyshortcuts="${p}"` : ''}><kbd>${p}</kbd> <span></span></button>`).join('');
-  const goals = WORLD_MAP.nodes.map((node, n) => node.verdict ? `<option value="${n}">${esc(goalName(node, n))}</option>` : '');
-  $('goal').innerHTML = '<option value="">an end</option>' + goals.join('');
+  $('turns').innerHTML = PROCESSES.map(p => `<section class="turn tone${p % 5}" aria-label="P${p}"><div></div>` +
+    `<button type="button" data-p="${p}"${p < 10 ? ` aria-keyshortcuts="${p}"` : ''}>` +
+    `<kbd aria-hidden="true">${p}</kbd> <span></span></button></section>`).join('');
+  const goals = new Map(WORLD_MAP.nodes.filter(({ verdict }) => verdict).map(node => [node.end, node]));
+  $('goal').innerHTML = '<option value="">an end</option>' + [...goals].sort(([a], [b]) => a - b).map(goalText).join('');
   onPart('turns', 'click', 'p', press);
   on('undo', 'click', () => playFrom(played.slice(0, -1), isPuzzle));
   on('again', 'click', () => playFrom([], isPuzzle));
   on('puzzle', 'click', () => { $('goal').value = ''; playFrom([], true); });
   on('goal', 'change', showPlay);
   on('goon', 'click', () => playFrom([...played, ...planNow()], isPuzzle));
-  on('game', 'toggle', () => { if (isPlaying()) showPlay(); });
+  $('asks').parentElement.hidden = !IS_MIXED;
+  on('yes', 'click', () => answer(true)); on('no', 'click', () => answer(false));
+  on('take', 'click', () => takeCalls(callsOf($('given').value)));
+  on('copy', 'click', () => navigator.clipboard?.writeText($('command').textContent));
+  on('game', 'toggle', () => {
+    $('ends').classList.toggle('played', isPlaying());
+    if (isPlaying()) { showPlay(); $('game').scrollIntoView(); }
+  });
+  readGame();
 }

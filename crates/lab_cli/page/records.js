@@ -5,6 +5,13 @@ function shownIn(address) {                       // the kind and the number of 
   return kind && RUNS[kind][number - 1] ? [kind, Number(number)] : [];
 }
 const [KIND, NUMBER] = shownIn(location.hash), SHOWN = KIND ? `${KIND}=${NUMBER}` : '';
+function besideIn(address) {                      // the end that it names beside the one that is shown
+  const n = Number((/&beside=(\d+)/.exec(address) || [])[1]);
+  return KIND === 'end' && n !== NUMBER && RUNS.end[n - 1] ? n : 0;
+}
+const BESIDE = besideIn(location.hash);
+let gameText = (/[#&]play=([\d.]*)/.exec(location.hash) || [null, null])[1];  // who went on in the game, which every address keeps
+const withGame = address => '#' + [address, gameText === null ? '' : 'play=' + gameText].filter(part => part).join('&');
 const isList = DATA.ends !== undefined && !KIND, N = DATA.processes.length;
 const NO_STEPS = [DATA.processes.map(() => [0, 'Z', [], 0, []])];
 const NO_RUN = { schedule: [], whole: true, moments: NO_STEPS, outcome: ['open', '', '', [], [], [], [], [], [], []] };

@@ -1,6 +1,5 @@
 // ---- title and controls
 
-const OUTCOME = ROUND_AT === null ? VERDICT : 'never ends';
 const programs = () => N === 1 ? NAMES[0] : N + ' processes';
 const printed = blocks => blocks.map(([p, count]) => p + '*' + count).join(' ');
 function fillTitle() {
@@ -9,7 +8,6 @@ function fillTitle() {
   document.title = title + ', ' + OUTCOME;
   $('title').textContent = title;
   $('verdict').textContent = ROUND_AT === null ? 'verdict ' + VERDICT : OUTCOME; $('verdict').className = VERDICT;
-  $('schedule').textContent = cut(printed(D.schedule.slice(0, 100)), 160);
   $('slider').max = R.length;
   $('who').innerHTML = PROCESSES.map(p => `<option value="${p}">P${p}</option>`).join('');
   $('short').hidden = D.whole;
@@ -48,33 +46,21 @@ const LEGEND = [
     'waits for ever: deadlock, and who has taken it or has it open too'],
   [bar('roundbar', 28, 8, 24, 4) + '<path class="roundtip" d="M22,11 L28,2 L34,11 z"/>', 'the round of a run that never ends'],
 ];
-const LEGEND_KEY = 'lc3lab legend';               // it is open until it was closed once
 function fillLegend() {
-  const box = $('legendbox');
   $('legend').innerHTML = LEGEND.map(([inner, text]) =>
     `<li><svg width="58" height="24" aria-hidden="true">${inner}</svg>${text}</li>`).join('');
-  try { box.open = localStorage.getItem(LEGEND_KEY) !== 'closed'; } catch { box.open = true; }
-  box.firstElementChild.addEventListener('click', () => {
-    try { if (box.open) localStorage.setItem(LEGEND_KEY, 'closed'); } catch { /* it is open the next time */ }
-  });
 }
 
 // ---- texts
 
-const VERDICTS = {
-  stuck: 'stuck: no step of any process changes anything',
-  ended: 'ended: all processes have ended',
-  open: 'open: the schedule is over, some process could go on',
-  'never ends': 'never ends: here stands the world before the round again, or one alike',
-};
 function fillTexts() {
-  $('pic').setAttribute('aria-label', `interleaving of ${N} processes, ${STEPS} steps, verdict ${VERDICT}; the same as text below`);
+  const what = `interleaving of ${N} processes, ${STEPS} steps, verdict ${VERDICT}; the same as text below`;
+  for (const id of ['pic', 'show']) $(id).setAttribute('aria-label', what);
   const lines = [...EVENTS.map(e => e.head + e.what + '\n'), ...(STANDS + REPORT).match(/.*\n/g) || []];
   listTexts('lines', lines);
   $('plan').textContent = printed(D.schedule);
-  $('ending').textContent = VERDICTS[OUTCOME]; $('ending').className = VERDICT;
   $('atend').textContent = STANDS + (VERDICT === 'stuck' ? CIRCLES.map(circleText).join('\n') : '');
 }
-fillTitle(); fillCards(); fillLegend(); fillTexts();
-draw(); choose(0); goToAddress();
+fillTitle(); fillCards(); fillLegend(); fillTexts(); fillWhy();
+choose(0); goToAddress();
 if (DATA.ends) showEnds();

@@ -1,20 +1,6 @@
 // ---- the picture of all worlds
 
 const WORLD_X = 36, WORLD_Y = 52, WORLD_R = 10;   // between worlds, and the half of one
-const tellingOf = ([number, pc, text, did]) => ({ number, pc, text, ...didOf(did) });
-const legOf = ([steps, events]) => ({ steps, events: events.map(tellingOf) });
-function mapIn([nodes, edges, legs]) {            // by names what stands in arrays
-  const calls = edges.map(([from, to, process], k) => ({ from, to, process, ...legOf(legs[N + k]) }));
-  const leading = new Set(edges.map(([from, , process]) => `${from} ${process}`));
-  const stateIn = (n, p, hasEnded) => hasEnded ? 'ended' : leading.has(`${n} ${p}`) ? 'goes on' : 'waits';
-  const worlds = nodes.map(([after, stands, verdict, end, outputs, objects], n) => {
-    const processes = stands.map(([pc, word, hasEnded, text, place], p) => ({ pc, word, text, place, state: stateIn(n, p, hasEnded) }));
-    return { after, processes, verdict, end, outputs, objects: objects.map(objectOf) };
-  });
-  return { nodes: worlds, edges: calls, starts: legs.slice(0, N).map((leg, process) => ({ process, ...legOf(leg) })) };
-}
-const WORLD_MAP = isList && DATA.worlds ? mapIn(DATA.worlds) : null;
-
 function inLayers(nodes, edges) {                 // for each number of calls the worlds, near to those that lead there
   const layers = [], place = nodes.map(() => 0), before = nodes.map(() => []);
   for (const { from, to } of edges) if (nodes[from].after < nodes[to].after) before[to].push(from);
@@ -36,7 +22,9 @@ function wayBetween([x, y], [u, v]) {             // down to the next layer; els
 }
 const endOfWorld = ({ end }) => end !== null && end < DATA.ends.length ? end : -1;
 const shapeOf = verdict => verdict === 'stuck' ? '<path class="shape" d="M0,-12 L12,0 L0,12 L-12,0 Z"/>'
-  : verdict ? '<rect class="shape" x="-10" y="-10" width="20" height="20" rx="2"/>' : `<circle class="shape" r="${WORLD_R - 3}"/>`;
+  : verdict === 'ended' ? '<rect class="shape" x="-10" y="-10" width="20" height="20" rx="2"/>'
+    : verdict === 'doom' ? '<path class="shape" d="M0,-8 L8,0 L0,8 L-8,0 Z"/>'
+      : `<circle class="shape" r="7"/>${verdict === 'both' ? '<path class="half" d="M0,-7 a7,7 0 0 0 0,14 z"/>' : ''}`;
 const standingText = ({ pc, state, text }, p) => `P${p} ${state} at ${hex(pc)}, ${visible(text)}`;
 function worldText(node, n) {                     // in words
   const after = `World ${n + 1}, after ${several(node.after, 'call', 'calls')}`, end = endOfWorld(node);
@@ -49,8 +37,8 @@ function callsText(edges, n) {                    // where its calls lead, in wo
 }
 function worldShape(node, n, [x, y]) {
   const end = endOfWorld(node), name = esc(worldText(node, n)), text = end < 0 ? '' : label('', 0, 4, end + 1, 'middle');
-  return `<g class="world ${node.verdict || ''}" id="world${n + 1}" data-n="${n}" tabindex="-1" role="img" aria-label="${name}" ` +
-    `transform="translate(${x},${y})"><title>${name}</title><circle class="ring" r="${WORLD_R + 5}"/>${shapeOf(node.verdict)}${text}</g>`;
+  return `<g class="world ${kindOfWorld(n)}" id="world${n + 1}" data-n="${n}" tabindex="-1" role="img" aria-label="${name}" ` +
+    `transform="translate(${x},${y})"><title>${name}</title><circle class="ring" r="${WORLD_R + 5}"/>${shapeOf(kindOfWorld(n))}${text}</g>`;
 }
 function callShape({ from, to, process }, k, spots) {
   const way = wayBetween(spots[from], spots[to]), isBack = spots[to][1] <= spots[from][1];
@@ -88,7 +76,8 @@ function paintWay(n, way, plan) {                 // the calls that led to a wor
   }
   for (const g of document.querySelectorAll('#map .world')) g.classList.toggle('way', seen.has(Number(g.dataset.n)));
 }
-const inWords = (node, n) => worldText(node, n) + callsText(WORLD_MAP.edges, n);
+const leftText = n => KINDS[kindOfWorld(n)]().replace(/^./, c => c.toUpperCase()) + '.';
+const inWords = (node, n) => worldText(node, n) + (node.verdict ? '' : ' ' + leftText(n)) + callsText(WORLD_MAP.edges, n);
 const tellWorld = n => { $('worldsay').textContent = inWords(WORLD_MAP.nodes[n], n); };
 function chooseWorld(n, way = callsTo(n), plan = []) {  // the one that Tab reaches, and the way to it
   const old = document.querySelector('#map [tabindex="0"]'), now = $('world' + (n + 1));
@@ -101,24 +90,25 @@ function nextWorld(key, n, layers) {              // where a key leads
   const down = edges.find(({ from, to }) => from === n && nodes[to].after > nodes[n].after), up = edges[callsTo(n).pop()];
   return { ArrowLeft: layer[at - 1], ArrowRight: layer[at + 1], Home: 0, ArrowDown: down?.to, ArrowUp: up?.from }[key];
 }
-function openEnd(n) {
-  const end = endOfWorld(WORLD_MAP.nodes[n]);
-  if (end >= 0 && !isPlaying()) location.hash = 'end=' + (end + 1);
+function lookAt(n) { if (!isPlaying()) chooseWorld(n); }  // in a game the picture is that of its world
+function openWorld(n) {                           // in a game it goes on to there, if a call leads there; else an end opens
+  const end = endOfWorld(WORLD_MAP.nodes[n]), call = isPlaying() && WORLD_MAP.edges.find(({ from, to }) => from === worldNow() && to === n);
+  if (call) press(call.process); else if (end >= 0 && !isPlaying()) location.hash = withGame('end=' + (end + 1));
 }
 function followMap(layers) {                      // pointer and keys
   onPart('map', 'mouseover', 'n', tellWorld);
-  onPart('map', 'focusin', 'n', n => { chooseWorld(n); tellWorld(n); });
-  onPart('map', 'click', 'n', n => { chooseWorld(n); tellWorld(n); openEnd(n); });
+  onPart('map', 'focusin', 'n', n => { lookAt(n); tellWorld(n); });
+  onPart('map', 'click', 'n', n => { lookAt(n); tellWorld(n); openWorld(n); });
   onPart('map', 'keydown', 'n', (n, event) => {
     const next = nextWorld(event.key, n, layers);
-    if (event.key === 'Enter') openEnd(n);
+    if (event.key === 'Enter') openWorld(n);
     if (next !== undefined) { $('world' + (next + 1)).focus(); event.preventDefault(); }
   });
 }
 function followEnds() {                           // the way to an end stands out while the list is at it
   const worldAt = k => Math.max(0, WORLD_MAP.nodes.findIndex(node => node.end === k));
   DATA.ends.forEach((_, k) => { $('end' + (k + 1)).dataset.n = worldAt(k); });
-  for (const kind of ['mouseover', 'focusin']) onPart('endlist', kind, 'n', n => chooseWorld(n));
+  for (const kind of ['mouseover', 'focusin']) onPart('endlist', kind, 'n', lookAt);
   chooseWorld(worldAt(0));
 }
 function fillWorlds() {
@@ -132,9 +122,9 @@ function fillWorlds() {
   const ways = edges.map((edge, k) => callShape(edge, k, spots)).join('');
   const worlds = nodes.map((node, n) => worldShape(node, n, spots[n])).join('');
   $('map').innerHTML = `<svg width="${width}" height="${height}" viewBox="0 0 ${width} ${height}"><defs>${tips}</defs>` +
-    `<g>${ways}</g>${worlds}</svg>`;
-  $('worldkinds').innerHTML = kindShape('', 'some process goes on') + kindShape('ended', 'an end: all have ended') +
-    kindShape('stuck', 'an end: stuck');
+    `<g aria-hidden="true">${ways}</g>${worlds}</svg>`;
+  const countOf = kind => nodes.filter((_, n) => kindOfWorld(n) === kind).length, there = Object.keys(KINDS).filter(countOf);
+  $('worldkinds').innerHTML = there.map(kind => kindShape(kind, `${KINDS[kind]()} (${countOf(kind)})`)).join('');
   listTexts('worldlist', nodes.map(inWords));
   $('worldcount').textContent = countText(nodes.length);
   followMap(layers); followEnds(); fillPlay();

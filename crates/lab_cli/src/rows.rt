@@ -30,7 +30,7 @@ Example:
     },
     CommandRow {
         name: "check",
-        about: "Writes all that is wrong with sources, and warnings",
+        about: "Reports everything that is wrong with sources, and warnings",
         example: "\
 Example:
   printf '.ORIG x3000\\nHALT\\n' > halt.asm
@@ -88,7 +88,7 @@ Example:
     },
     CommandRow {
         name: "debug",
-        about: "Runs programs by commands on standard input, which also show them",
+        about: "Runs programs step by step, by commands on standard input",
         example: "\
 Example:
   printf '.ORIG x3000\\nHALT\\n' > halt.asm
@@ -105,11 +105,11 @@ LEA sets no codes and a trap leaves R7";
 
 /// The programs of a laboratory.
 const GIVEN: &str =
-    "A source (.asm) or an object file; with =INPUT behind it, a file of console input";
+    "A source (.asm) or an object file; =INPUT after it names a file of console input";
 
 /// The programs of a laboratory that finds nothing else in standard input.
 const GIVEN_OR_TYPED: &str =
-    "A source (.asm) or an object file; with =INPUT behind it, a file of console input, or - for standard input";
+    "A source (.asm) or an object file; =INPUT after it names a file of console input, or - for standard input";
 
 /// The page of a run.
 const PAGE: &str = "Also writes FILE, a page that shows the run step by step in a browser";
@@ -134,8 +134,8 @@ macro_rules! rows_of {
                 "The machine: a is the book's second edition; in b, that of its third edition and of lc3tools, \
 LEA sets no codes and a trap leaves R7";
             "notes", Takes::Nothing,
-                "Tells calls that were refused, and warnings of sources, on standard error, as at a terminal";
-            "quiet", Takes::Nothing, "Tells no notes and no advice, also at a terminal";
+                "Prints refused calls and warnings of sources on standard error, as at a terminal";
+            "quiet", Takes::Nothing, "Prints no notes and no advice, even at a terminal";
             $($own)*
         }
     };
@@ -146,14 +146,14 @@ const ASM: &[Row] = rows! {
     "OBJECT", Takes::Place, "The object file to write";
     "list", Takes::Nothing, "Prints the listing";
     "explain", Takes::Nothing,
-        "Shows the source line of a fault, where it is wrong and what could stand there";
+        "Shows the source line of a fault, the place, and what could be there instead";
     "profile", Takes::Profile, MACHINE;
 };
 
 const CHECK: &[Row] = rows! {
     "SOURCE", Takes::Places, "A source text, as UTF-8";
     "profile", Takes::Profile, MACHINE;
-    "werror", Takes::Nothing, "Fails where there is a warning";
+    "werror", Takes::Nothing, "Fails if there is a warning";
     "allow", Takes::Warnings, "Leaves out a warning of this name";
 };
 
@@ -175,7 +175,7 @@ const RUN: &[Row] = rows_of! {
     "mix", Takes::Number("SEED"),
         "Pauses before calls, by random numbers from SEED, which does not fix the interleaving";
     "plain", Takes::Nothing,
-        "Also prints what each process has written as it is, behind the report";
+        "After the report, also prints what each process has written, as it is";
     "page", Takes::Text("FILE"), PAGE;
 };
 
@@ -189,29 +189,29 @@ const EXPLORE: &[Row] = rows_of! {
     "worlds", Takes::UpTo("M", MOST_WORLDS),
         "The most worlds to visit, or those of a walk [default: 10000000, and 10000 of a walk]";
     "random", Takes::UpTo("N", MOST_WALKS),
-        "Takes N walks by random numbers instead, which never show that there is no other end";
+        "Takes N random walks instead, which never show that there is no other end";
     "seed", Takes::Number("S"), "With --random: the seed of the random numbers [default: 1]";
     "require", Takes::Texts("WORDS"),
-        "Fails unless the search is complete and each end is so: \
+        "Fails unless the search is complete and each end satisfies these: \
             ended, stuck, halted, empty, same, out P = \"TEXT\", out P has \"TEXT\", with commas between them; \
             or, with P calls CALL, each way to an end has this call";
     "may-wait", Takes::Texts("P"),
         "With ended or halted: process P may wait for ever; \
-            'P at A' or 'P at A-B' where its program counter is there";
+            'P at A' or 'P at A-B' only if its program counter is there";
     "never", Takes::Texts("CONDITION"),
         "Fails unless the search is complete and this condition never holds, \
             or, with lost, no message is lost with its queue, \
-            or, with refused, no call is answered with an error but EAGAIN, \
+            or, with refused, no call is answered with an error except EAGAIN, \
             or, with P calls CALL, no such call is made";
-    "fair", Takes::Nothing, "Tells only rounds in which each process that can go on takes a step";
+    "fair", Takes::Nothing, "Prints only rounds in which each process that can go on takes a step";
     "show", Takes::Text("WORDS"),
-        "What is told of each end: out, what the processes have written, in place of the report; \
-            left, the messages that are left, too; or both, with a comma between them";
-    "first", Takes::Nothing, "Ends the search where something is found that is not as it has to be";
+        "What is printed of each end: out, what the processes have written, in place of the report; \
+            left, also the messages that are left; or both, with a comma between them";
+    "first", Takes::Nothing, "Ends the search at the first failure";
     "schedule", Takes::Text("K|bad"),
-        "Prints the schedule of end K alone, or of the first thing that is not as it has to be";
+        "Prints only the schedule of end K, or of the first failure";
     "trace", Takes::Text("K|bad"),
-        "Also prints what happens in the run to end K, or to the first thing that is not as it has to be";
+        "Also prints what happens in the run to end K, or to the first failure";
     "json", Takes::Nothing, "Prints the answers as JSON";
     "page", Takes::Text("FILE"),
         "Also writes FILE, a page that shows the ends and the run of each in a browser";
