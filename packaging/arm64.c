@@ -1,4 +1,4 @@
-/* The functions in C by which the program for arm64 gets memory, arguments and the numbers of errors. The toolchain brings them
+/* The functions in C by which the program for arm64 gets memory, arguments, the environment and the numbers of errors. The toolchain brings them
    for x86-64 alone; here they stand as its contracts say what they do, and no proof is about them. tests/arm64 compares both. */
 typedef unsigned long usize;
 typedef long isize;
@@ -8,6 +8,8 @@ extern int *__errno_location(void);
 extern void *malloc(usize);
 extern void *realloc(void *, usize);
 extern void free(void *);
+extern char *getenv(const char *);
+extern char **environ;
 
 struct tried {
     _Bool ok;
@@ -53,9 +55,8 @@ __attribute__((constructor)) static void keep(int c, char **v) {
     arguments = v;
 }
 
-/* puts argument i at the start of buf: its length, -1 if there is none, -2 if it doesn't fit, and then buf is full */
-isize rattle_arg(usize i, u8 *buf, usize len) {
-    const char *it = i < (usize)count ? arguments[i] : 0;
+/* puts a text at the start of buf: its length, -1 if there is none, -2 if it doesn't fit, and then buf is full */
+static isize put(const char *it, u8 *buf, usize len) {
     usize at = 0;
     if (!it)
         return -1;
@@ -65,4 +66,22 @@ isize rattle_arg(usize i, u8 *buf, usize len) {
         buf[at] = it[at];
     }
     return at;
+}
+
+/* argument i */
+isize rattle_arg(usize i, u8 *buf, usize len) {
+    return put(i < (usize)count ? arguments[i] : 0, buf, len);
+}
+
+/* the value of an environment variable */
+isize rattle_env(const u8 *name, u8 *buf, usize len) {
+    return put(getenv((const char *)name), buf, len);
+}
+
+/* entry i of the environment */
+isize rattle_env_at(usize i, u8 *buf, usize len) {
+    usize entries = 0;
+    while (environ && environ[entries])
+        entries++;
+    return put(i < entries ? environ[i] : 0, buf, len);
 }

@@ -1,4 +1,4 @@
-/* Prints what the functions in C answer, by which a program gets memory, arguments and the numbers of errors: tests/arm64. */
+/* Prints what the functions in C answer, by which a program gets memory, arguments, the environment and the numbers of errors: tests/arm64. */
 typedef unsigned long usize;
 typedef unsigned char u8;
 struct tried {
@@ -11,6 +11,10 @@ extern void rattle_dealloc(void *);
 extern int rattle_errno(void);
 extern void rattle_set_errno(int);
 extern long rattle_arg(usize, u8 *, usize);
+extern long rattle_env(const u8 *, u8 *, usize);
+extern long rattle_env_at(usize, u8 *, usize);
+extern int setenv(const char *, const char *, int);
+extern int clearenv(void);
 extern int printf(const char *, ...);
 
 static void alloc(usize n, usize a) {
@@ -24,6 +28,20 @@ static void arg(usize i, usize len) {
     u8 buf[] = "--------";
     long told = rattle_arg(i, buf, len);
     printf("arg %lu in %lu: %ld %s\n", i, len, told, buf);
+}
+
+static void env(const char *name, usize len) {
+    u8 padded[4096] = {0}, buf[] = "--------";
+    for (usize i = 0; name[i]; i++)
+        padded[i] = name[i];
+    long told = rattle_env(padded, buf, len);
+    printf("env %s in %lu: %ld %s\n", name, len, told, buf);
+}
+
+static void env_at(usize i, usize len) {
+    u8 buf[] = "--------";
+    long told = rattle_env_at(i, buf, len);
+    printf("env_at %lu in %lu: %ld %s\n", i, len, told, buf);
 }
 
 int main(void) {
@@ -49,5 +67,16 @@ int main(void) {
     for (usize i = 1; i < 5; i++)
         for (usize len = 0; len < 9; len++)
             arg(i, len);
+    clearenv();
+    env_at(0, 8);
+    setenv("A", "", 1);
+    setenv("LONG", "eight123", 1);
+    for (usize len = 0; len < 9; len++) {
+        env("A", len);
+        env("LONG", len);
+        env("NONE", len);
+        env_at(0, len);
+        env_at(2, len);
+    }
     return 0;
 }
