@@ -171,6 +171,7 @@ def try_round(browser, seen, endless):
     count = lambda blocks: sum(int((it + "*1").split("*")[1]) for it in blocks.split())  # noqa: E731
     before, through = count(endless["schedule"]), count(endless["round"])
     browser.evaluate(seen)
+    browser.evaluate("details.open = true; new Promise(d => setTimeout(d, 300))")
     wrong = browser.evaluate("seen.spoilt()")
     browser.press("Home")
     told = []
