@@ -282,10 +282,9 @@ impl<'a, T, P: Progress> Notes<'a, T, P> {
     /// Tells the notes of a run that weren't told of another one: of each process its first refused call, what is remarked of
     /// objects, and the names that differ by the case of letters alone; with whether the run wasn't too long for it.
     pub fn tell(&mut self, mut world: World, schedule: &Schedule) -> Result<bool, AllocError> {
-        let Some(left) = self.left.checked_sub(schedule.total().max(LEAST_COUNTED)) else {
+        if !self.has_room_for(schedule) {
             return Ok(false);
-        };
-        self.left = left;
+        }
         if missing_after(&mut world, schedule).is_some() {
             return Ok(true);
         }
@@ -295,6 +294,17 @@ impl<'a, T, P: Progress> Notes<'a, T, P> {
             self.tell_waits(&waits)?;
         }
         Ok(true)
+    }
+
+    /// Whether a run isn't too long; its steps are then no longer left.
+    fn has_room_for(&mut self, schedule: &Schedule) -> bool {
+        match self.left.checked_sub(schedule.total().max(LEAST_COUNTED)) {
+            Some(left) => {
+                self.left = left;
+                true
+            }
+            None => false,
+        }
     }
 
     /// Tells what is noted of a run.
