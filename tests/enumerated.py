@@ -89,6 +89,11 @@ class World:
         return [line.split(" ", 3)[1:] for line in self.parts[1]]
 
     @cached_property
+    def replies(self):
+        """R0 of each process."""
+        return [int(line.split()[1][1:], 16) for line in self.parts[5] if line.startswith("R0 ")]
+
+    @cached_property
     def semaphores(self):
         """The values of the semaphores by their names."""
         return {line.split()[1]: int(line.split()[2]) for line in self.parts[2]}

@@ -19,6 +19,8 @@ use Rattle.lab_states.specs.Depths.{AreDepths}
 use Rattle.lab_worlds.specs.Walked.{waiting}
 use Rattle.lab_states.specs.Rising.{AreRising}
 use Rattle.lab_worlds.specs.Lassos.{AreBounded}
+use Rattle.lab_explore.specs.declared.reached.Visited.{Visited}
+use Rattle.lab_explore.specs.Visits.{start_of, IsVisited, IsWhole}
 use Rattle.lab_explore.specs.Private.RowEnds.{HasUnwaitingEnd, HaveRowEnds}
 use Rattle.lab_worlds.specs.Ends.{IsEnd, AreEnds, HaveAllEnds, NoneStuck, NeverStuck}
 use Rattle.lab_worlds.proofs.UnwaitingWorlds.{rests_alike}
@@ -39,6 +41,14 @@ use Rattle.lab_explore.proofs.MetWorlds.{IsStart}
 pub whole_search : (reduced : Bool) (start : WorldState) (t : Store) → reduced ≡ false → IsSearchedIn reduced start t → IsSearched start t
 whole_search false start t e h = h
 whole_search true start t e h = absurd (cc)
+
+pub whole_visited : (v : Visited) → IsVisited v → v.reduced ≡ false → IsWhole v
+whole_visited v h off = record { visited = h; searched = λ is. whole_search v.reduced (start_of v) v.store off (h.searched is) }
+
+-- a search is reduced only where it was to be
+pub asked_for : (asked got : Bool) → (asked ≡ false → got ≡ false) → got ≡ true → asked ≡ true
+asked_for true got h is = refl
+asked_for false got h is = let off = h refl in absurd (cc)
 
 -- a row has the world at rest to which steps lead, but for who waits; its depth, and one for each process that waits, are no more than
 -- the calls among the steps

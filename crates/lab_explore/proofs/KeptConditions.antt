@@ -22,7 +22,7 @@ use Rattle.lab_worlds.proofs.UnwaitingWorlds.{unwaiting_at}
 use Rattle.lab_explore.proofs.MetWorlds.{IsStart, IsMet, met}
 
 -- a process that waits stands as it did before it began to
-so_back : (x : State) (k : KernelState) (p : ℕ) (s : Process) → AsksAgain s → is_so x k p (before_wait s) ≡ is_so x k p s
+pub so_back : (x : State) (k : KernelState) (p : ℕ) (s : Process) → AsksAgain s → is_so x k p (before_wait s) ≡ is_so x k p s
 so_back x k p (Running m) asks = refl
 so_back x k p (Ended e) asks = refl
 so_back state.Blocked k p (Waiting m c) asks = ap (λ a. option_any (must_wait k p) (call_next a)) asks
@@ -38,7 +38,7 @@ running_calls (state.At first last) k p m (moves q) e so =
     let none : false ≡ true = sym (ap (λ b. is_some (call_next b) && nat_le first m.pc && nat_le m.pc last) e) ∙ so in absurd (cc)
 running_calls _ k p m (moves q) e so = let none : false ≡ true = so in absurd (cc)
 
-so_at_call : (x : State) (k : KernelState) (p : ℕ) (s : Process) → is_so x k p s ≡ true → IsAtCall s
+pub so_at_call : (x : State) (k : KernelState) (p : ℕ) (s : Process) → is_so x k p s ≡ true → IsAtCall s
 so_at_call x k p (Running m) so = running_calls x k p m (next_action m) refl so
 so_at_call x k p _ so = tt
 

@@ -14,14 +14,13 @@ use Rattle.lab_conditions.specs.declared.never.Refusal.{Refusal}
 use Rattle.lab_conditions.specs.declared.never.Never.TheVariants as never
 use Rattle.lab_conditions.specs.Refusals.{is_process, is_refused, Refuses}
 use Rattle.lab_search.specs.declared.store.Store.{Store}
-use Rattle.lab_search.specs.Stored.{IsSearched}
-use Rattle.lab_worlds.specs.Unwaiting.{GoesOn}
+use Rattle.lab_search.specs.Shown.{IsMadeInRow, ShowsProcesses}
 use Rattle.lab_worlds.specs.Reached.{NeverBreaks}
 use Rattle.lab_worlds.proofs.Pushes.{at_or_other}
 use Rattle.lab_worlds.proofs.AfterLocalSteps.{same_some}
 use Rattle.lab_worlds.proofs.UnwaitingWorlds.{effect_at, StepOf, step_of, still, by_itself, by_call, by_answer}
 use Rattle.lab_explore.specs.Private.Judged.{IsQuiet, IsCalmAt, BeginsQuietly, NoneRefuses}
-use Rattle.lab_explore.proofs.MetWorlds.{IsStart, IsMet, met, stepper, call_met}
+use Rattle.lab_explore.proofs.MetWorlds.{stepper}
 use Rattle.lab_explore.proofs.QuietSteps.{quiet_still, quiet_on}
 
 -- the steps from each row on are calm
@@ -32,15 +31,21 @@ AreCalm r t = (i q : ℕ) → IsCalmAt r t i q
 abbrev AreQuiet : Refusal → WorldState → Type 0
 AreQuiet r w = (p : ℕ) → BeginsQuietly r w p
 
+-- each call that is answered in a world is made so from the world of a row
+abbrev HasCalls : Store → WorldState → Type 0
+HasCalls t w = (p : ℕ) (m : Machine) (c : Call) (a : Reply) → step_effect_in w p ≡ kernel_step m c (Done a) → IsMadeInRow t p (kernel_step m c (Done a))
+
 -- a call that is answered isn't refused, and none of the local steps after it is
-answered : (r : Refusal) (t : Store) (w : WorldState) (p : ℕ) (m : Machine) (c : Call) (a : Reply) → IsMet t w → AreCalm r t → IsTrue (is_process r.process p)
+answered : (r : Refusal) (t : Store) (w : WorldState) (p : ℕ) (m : Machine) (c : Call) (a : Reply) → HasCalls t w → AreCalm r t → IsTrue (is_process r.process p)
     → step_effect_in w p ≡ kernel_step m c (Done a) → (is_refused r (stepped.Called a) ≡ false) × IsQuiet r (process_after_answer m c (Done a))
-answered r t w p m c a met calm meant is =
-    let call = call_met t w p met (subst GoesOn (sym is) tt) (λ q local. let no : kernel_step m c (Done a) ≡ local_step q = sym is ∙ local in absurd (cc)) in
-    let here : step_effect met.world.kernel p (Some call.0) ≡ kernel_step m c (Done a) = sym (effect_at met.world p (Some call.0) call.1) ∙ call.2 ∙ is in
-    let found = calm met.row p meant met.world call.0 met.there call.1 in (
-      subst (λ e. is_refused r (stepped_of (asked_by (Some call.0)) e) ≡ false) here found.step,
-      subst (λ e. IsQuiet r (process_after call.0 e)) here found.after,
+answered r t w p m c a made calm meant is =
+    let row = made p m c a is in
+    let v = row.1 in
+    let s = stepper v p (subst IsEffective (sym row.3) tt) in
+    let here : step_effect v.kernel p (Some s.0) ≡ kernel_step m c (Done a) = sym (effect_at v p (Some s.0) s.1) ∙ row.3 in
+    let found = calm row.0 p meant v s.0 row.2 s.1 in (
+      subst (λ e. is_refused r (stepped_of (asked_by (Some s.0)) e) ≡ false) here found.step,
+      subst (λ e. IsQuiet r (process_after s.0 e)) here found.after,
     )
 
 -- a process whose step is local
@@ -62,8 +67,8 @@ unfolding process_after_answer
 quiet_waiting r m c = quiet_still r (Waiting m c) (λ v goes. goes)
 
 -- the process of a step is quiet behind it
-stepped_quiet : (r : Refusal) (t : Store) (w : WorldState) (p : ℕ) → IsMet t w → AreCalm r t → AreQuiet r w → BeginsQuietly r (step w p) p
-stepped_quiet r t w p met calm quiet meant s at = by (step_effect_in w p) refl
+stepped_quiet : (r : Refusal) (t : Store) (w : WorldState) (p : ℕ) → HasCalls t w → AreCalm r t → AreQuiet r w → BeginsQuietly r (step w p) p
+stepped_quiet r t w p made calm quiet meant s at = by (step_effect_in w p) refl
   where
     becomes : (e : StepEffect) (y : Process) → step_effect_in w p ≡ e → IsEffective e → process_made e ≡ Some y → IsQuiet r y → IsQuiet r s
     becomes e y is effective makes here =
@@ -78,21 +83,21 @@ stepped_quiet r t w p met calm quiet meant s at = by (step_effect_in w p) refl
         let x = stepper_local w p n is in
         becomes (local_step n) (Running n) is tt refl (quiet_on r x.0 (Running n) x.2 (quiet p meant x.0 x.1))
     by (kernel_step m c Wait) is = becomes (kernel_step m c Wait) (process_after_answer m c Wait) is tt refl (quiet_waiting r m c)
-    by (kernel_step m c (Done a)) is = becomes (kernel_step m c (Done a)) (process_after_answer m c (Done a)) is tt refl (answered r t w p m c a met calm meant is).1
+    by (kernel_step m c (Done a)) is = becomes (kernel_step m c (Done a)) (process_after_answer m c (Done a)) is tt refl (answered r t w p m c a made calm meant is).1
 
 -- all processes are
-quiet_after : (r : Refusal) (t : Store) (w : WorldState) (p : ℕ) → IsMet t w → AreCalm r t → AreQuiet r w → AreQuiet r (step w p)
-quiet_after r t w p met calm quiet q =
-    at_or_other (BeginsQuietly r (step w p)) p q (stepped_quiet r t w p met calm quiet) (λ other meant s at. quiet q meant s (sym (after_other w q p (step_effect_in w p) other) ∙ at))
+quiet_after : (r : Refusal) (t : Store) (w : WorldState) (p : ℕ) → HasCalls t w → AreCalm r t → AreQuiet r w → AreQuiet r (step w p)
+quiet_after r t w p made calm quiet q =
+    at_or_other (BeginsQuietly r (step w p)) p q (stepped_quiet r t w p made calm quiet) (λ other meant s at. quiet q meant s (sym (after_other w q p (step_effect_in w p) other) ∙ at))
 
-quiet_run : (r : Refusal) (t : Store) → AreCalm r t → (w : WorldState) → ((ps : List ℕ) → IsMet t (run w ps)) → AreQuiet r w → (ps : List ℕ) → AreQuiet r (run w ps)
+quiet_run : (r : Refusal) (t : Store) → AreCalm r t → (w : WorldState) → ((ps : List ℕ) → HasCalls t (run w ps)) → AreQuiet r w → (ps : List ℕ) → AreQuiet r (run w ps)
 unfolding run
-quiet_run r t calm w met quiet [] = quiet
-quiet_run r t calm w met quiet (p ∷ ps) = quiet_run r t calm (step w p) (λ qs. met (p ∷ qs)) (quiet_after r t w p (met []) calm quiet) ps
+quiet_run r t calm w made quiet [] = quiet
+quiet_run r t calm w made quiet (p ∷ ps) = quiet_run r t calm (step w p) (λ qs. made (p ∷ qs)) (quiet_after r t w p (made []) calm quiet) ps
 
 -- where all are, no step is a call that is refused
-none_refused : (r : Refusal) (t : Store) (w : WorldState) (p : ℕ) → IsMet t w → AreCalm r t → AreQuiet r w → Refuses r w p → ⊥
-none_refused r t w p met calm quiet h = by (step_effect_in w p) refl
+none_refused : (r : Refusal) (t : Store) (w : WorldState) (p : ℕ) → HasCalls t w → AreCalm r t → AreQuiet r w → Refuses r w p → ⊥
+none_refused r t w p made calm quiet h = by (step_effect_in w p) refl
   where
     no : (e : StepEffect) → step_effect_in w p ≡ e → is_refused r (stepped_of (asked_by (slice_get w.processes p)) e) ≡ false → ⊥
     no e is not =
@@ -105,9 +110,8 @@ none_refused r t w p met calm quiet h = by (step_effect_in w p) refl
         let x = stepper_local w p n is in
         no (local_step n) is (subst (λ o. is_refused r (local_told (asked_by o)) ≡ false) (sym x.1) (quiet p h.0 x.0 x.1 0 x.0 (Running n) refl x.2))
     by (kernel_step m c Wait) is = no (kernel_step m c Wait) is refl
-    by (kernel_step m c (Done a)) is = no (kernel_step m c (Done a)) is (answered r t w p m c a met calm h.0 is).0
+    by (kernel_step m c (Done a)) is = no (kernel_step m c (Done a)) is (answered r t w p m c a made calm h.0 is).0
 
--- where no call is refused from the start on and from no row of a whole search, none is
-pub never_refuses : (r : Refusal) (start : WorldState) (t : Store) → IsStart start → IsSearched start t → NoneRefuses r start t → NeverBreaks start (never.Refused r)
-never_refuses r start t is searched none ps p h =
-    none_refused r t (run start ps) p (met t start is searched ps) none.rows (quiet_run r t none.rows start (met t start is searched) none.begins ps) h
+-- where no call is refused from the start on and from no row of a search that shows each process, none is
+pub never_refuses : (r : Refusal) (start : WorldState) (t : Store) → ShowsProcesses start t → NoneRefuses r start t → NeverBreaks start (never.Refused r)
+never_refuses r start t shows none ps p h = none_refused r t (run start ps) p (shows.calls ps) none.rows (quiet_run r t none.rows start shows.calls none.begins ps) h

@@ -6,6 +6,9 @@ mod KeptConditions
 mod KeptLosses
 pub mod QuietSteps
 mod KeptRefusals
+mod ShownProcesses
+pub mod JudgedSearches
+pub mod KeptStates
 pub mod CalmRows
 pub mod LossesOfRows
 pub mod JudgedRows

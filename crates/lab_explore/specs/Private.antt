@@ -2,4 +2,5 @@
 pub mod RowEnds
 pub mod Ranked
 pub mod Judged
+pub mod Keeping
 pub mod Explored

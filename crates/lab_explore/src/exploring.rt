@@ -1,12 +1,13 @@
 //! Explorations.
-ghost use Rattle.std.specs.Prelude.{◌≡◌, ◌<◌, IsTrue, false, None, IfOk, IfSome, length, ◌≤◌, ◌+◌, OnOk};
+ghost use Rattle.std.specs.Prelude.{◌≡◌, All, IsTrue, false, None, IfOk, IfSome, length, ◌≤◌, ◌+◌, OnOk};
 ghost use Rattle.std.specs.List.Sorted.{IsNonDecreasingBy};
 ghost use Rattle.lab_worlds.specs.Ends.{AreEnds, HaveAllEnds, HaveFewestCalls, NoneStuck, NeverStuck, IsEnd};
 ghost use Rattle.lab_worlds.specs.Reached.{AreReached, AreKept};
 ghost use Rattle.lab_worlds.specs.Lassos.{IsLasso, CanBeRepeated, AreEndless, AreBounded};
 ghost use Rattle.lab_worlds.specs.Fairness.{IsFairLasso, AreFairlyEndless, AreFairlyBounded};
-ghost use Rattle.lab_explore.specs.Visits.{start_of, IsVisited, IsWhole};
+ghost use Rattle.lab_explore.specs.Visits.{start_of, IsVisited};
 ghost use Rattle.lab_explore.specs.Private.Explored.{IsExplored};
+ghost use Rattle.lab_explore.specs.Private.Keeping.{KeepsReduction};
 ghost use Rattle.lab_sched.specs.Worlds.{WorldState};
 ghost use Rattle.lab_worlds.specs.Unwaiting.{unwaiting, NoneGoesOn};
 ghost use Rattle.lab_worlds.specs.Walked.{waiting, KeepsStart};
@@ -16,6 +17,7 @@ ghost use Rattle.lab_sched.specs.Schedules.{steps_of};
 ghost use Rattle.lab_states.specs.Rising.{AreRising};
 
 use crate::fair::Lassos;
+use crate::keeping::keep_reduction;
 use crate::reached::{Visited, visit};
 use crate::refusals::depths_of;
 use lab_conditions::Never;
@@ -31,6 +33,7 @@ use std::thread::Threads;
 /// Visits every world at calls that a laboratory can come to, as far as the limits and the memory
 /// allow, those with fewer calls first; where nothing is asked that another world could show, no
 /// process takes a name away, and one stands at a call that no other's depends on, it goes on alone.
+/// What must never be so of one process is asked so first, and of each world if it is found.
 /// Each end has a schedule of effective steps that leads to it;
 /// ends with fewer calls come first. Where the exploration is complete, there is no other end,
 /// whatever steps are taken, in any order, but for the numbers of places in the kernel, and none is
@@ -79,32 +82,32 @@ pub fn explore<O: Observer, R: Threads + Sync>(
         → found.lasso ≡ None → AreFairlyBounded fresh) }
 {
     // worlds that no end needs may be left out where nothing is asked of each world
-    let reduced = both(nevers.is_empty(), !fair);
+    let reduced = both(keep_reduction(nevers), !fair);
     let visited = visit(alloc, fresh, limits, observer, reduced)?;
-    // for ends there is what is left, and where that is little a sixteenth of the limit beyond it
-    let left = limits.memory.saturating_sub(visited.store.size());
-    let room = left.max(limits.memory / 16);
-    let found = visited.report(alloc, room, nevers, fair, workers);
-    discard(visited);
-    Ok(found?)
+    let first = visited.into_report(alloc, limits, nevers, fair, workers)?;
+    let found = first.by_fewest_calls(alloc, limits, nevers, fair, observer, workers)?;
+    Ok(found)
 }
 
 impl Visited {
-    /// What was found, with the ends, as long as they take about so many bytes, steps to what must
-    /// never be so, and a lasso, if there is one.
-    fn report<R: Threads + Sync>(
+    /// What was found, with the ends, as far as the memory allows, steps to what must never be so, and a
+    /// lasso, if there is one.
+    pub(crate) fn report<R: Threads + Sync>(
         &self,
         alloc: Global,
-        room: usize,
+        limits: Limits,
         nevers: &[Never],
         fair: bool,
         workers: &Workers<'_, R>,
     ) -> Result<Exploration, ExploreFault>
         requires visited { IsVisited self.now }
-        requires whole_if_asked { 0 < length nevers.now → IsWhole self.now }
-        requires whole_if_fair { IsTrue fair → IsWhole self.now }
+        requires asked { IsTrue self.now.reduced → All KeepsReduction nevers.now }
+        requires fair { IsTrue self.now.reduced → fair ≡ false }
         ensures explored { IfOk result (IsExplored (start_of self.now) nevers.now fair) }
     {
+        // for ends there is what is left, and where that is little a sixteenth of the limit beyond it
+        let left = limits.memory.saturating_sub(self.store.size());
+        let room = left.max(limits.memory / 16);
         let Collected { ends, whole } = self.ends(alloc, room)?;
         let reached = self.reached(alloc, nevers, workers)?;
         let Lassos { lasso, shown } = self.lassos(alloc, fair)?;

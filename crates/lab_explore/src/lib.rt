@@ -1,9 +1,11 @@
 //! What a search of every interleaving of some programs tells.
 #![tactic(auto)]
 
+mod again;
 mod exploring;
 mod fair;
 mod judging;
+mod keeping;
 mod reached;
 mod refusals;
 mod ways;

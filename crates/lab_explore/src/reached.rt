@@ -1,5 +1,5 @@
 //! Counterexamples of safety: what must never be so and is found by a search, each with steps from the start.
-ghost use Rattle.std.specs.Prelude.{◌≡◌, ◌<◌, None, IfOk, IfSome, IsTrue, length, false, map};
+ghost use Rattle.std.specs.Prelude.{◌≡◌, All, None, IfOk, IfSome, IsTrue, false, map};
 ghost use Rattle.lab_worlds.specs.Walked.{IsWalk};
 ghost use Rattle.lab_worlds.specs.Reached.{LeadsToStep, Violates, IsKept, AreReached, AreKept};
 ghost use Rattle.lab_explore.specs.Visits.{start_of, IsVisited, IsWhole};
@@ -8,6 +8,9 @@ ghost use Rattle.lab_sched.specs.Held.{process_view};
 ghost use Rattle.lab_conditions.specs.Losses.{messages, is_receiving};
 ghost use Rattle.lab_search.specs.Stored.{IsAt};
 ghost use Rattle.lab_explore.specs.Private.Judged.{IsLoss, NoEdgeLoses};
+ghost use Rattle.lab_explore.specs.Private.Keeping.{KeepsReduction};
+ghost use Rattle.lab_sched.specs.Starts.{AreStarts, initial_world};
+ghost use Rattle.lab_search.specs.Shown.{ShowsProcesses};
 
 use crate::judging::first_where;
 use ipc_kernel::Kernel;
@@ -69,7 +72,8 @@ impl Visited {
         never: &Never,
         workers: &Workers<'_, R>,
     ) -> Result<Option<Schedule>, ExploreFault>
-        requires whole { IsWhole self.now }
+        requires visited { IsVisited self.now }
+        requires asked { IsTrue self.now.reduced → KeepsReduction never.now }
         ensures reached { IfOk result (λ found. IfSome found (λ s.
             Violates (start_of self.now) never.now s)) }
         ensures none { IfOk result (λ found. found ≡ None → IsTrue self.now.complete
@@ -102,7 +106,8 @@ impl Visited {
         nevers: &[Never],
         workers: &Workers<'_, R>,
     ) -> Result<Vec<Option<Schedule>>, ExploreFault>
-        requires whole { 0 < length nevers.now → IsWhole self.now }
+        requires visited { IsVisited self.now }
+        requires asked { IsTrue self.now.reduced → All KeepsReduction nevers.now }
         ensures reached { IfOk result (λ found.
             AreReached (start_of self.now) nevers.now found.items) }
         ensures none { IfOk result (λ found. IsTrue self.now.complete
@@ -225,21 +230,21 @@ pub struct Visited {
     pub refused: bool,
 }
 
-/// What a search of the worlds that a laboratory can come to visits, as far as the limits allow: every
-/// one of them, or, if that may be and none of them takes a name away, as many as show every end.
-pub fn visit<O: Observer>(
+/// What a search from processes at their starts visits, as far as the limits allow: every world that
+/// they can come to, or, if that may be and none of them takes a name away, as many as show every end,
+/// and of each process what it can come to.
+pub(crate) fn visit_from<O: Observer>(
     alloc: Global,
-    fresh: Fresh,
+    processes: Vec<Process>,
     limits: Limits,
     observer: &mut O,
     reduced: bool,
 ) -> Result<Visited, ExploreFault>
-    ensures start { IfOk result (λ s. start_of s ≡ fresh) }
+    requires starts { AreStarts processes.items }
+    ensures start { IfOk result (λ s. start_of s ≡ initial_world processes.items) }
     ensures reduced { IfOk result (λ s. reduced ≡ false → s.reduced ≡ false) }
     ensures visited { IfOk result (λ s. IsVisited s) }
-    ensures whole { IfOk result (λ s. reduced ≡ false → IsWhole s) }
 {
-    let processes = fresh.processes();
     let kernel = Kernel::new(alloc, processes.len())?;
     let search = search_all(
         alloc,
@@ -257,4 +262,25 @@ pub fn visit<O: Observer>(
         complete: search.complete,
         refused: search.refused,
     })
+}
+
+/// What a search of the worlds that a laboratory can come to visits, as far as the limits allow: every
+/// one of them, or, if that may be and none of them takes a name away, as many as show every end, and
+/// of each process each call with its answers.
+pub fn visit<O: Observer>(
+    alloc: Global,
+    fresh: Fresh,
+    limits: Limits,
+    observer: &mut O,
+    reduced: bool,
+) -> Result<Visited, ExploreFault>
+    ensures start { IfOk result (λ s. start_of s ≡ fresh) }
+    ensures reduced { IfOk result (λ s. reduced ≡ false → s.reduced ≡ false) }
+    ensures visited { IfOk result (λ s. IsVisited s) }
+    ensures whole { IfOk result (λ s. reduced ≡ false → IsWhole s) }
+    ensures shown { IfOk result (λ s. IsTrue s.complete → ShowsProcesses (start_of s) s.store) }
+{
+    let processes = fresh.processes();
+    let visited = visit_from(alloc, processes, limits, observer, reduced)?;
+    Ok(visited)
 }

@@ -69,6 +69,18 @@ impl Visited {
         }
     }
 
+    /// How many local steps of process `pid` are looked at after its step from the world of a row: as many
+    /// as are known. Of a step that a reduced search left out, and that it took from another row, all up
+    /// to the next call.
+    fn steps_to_look_at(&self, at: usize, pid: u32) -> u32 {
+        let known = self.store.known_steps(at, pid);
+        match known {
+            Some(steps) => steps.taken,
+            None if self.complete => u32::MAX,
+            None => 0,
+        }
+    }
+
     /// The refused call of process `pid` from the world of a row on, up to its next call, if its calls
     /// are meant. Its steps are taken again only if one of them may be refused so, as far as is known.
     fn refusal_of(
@@ -88,8 +100,7 @@ impl Visited {
         if self.is_calm(refusal, at, pid) {
             return Ok(None);
         }
-        let known = self.store.known_steps(at, pid);
-        let most = known.map_or(0, |steps| steps.taken);
+        let most = self.steps_to_look_at(at, pid);
         let mut alone = alone_at(&self.store, alloc, at, pid)?;
         let found = alone.look(alloc, refusal, most.saturating_add(1))?;
         self.turn_of(found, Some(at), pid as usize)

@@ -7,7 +7,9 @@ pub mod FirstWorlds
 pub mod StandingWorlds
 pub mod Bounds
 mod IndependentCalls
+mod PassingSteps
 mod ReducedSearches
 mod ReducedPaths
 pub mod ReducedEnds
+pub mod ReducedStates
 pub mod ReducedBounds

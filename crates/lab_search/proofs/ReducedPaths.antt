@@ -16,7 +16,8 @@ use Rattle.lab_search.specs.Reduced.{IsSearchedByReduction}
 use Rattle.lab_worlds.proofs.FewestCalls.{calls_in}
 use Rattle.lab_worlds.proofs.IndependentSteps.{independent_goes, named_after, named_alone, calm_before}
 use Rattle.lab_worlds.proofs.EndedProcesses.{ended_after, ended_run, keeps_but, calm_but, calm_whole, are_calm_but}
-use Rattle.lab_worlds.proofs.OnwardSteps.{AreOnward, AreCalm, calls_along, calls_more, AreFronted, ArePassed, fronted_or_passed, calm_by}
+use Rattle.lab_worlds.proofs.OnwardSteps.{AreOnward, AreCalm, calls_along, calls_more, AreFronted, calm_by}
+use Rattle.lab_search.proofs.PassingSteps.{ArePassed, fronted_or_passed}
 use Rattle.lab_search.proofs.StandingWorlds.{Place, Stands}
 use Rattle.lab_search.proofs.ReducedSearches.{left, StandsNext, TakesAlone, TakesAny, options, calm_alike}
 
@@ -100,7 +101,7 @@ module _ (t : Store) (start : WorldState) (searched : IsSearchedByReduction star
           fronted r (a.each r onward.0) (named_after searched.uses c.world r h.named (here.0.keep r)) (subst (AreFronted c.world r) e first)
 
   -- the steps lead to a calm world
-  abbrev EndsCalm : Path → Type 0
+  abbrev pub EndsCalm : Path → Type 0
   EndsCalm c = IsCalm searched.uses (run c.world c.steps)
 
   -- so do the first ones of a path, where shorter paths do
@@ -111,7 +112,7 @@ module _ (t : Store) (start : WorldState) (searched : IsSearchedByReduction star
       let parts = length-append qs (r ∷ rs) in
       ih qs (omega (arith, size, parts)) (record { stands = h.stands; named = h.named; onward = onward_front qs (r ∷ rs) c.world (subst (AreOnward c.world) e h.onward) }))
 
-  ends_calm : (c : Path) → IsPath t c → EndsCalm c
+  pub ends_calm : (c : Path) → IsPath t c → EndsCalm c
   unfolding run
   ends_calm = by_less (λ c. length c.steps) (λ c. left t c.place) (λ c. IsPath t c → EndsCalm c) (λ c ih h. by_calm EndsCalm (record {
     ends = λ c g like none.

@@ -14,7 +14,6 @@ use Rattle.lab_worlds.specs.Calls.{AreAlike, IsAtCall}
 use Rattle.lab_worlds.specs.Unwaiting.{GoesOn}
 use Rattle.lab_states.specs.Depths.{depth_of, IsNear, AreDepths}
 use Rattle.lab_search.specs.Stored.{HasEdge, IsExpanded}
-use Rattle.ipc_kernel.specs.declared.call.Call.{Call}
 use Rattle.ipc_kernel.specs.declared.call.Call.TheVariants.{Exit}
 use Rattle.ipc_kernel.specs.Operands.{are_named}
 use Rattle.ipc_store.specs.declared.uses.ProcessUse.{ProcessUse}

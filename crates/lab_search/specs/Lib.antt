@@ -1,3 +1,4 @@
 pub mod Stored
 pub mod Reduced
+pub mod Shown
 pub mod Private

@@ -1,19 +1,37 @@
-use Rattle.std.proofs.Common.{◌≡◌, ◌<◌, false, IsTrue, arith, length, subst}
-use Rattle.std.proofs.lemmas.Bool.{false_from_ne_true, not-true}
-use Rattle.std.proofs.lemmas.Bool.Decides.{nat_tests}
+use Rattle.std.proofs.Common.{IsTrue, sym, ap, subst, ◌∙◌}
+use Rattle.std.proofs.lemmas.Bool.{not-true}
+use Rattle.lab_sched.specs.Starts.{AreStarts, initial_world}
 use Rattle.lab_explore.specs.Private.Explored.{IsExplored}
+use Rattle.lab_explore.proofs.Explorations.{asked_for}
 use Rattle.lab_explore.proofs.exploring.explore.Goals as goal
 
-pub report-found-requires : goal.report-found-requires
-report-found-requires g c =
-    let visited = c.in_ok-visited.ensures in
-    let asked : (0 < length c.args.nevers.now) → c.both-reduced.result ≡ false = λ some. false_from_ne_true c.both-reduced.result (λ yes. let empty = c.both-reduced.ensures.first yes in grind (arith, nat_tests)) in
-    let fair : IsTrue c.args.fair → c.both-reduced.result ≡ false = λ is. false_from_ne_true c.both-reduced.result (λ yes. let other = not-true c.args.fair (c.both-reduced.ensures.second yes) in cc) in
-    (record { shared = c.type_bounds.sync-R.shared }, (visited.visited, (λ some. visited.whole (asked some), λ is. visited.whole (fair is))))
+pub into_report-requires : goal.into_report-requires
+into_report-requires g c =
+    let visited = c.in_ok-visited in
+    let both : IsTrue visited.visited.reduced → IsTrue c.both-reduced.result = asked_for c.both-reduced.result visited.visited.reduced visited.ensures.reduced in (
+      record { shared = c.type_bounds.sync-R.shared },
+      (
+        visited.ensures.visited,
+        (λ is. c.keep_reduction.ensures.yes (c.both-reduced.ensures.first (both is)), λ is. not-true c.args.fair (c.both-reduced.ensures.second (both is))),
+      ),
+    )
+
+pub by_fewest_calls-requires : goal.by_fewest_calls-requires
+by_fewest_calls-requires g c =
+    let first = c.in_ok-first in
+    let same = sym first.ensures.processes in (
+      record { shared = c.type_bounds.sync-R.shared },
+      (
+        subst AreStarts same c.in_ok-visited.ensures.visited.starts,
+        subst (λ ps. IsExplored (initial_world ps) c.args.nevers.now c.args.fair first.first.exploration) same first.ensures.explored,
+      ),
+    )
 
 pub returns : goal.returns
 returns g c =
-    let told = subst (λ w. IsExplored w c.args.nevers.now c.args.fair c.in_ok-found.field-0) c.in_ok-visited.ensures.start c.in_ok-found.ensures.explored in
+    let first = c.in_ok-first in
+    let start = ap initial_world first.ensures.processes ∙ c.in_ok-visited.ensures.start in
+    let told = subst (λ w. IsExplored w c.args.nevers.now c.args.fair c.in_ok-found.found) start c.in_ok-found.ensures.explored in
     record {
       sound = told.sound;
       ordered = told.ordered;

@@ -1,27 +1,16 @@
-use Rattle.std.proofs.Common.{◌≡◌, ap, arith, length, refl, subst, sym}
-use Rattle.lab_sched.specs.Starts.{initial_world}
-use Rattle.lab_search.specs.Reduced.{IsSearchedIn}
-use Rattle.lab_worlds.proofs.Beginnings.{started, starts_held}
-use Rattle.lab_explore.specs.Visits.{IsVisited}
-use Rattle.lab_explore.proofs.Explorations.{whole_search}
+use Rattle.std.proofs.Common.{◌∙◌}
+use Rattle.lab_explore.proofs.Explorations.{whole_visited}
+use Rattle.lab_explore.proofs.JudgedSearches.{shows}
 use Rattle.lab_explore.proofs.reached.visit.Goals as goal
-
-pub search_all-requires : goal.search_all-requires
-search_all-requires g c = record { held = starts_held c.processes-processes.result.items c.as_slice.result.now c.as_slice.ensures.value c.processes-processes.ensures.starts }
 
 pub returns : goal.returns
 returns g c =
-    let ps = c.processes-processes.result.items in
-    let start = initial_world ps in
-    let found = c.in_ok-search.search in
-    let told = c.in_ok-search.ensures in
-    let count : c.len.result ≡ length c.as_slice.result.now = omega (arith, ap length c.as_slice.ensures.value) in
-    let same = started start ps c.as_slice.result.now c.in_ok-kernel.kernel c.len.result refl c.as_slice.ensures.value count c.in_ok-kernel.ensures.empty in
-    let visited : IsVisited (record { processes = c.processes-processes.result; store = found.store; firsts = found.firsts; reduced = found.reduced; complete = found.complete; refused = found.refused }) =
-    record { starts = c.processes-processes.ensures.starts; store = told.store; searched = λ is. subst (λ w. IsSearchedIn found.reduced w found.store) (sym same) (told.complete is) } in
+    let found = c.in_ok-visited.visited in
+    let told = c.in_ok-visited.ensures in
     record {
-      start = c.processes-processes.ensures.world;
+      start = told.start ∙ c.processes-processes.ensures.world;
       reduced = told.reduced;
-      visited = visited;
-      whole = λ no. record { visited = visited; searched = λ is. whole_search found.reduced start found.store (told.reduced no) (visited.searched is) };
+      visited = told.visited;
+      whole = λ no. whole_visited found told.visited (told.reduced no);
+      shown = λ is. shows found told.visited is;
     }

@@ -1,7 +1,19 @@
+use Rattle.std.proofs.Common.{subst, sym}
 use Rattle.lab_worlds.specs.Reached.{ViolatesIfSome, KeptIfNone}
 use Rattle.lab_explore.specs.Visits.{start_of}
+use Rattle.lab_explore.specs.Private.Keeping.{KeepsReduction}
 use Rattle.lab_explore.proofs.JudgedRows.{next_along, violates_if, kept_if}
 use Rattle.lab_explore.proofs.reached.Visited.reached.Goals as goal
+
+pub reach-requires : goal.reach-requires
+reach-requires g c =
+    let never = c.never-item.result in (
+      record { shared = c.type_bounds.sync-R.shared },
+      (
+        c.requires.visited,
+        λ is. subst KeepsReduction (sym c.never-item.is) (c.requires.asked is c.loop-never.never-index never c.loop-never-test.true),
+      ),
+    )
 
 pub loop-never-preserved : goal.loop-never-preserved
 loop-never-preserved g c =

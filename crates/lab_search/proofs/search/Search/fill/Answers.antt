@@ -1,4 +1,4 @@
-use Rattle.std.proofs.Common.{◌<◌, length, map, subst, sym}
+use Rattle.std.proofs.Common.{◌<◌, length, map, subst}
 use Rattle.lab_sched.specs.Worlds.{WorldState}
 use Rattle.lab_sched.specs.Held.{process_view}
 use Rattle.lab_search.specs.declared.store.Store.{Store}

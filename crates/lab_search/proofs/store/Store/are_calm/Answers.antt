@@ -1,4 +1,4 @@
-use Rattle.std.proofs.Common.{ℕ, below_more, arith, ◌<◌, length}
+use Rattle.std.proofs.Common.{ℕ, below_more, arith, ◌<◌}
 use Rattle.lab_sched.proofs.ListPlaces.{get_past}
 use Rattle.lab_sched.specs.Worlds.{WorldState}
 use Rattle.lab_worlds.specs.Independent.{KeepsTo}

@@ -1,6 +1,6 @@
 use Rattle.std.proofs.lemmas.Option.{IfSome_then}
 use Rattle.lab_search.specs.declared.store.Mover.{Mover}
-use Rattle.lab_search.proofs.StepsOfRows.{errors_of, move_from}
+use Rattle.lab_search.proofs.StepsOfRows.{errors_of}
 use Rattle.lab_search.proofs.FootprintLemmas.{errors_by_footprint}
 use Rattle.lab_search.proofs.store.Store.known_steps.Goals as goal
 
