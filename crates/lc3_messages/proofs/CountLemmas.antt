@@ -12,7 +12,7 @@ use Rattle.lc3_warnings.specs.declared.texts.Warning.{Warning}
 use Rattle.lc3_warnings.specs.Warnings.{is_accepted}
 use Rattle.lc3_messages.specs.declared.source.Finding.{Finding}
 use Rattle.lc3_messages.specs.Told.{AreFrom, finding_of, finding_of_warning, Tells}
-use Rattle.lc3_messages.specs.Private.Errors.{is_error, error_count}
+use Rattle.lc3_messages.specs.Counts.{is_error, error_count}
 
 -- each fault is counted
 all-faults : (faults : List LineFault) (told : List Finding) → AreFrom faults told → error_count told ≡ length told

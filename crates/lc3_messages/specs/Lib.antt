@@ -1,4 +1,4 @@
 pub mod Counts
 pub mod Told
 pub mod Telling
-pub mod Private
+pub mod Written

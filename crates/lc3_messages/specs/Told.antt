@@ -10,7 +10,6 @@ use Rattle.lc3_asm.specs.declared.passes.LineFault.{LineFault}
 use Rattle.lc3_warnings.specs.declared.texts.Warning.{Warning as Told}
 use Rattle.lc3_messages.specs.Counts.{told_warnings}
 use Rattle.lc3_messages.specs.declared.source.Finding.{Finding}
-use Rattle.lc3_messages.specs.declared.source.What.{What}
 use Rattle.lc3_messages.specs.declared.source.What.TheVariants.{Fault, Warning}
 
 -- whether a fault is about a label that a line names, or defines again: it may be one only because an earlier line is faulty

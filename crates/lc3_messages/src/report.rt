@@ -1,8 +1,9 @@
 //! All messages about a source, as they are written.
-ghost use Rattle.std.specs.Prelude.{◌≡◌, ◌↔◌, ◌-◌, length, map, IfOk, IsTrue, IsUtf8};
+ghost use Rattle.std.specs.Prelude.{◌≡◌, ◌↔◌, ◌++◌, ◌-◌, Some, codes, length, map, IfOk, IsTrue, IsUtf8, string_bytes};
 ghost use Rattle.lc3_warnings.specs.Warnings.{is_accepted};
-ghost use Rattle.lc3_messages.specs.Counts.{told_warnings};
-ghost use Rattle.lc3_messages.specs.Private.Errors.{error_count};
+ghost use Rattle.lc3_messages.specs.Counts.{told_warnings, error_count};
+ghost use Rattle.lc3_messages.specs.Telling.{finding_told};
+ghost use Rattle.lc3_messages.specs.Written.{message_text, heading_of, count_text, comma, shown_text, count_line, IsMessage, IsMessageOn, AreMessages, AreReport, AreReportOn, AreNoTextReport};
 
 use crate::characters::picture;
 use crate::parts::Span;
@@ -11,7 +12,6 @@ use crate::telling::{MOST_TOLD, Told, first_findings, tell};
 use lc3_table::Profile;
 use std::alloc::{AllocError, Global};
 use std::fmt;
-use std::fmt::Write;
 
 /// What is asked about the warnings of a source.
 #[derive(Clone, Copy)]
@@ -33,37 +33,92 @@ pub struct Report {
 
 /// How many there are of this name, if there are any.
 #[derive(Clone, Copy)]
-struct Count(usize, &'static str);
+struct Count<'a> {
+    count: usize,
+    name: &'a str,
+}
 
-impl fmt::Display for Count {
+impl fmt::Display for Count<'_> {
+    ghost output = { λ c. Some (count_text c.count c.name.now) };
+
     fn fmt<W: fmt::Write>(&self, f: &mut fmt::Formatter<W>) -> fmt::Result {
-        match *self {
-            Count(0, _) => Ok(()),
-            Count(1, name) => write!(f, "1 {name}"),
-            Count(count, name) => write!(f, "{count} {name}s"),
+        let Count { count, name } = *self;
+        match count {
+            0 => Ok(()),
+            1 => write!(f, "1 {name}"),
+            _ => write!(f, "{count} {name}s"),
         }
     }
 }
 
-/// The report with these messages, and behind them a line with their numbers, if there are any.
-fn counted(
-    mut text: String,
-    file: &str,
-    errors: usize,
-    warnings: usize,
-) -> Result<Report, AllocError>
-    ensures numbers { IfOk result (λ r. (r.errors ≡ errors) × (r.warnings ≡ warnings)) }
-{
-    let all = errors.saturating_add(warnings);
-    if all > 0 {
-        let (refused, warned) = (Count(errors, "error"), Count(warnings, "warning"));
-        let comma = if errors > 0 && warnings > 0 { ", " } else { "" };
-        write!(text, "lc3lab: {file}: {refused}{comma}{warned}")?;
+/// How many messages are shown of so many, if not all are.
+#[derive(Clone, Copy)]
+struct Shown(usize);
+
+impl fmt::Display for Shown {
+    ghost output = { λ s. Some (shown_text s.0) };
+
+    fn fmt<W: fmt::Write>(&self, f: &mut fmt::Formatter<W>) -> fmt::Result {
+        let all = self.0;
         if all > MOST_TOLD {
-            write!(text, " ({MOST_TOLD} of {all} are shown)")?;
+            write!(f, " ({MOST_TOLD} of {all} are shown)")
+        } else {
+            Ok(())
         }
-        text.push('\n')?;
     }
+}
+
+/// What stands between two counts.
+fn comma(errors: usize, warnings: usize) -> &'static str
+    ensures text { result.now ≡ comma errors warnings }
+{
+    if errors == 0 || warnings == 0 {
+        ""
+    } else {
+        ", "
+    }
+}
+
+/// The line with the numbers of messages, if there are any.
+#[derive(Clone, Copy)]
+struct CountLine<'a> {
+    file: &'a str,
+    errors: usize,
+    all: usize,
+}
+
+impl fmt::Display for CountLine<'_> {
+    ghost output = { λ c. Some (count_line c.file.now c.errors c.all) };
+
+    fn fmt<W: fmt::Write>(&self, f: &mut fmt::Formatter<W>) -> fmt::Result {
+        let CountLine { file, errors, all } = *self;
+        if all == 0 {
+            return Ok(());
+        }
+        let warnings = all.saturating_sub(errors);
+        let refused = Count {
+            count: errors,
+            name: "error",
+        };
+        let comma = comma(errors, warnings);
+        let warned = Count {
+            count: warnings,
+            name: "warning",
+        };
+        let shown = Shown(all);
+        write!(f, "lc3lab: {file}: {refused}{comma}{warned}{shown}\n")
+    }
+}
+
+/// The report with these messages, and behind them a line with their numbers, if there are any.
+fn counted(mut text: String, file: &str, errors: usize, all: usize) -> Result<Report, AllocError>
+    ensures numbers { IfOk result (λ r. (r.errors ≡ errors) × (r.warnings ≡ all - errors)) }
+    ensures text { IfOk result (λ r. string_bytes r.text
+        ≡ string_bytes text ++ count_line file.now errors all) }
+{
+    let line = CountLine { file, errors, all };
+    write!(text, "{line}")?;
+    let warnings = all.saturating_sub(errors);
     Ok(Report {
         text,
         errors,
@@ -71,20 +126,29 @@ fn counted(
     })
 }
 
+/// The messages about what was found, one behind the other.
+fn messages(source: &Source<'_>, file: &str, told: &[Told]) -> Result<String, AllocError>
+    ensures messages { IfOk result (λ text.
+        AreMessages file.now (map finding_told told.now) (string_bytes text)) }
+{
+    let mut text = String::new(source.alloc);
+    for one in told {
+        let line = source.line(one.line);
+        text.push_str(&message_on(source.alloc, file, line, one)?)?;
+    }
+    Ok(text)
+}
+
 fn report_of(file: &str, source: &Source<'_>, findings: &[Finding]) -> Result<Report, AllocError>
     ensures errors { IfOk result (λ r. r.errors ≡ error_count findings.now) }
     ensures warnings { IfOk result (λ r.
         r.warnings ≡ length findings.now - error_count findings.now) }
+    ensures written { IfOk result (λ r.
+        AreReport file.now findings.now (string_bytes r.text)) }
 {
-    let errors = error_count(findings);
-    let warnings = findings.len().saturating_sub(errors);
     let told = tell(source, first_findings(findings))?;
-    let mut text = String::new(source.alloc);
-    for told in &told {
-        let line = source.line(told.line);
-        write!(text, "{}", Message { file, line, told })?;
-    }
-    counted(text, file, errors, warnings)
+    let text = messages(source, file, &told)?;
+    counted(text, file, error_count(findings), findings.len())
 }
 
 /// The report about bytes that are text up to this place, and no text behind it.
@@ -95,21 +159,29 @@ fn no_text_report(
     place: usize,
 ) -> Result<Report, AllocError>
     ensures one { IfOk result (λ r. (r.errors ≡ 1) × (r.warnings ≡ 0)) }
+    ensures written { IfOk result (λ r. AreNoTextReport file.now (string_bytes r.text)) }
 {
     let (front, rest) = bytes.split_at(place.min(bytes.len()));
     let front = std::str::from_utf8(front).unwrap_or("");
-    let line = front.split('\n').count();
     let last = front.rsplit('\n').next().unwrap_or("");
-    let column = last.chars().count().saturating_add(1);
-    let text = match (bytes, rest.first()) {
-        ([0xFF, 0xFE, ..] | [0xFE, 0xFF, ..], _) | (_, None) => format!(in alloc;
-            "{file}:{line}:{column}: error: the file is UTF-16; save it as UTF-8 [NotUtf8]\n"
-        ),
-        (_, Some(byte)) => format!(in alloc;
-            "{file}:{line}:{column}: error: the byte x{byte:02X} is no UTF-8; save the file as UTF-8 [NotUtf8]\n"
-        ),
+    let words = match (bytes, rest.first()) {
+        ([0xFF, 0xFE, ..] | [0xFE, 0xFF, ..], _) | (_, None) => {
+            String::from_str(alloc, "the file is UTF-16; save it as UTF-8")
+        }
+        (_, Some(byte)) => {
+            format!(in alloc; "the byte x{byte:02X} is no UTF-8; save the file as UTF-8")
+        }
     }?;
-    counted(text, file, 1, 0)
+    let message = Message {
+        file,
+        line: front.split('\n').count(),
+        column: last.chars().count().saturating_add(1),
+        heading: "error",
+        words: words.as_str(),
+        name: String::from_str(alloc, "NotUtf8")?,
+        below: String::new(alloc),
+    };
+    counted(format!(in alloc; "{message}")?, file, 1, 1)
 }
 
 /// All messages about the bytes of a source, by its lines, and behind them a line with their numbers. `file` is the name of
@@ -128,6 +200,12 @@ pub fn report_on(
         (map (λ name. name.now) wish.entry.allowed.now) bytes.now)) }
     ensures no_text { IfOk result (λ r. ¬ (IsUtf8 bytes.now)
         → (r.errors ≡ 1) × (r.warnings ≡ 0)) }
+    ensures text { IfOk result (λ r. r.errors ≡ 0 → IsUtf8 bytes.now) }
+    ensures written { IfOk result (λ r. IsUtf8 bytes.now
+        → AreReportOn wish.entry.profile (map (λ name. name.now) wish.entry.allowed.now)
+        file.now bytes.now (string_bytes r.text)) }
+    ensures no_text_written { IfOk result (λ r. ¬ (IsUtf8 bytes.now)
+        → AreNoTextReport file.now (string_bytes r.text)) }
 {
     match std::str::from_utf8(bytes) {
         Ok(content) => {
@@ -142,44 +220,88 @@ pub fn report_on(
 /// The most characters of a line that is written below its message.
 const LENGTH: usize = 200;
 
-/// Writes a line as it is shown, and below it a `^` for each character of a part.
-fn write_marked<W: fmt::Write>(f: &mut fmt::Formatter<W>, line: &str, mark: Span) -> fmt::Result {
-    for character in line.chars() {
-        f.write_char(picture(character))?;
+/// A line as it is shown, and below it a `^` for each character of a part; nothing where the line is long, or the part empty.
+fn marked(alloc: Global, line: &str, mark: Span) -> Result<String, AllocError> {
+    let mut text = String::new(alloc);
+    let is_short = line.chars().nth(LENGTH).is_none();
+    if !is_short || mark.start >= mark.end || mark.end > line.len() {
+        return Ok(text);
     }
-    f.write_char('\n')?;
+    for character in line.chars() {
+        text.push(picture(character))?;
+    }
+    text.push('\n')?;
     for character in line.get(..mark.start).unwrap_or("").chars() {
-        f.write_char(if character == '\t' { '\t' } else { ' ' })?;
+        text.push(if character == '\t' { '\t' } else { ' ' })?;
     }
     for _ in line.get(mark.start..mark.end).unwrap_or("").chars() {
-        f.write_char('^')?;
+        text.push('^')?;
     }
-    f.write_char('\n')
+    text.push('\n')?;
+    Ok(text)
 }
 
-/// What is told of a line of this file.
-#[derive(Clone, Copy)]
-struct Message<'a> {
-    pub file: &'a str,
-    pub line: &'a str,
-    pub told: &'a Told,
+/// What a message about it is.
+fn heading_of(what: What) -> &'static str
+    ensures heading { result.now ≡ heading_of what }
+{
+    match what {
+        What::Fault(_) => "error",
+        What::Warning(_) => "warning",
+    }
 }
 
-impl fmt::Display for Message<'_> {
+/// The name of what was found.
+fn found_name(alloc: Global, what: What) -> Result<String, AllocError> {
+    match what {
+        What::Fault(fault) => format!(in alloc; "{fault:?}"),
+        What::Warning(kind) => String::from_str(alloc, kind.name()),
+    }
+}
+
+/// A message as it is written: its place, what it is, its words and its name, and what stands below it.
+#[derive(Drop)]
+struct Message<'f, 'w> {
+    file: &'f str,
+    line: usize,
+    column: usize,
+    heading: &'static str,
+    words: &'w str,
+    name: String,
+    below: String,
+}
+
+impl fmt::Display for Message<'_, '_> {
+    ghost output = { λ m. Some (message_text m.file.now m.line m.column m.heading.now m.words.now
+        (string_bytes m.name) (string_bytes m.below)) };
+
     fn fmt<W: fmt::Write>(&self, f: &mut fmt::Formatter<W>) -> fmt::Result {
-        let (file, line, mark) = (self.file, self.line, self.told.mark);
-        let before = line.get(..mark.start).unwrap_or("").chars().count();
-        let column = before.saturating_add(1);
-        write!(f, "{file}:{}:{column}: ", self.told.line)?;
-        let text = self.told.text.as_str();
-        match self.told.what {
-            What::Fault(fault) => write!(f, "error: {text} [{fault:?}]\n"),
-            What::Warning(kind) => write!(f, "warning: {text} [{}]\n", kind.name()),
-        }?;
-        let is_short = line.chars().nth(LENGTH).is_none();
-        if is_short && mark.start < mark.end && mark.end <= line.len() {
-            write_marked(f, line, mark)?;
-        }
-        Ok(())
+        let (file, line, column) = (self.file, self.line, self.column);
+        let (heading, words) = (self.heading, self.words);
+        let (name, below) = (&self.name, &self.below);
+        write!(
+            f,
+            "{file}:{line}:{column}: {heading}: {words} [{name}]\n{below}"
+        )
     }
+}
+
+/// The message about what was found in a line of a file, and below it that line, if it is shown.
+fn message_on(alloc: Global, file: &str, line: &str, told: &Told) -> Result<String, AllocError>
+    ensures message { IfOk result (λ text.
+        IsMessage file.now (finding_told told.now) (string_bytes text)) }
+{
+    let before = line.get(..told.mark.start).unwrap_or("").chars().count();
+    let name = found_name(alloc, told.what)?;
+    let below = marked(alloc, line, told.mark)?;
+    let message = Message {
+        file,
+        line: told.line,
+        column: before.saturating_add(1),
+        heading: heading_of(told.what),
+        words: told.text.as_str(),
+        name,
+        below,
+    };
+    format!(in alloc; "{message}")
 }

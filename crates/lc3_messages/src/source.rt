@@ -3,9 +3,8 @@ ghost use Rattle.std.specs.Prelude.{◌≡◌, IfOk, ◌++◌, true, [], length,
 ghost use Rattle.lc3_asm.specs.Faults.{reading, faults_of};
 ghost use Rattle.lc3_asm.specs.Texts.{lines};
 ghost use Rattle.std.specs.List.Sorted.{IsNonDecreasingBy};
-ghost use Rattle.lc3_messages.specs.Counts.{is_among, without, told_warnings};
+ghost use Rattle.lc3_messages.specs.Counts.{is_among, without, told_warnings, error_count};
 ghost use Rattle.lc3_messages.specs.Told.{names_a_label, AreFrom, finding_of_warning, Tells};
-ghost use Rattle.lc3_messages.specs.Private.Errors.{error_count};
 
 use crate::operations::{name_of, upper};
 use crate::parts::{Faulty, NOTHING, Part, faulty_part, parts_of};

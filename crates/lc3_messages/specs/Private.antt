@@ -1,2 +1,0 @@
--- Definitions that only contracts inside the crate cite.
-pub mod Errors
