@@ -7,9 +7,10 @@ from .calling import TASKS, example
 
 PLACE = Path(__file__).parent
 SEEDS = ["gate", "lane", "yard"]
-# so many answers there are at least, and so many wrong ones for each task
+# so many answers there are at least, so many wrong ones for each task, and of these so many of the kinds of refused.toml
 LEAST = {"pass": 20, "fail": 150}
 WRONG = 8
+OF_KINDS = 4
 
 
 def look_at_task(check, task, expected, seed, found):
@@ -45,6 +46,7 @@ def look(check, grader):
     for task in TASKS.glob("*.toml"):
         marks = [it["mark"] for it in asked.get(task.stem, {}).values()]
         check("pass" in marks and marks.count("fail") >= WRONG, f"{task.name}: no answer that passes, or too few that fail")
+        check(sum(it["task"] == task.stem for it in refused) >= OF_KINDS, f"{task.name}: too few answers in refused.toml")
     for mark, least in LEAST.items():
         count = sum(it["mark"] == mark for it in answers)
         check(count >= least, f"{count} answers that {mark}")
