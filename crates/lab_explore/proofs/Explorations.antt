@@ -1,5 +1,5 @@
 -- Explorations: what the parts of one say together.
-use Rattle.std.proofs.Common.{ℕ, Bool, true, false, All, arith, count_by, ◌≡◌, ◌≤◌, ◌+◌, ◌++◌, [], ◌∷◌, slice_get, List, Some, refl, sym, ap, subst, ◌∙◌, length}
+use Rattle.std.proofs.Common.{ℕ, Bool, true, false, All, arith, count_by, ◌≡◌, ◌≤◌, ◌+◌, ◌++◌, [], ◌∷◌, slice_get, List, Option, Some, refl, sym, ap, subst, ◌∙◌, length}
 use Rattle.ipc_kernel.specs.Alike.{IsConsistent}
 use Rattle.lab_worlds.specs.Calls.{AreAlike}
 use Rattle.lab_worlds.proofs.AlikeWorlds.{world_then, world_back, one_verdict, consistent_run}
@@ -9,7 +9,11 @@ use Rattle.lab_sched.specs.Verdicts.{IsVerdict, IsWaiting, HasEnded, AreStuck, i
 use Rattle.lab_sched.specs.declared.verdict.Verdict.{Verdict}
 use Rattle.lab_sched.specs.declared.verdict.Verdict.TheVariants as verdict
 use Rattle.lab_search.specs.declared.store.Store.{Store}
+use Rattle.lab_conditions.specs.declared.never.Never.{Never}
 use Rattle.lab_worlds.specs.declared.ends.End.{End}
+use Rattle.lab_worlds.specs.declared.exploration.Exploration.{Exploration}
+use Rattle.lab_worlds.specs.declared.exploration.Met.{Met}
+use Rattle.lab_explore.specs.Private.Explored.{IsExplored}
 use Rattle.lab_worlds.specs.Closed.{AreAtRest}
 use Rattle.lab_worlds.specs.Unwaiting.{NoneGoesOn, unwaiting, AskAgain}
 use Rattle.lab_search.specs.Stored.{IsAt, IsLike, IsSearched}
@@ -36,6 +40,26 @@ use Rattle.lab_search.proofs.ReducedBounds.{by_reduction_bounded}
 use Rattle.lab_worlds.proofs.HeldAdvances.{asks_run, reaches_end}
 use Rattle.lab_worlds.proofs.WalkedEnds.{verdict_rests}
 use Rattle.lab_explore.proofs.MetWorlds.{IsStart}
+
+-- an exploration is one whatever it says that it met
+pub explored_met : (start : WorldState) (nevers : List Never) (fair : Bool) (e : Exploration) (met : Option Met) → IsExplored start nevers fair e → IsExplored start nevers fair (record e { met = met })
+explored_met start nevers fair e met h = record {
+  sound = h.sound;
+  ordered = h.ordered;
+  complete = h.complete;
+  fewest = h.fewest;
+  free = h.free;
+  reached = h.reached;
+  unreached = h.unreached;
+  lasso = h.lasso;
+  repeats = h.repeats;
+  endless = h.endless;
+  bounded = h.bounded;
+  fair_asked = h.fair_asked;
+  fair_lasso = h.fair_lasso;
+  fairly_endless = h.fairly_endless;
+  fairly_bounded = h.fairly_bounded;
+}
 
 -- a search that isn't reduced holds each step
 pub whole_search : (reduced : Bool) (start : WorldState) (t : Store) → reduced ≡ false → IsSearchedIn reduced start t → IsSearched start t

@@ -2,6 +2,7 @@
 ghost use Rattle.std.specs.Prelude.{◌≡◌, All, false, IfOk, IsTrue};
 ghost use Rattle.lab_sched.specs.Starts.{AreStarts, initial_world};
 ghost use Rattle.lab_sched.specs.Worlds.{WorldState};
+ghost use Rattle.lab_worlds.specs.Met.{IsCutShort};
 ghost use Rattle.lab_explore.specs.Visits.{start_of, IsVisited};
 ghost use Rattle.lab_explore.specs.Private.Explored.{IsExplored};
 ghost use Rattle.lab_explore.specs.Private.Keeping.{KeepsReduction};
@@ -47,11 +48,13 @@ impl Visited {
         requires fair { IsTrue self.reduced → fair ≡ false }
         ensures explored { IfOk result (λ found.
             IsExplored (start_of self) nevers.now fair found.exploration) }
+        ensures met { IfOk result (λ found. found.exploration.complete ≡ false
+            → IsCutShort (start_of self) limits found.exploration) }
         ensures processes { IfOk result (λ found.
             found.processes.items ≡ self.processes.items) }
     {
         let reduced = self.reduced;
-        let report = self.report(alloc, limits, nevers, fair, workers);
+        let report = self.report_whole(alloc, limits, nevers, fair, workers);
         let processes = self.into_processes(alloc);
         match report {
             Ok(exploration) => Ok(Report {
@@ -82,7 +85,7 @@ fn explore_whole<O: Observer, R: Threads + Sync>(
         (IsExplored (initial_world processes.items) nevers.now fair) }
 {
     let visited = visit_from(alloc, processes, limits, observer, false)?;
-    let report = visited.report(alloc, limits, nevers, fair, workers);
+    let report = visited.report_whole(alloc, limits, nevers, fair, workers);
     discard(visited);
     Ok(report?)
 }
@@ -109,8 +112,12 @@ impl Report {
         requires starts { AreStarts self.processes.items }
         requires explored { IsExplored (initial_world self.processes.items) nevers.now fair
             self.exploration }
+        requires met { self.exploration.complete ≡ false
+            → IsCutShort (initial_world self.processes.items) limits self.exploration }
         ensures explored { IfOk result
             (IsExplored (initial_world self.processes.items) nevers.now fair) }
+        ensures met { IfOk result (λ found. found.complete ≡ false
+            → IsCutShort (initial_world self.processes.items) limits found) }
     {
         let others = self.has_others();
         let Report {

@@ -2,6 +2,7 @@
 ghost use Rattle.std.specs.Prelude.{◌≡◌, All, IsTrue, false, None, IfOk, IfSome, length, ◌≤◌, ◌+◌, OnOk};
 ghost use Rattle.std.specs.List.Sorted.{IsNonDecreasingBy};
 ghost use Rattle.lab_worlds.specs.Ends.{AreEnds, HaveAllEnds, HaveFewestCalls, NoneStuck, NeverStuck, IsEnd};
+ghost use Rattle.lab_worlds.specs.Met.{IsCutShort};
 ghost use Rattle.lab_worlds.specs.Reached.{AreReached, AreKept};
 ghost use Rattle.lab_worlds.specs.Lassos.{IsLasso, CanBeRepeated, AreEndless, AreBounded};
 ghost use Rattle.lab_worlds.specs.Fairness.{IsFairLasso, AreFairlyEndless, AreFairlyBounded};
@@ -46,7 +47,9 @@ use std::thread::Threads;
 /// exploration is complete and has no lasso, each list of effective steps ends, after no more than
 /// some number of them. If only fair lassos are asked for, each process takes a step in a lasso or has
 /// no effective one at some world along it; where the exploration is complete and has none, no more
-/// than some number of such segments can follow each other. The observer is told of the worlds as they
+/// than some number of such segments can follow each other. An exploration that isn't complete met the
+/// limit of worlds, of steps, with the process that goes on so long, or of memory, or memory was
+/// refused: a check that fails is an error. The observer is told of the worlds as they
 /// are visited; workers judge conditions side by side, and what is found doesn't depend on them.
 pub fn explore<O: Observer, R: Threads + Sync>(
     alloc: Global,
@@ -80,6 +83,8 @@ pub fn explore<O: Observer, R: Threads + Sync>(
         → IfSome found.lasso (λ r. AreFairlyEndless fresh)) }
     ensures fairly_bounded { IfOk result (λ found. IsTrue fair → IsTrue found.complete
         → found.lasso ≡ None → AreFairlyBounded fresh) }
+    ensures met { IfOk result (λ found.
+        found.complete ≡ false → IsCutShort fresh limits found) }
 {
     // worlds that no end needs may be left out where nothing is asked of each world
     let reduced = both(keep_reduction(nevers), !fair);
@@ -90,9 +95,34 @@ pub fn explore<O: Observer, R: Threads + Sync>(
 }
 
 impl Visited {
+    /// What was found, with what the search met, if it doesn't show all.
+    pub(crate) fn report_whole<R: Threads + Sync>(
+        &self,
+        alloc: Global,
+        limits: Limits,
+        nevers: &[Never],
+        fair: bool,
+        workers: &Workers<'_, R>,
+    ) -> Result<Exploration, ExploreFault>
+        requires visited { IsVisited self.now }
+        requires asked { IsTrue self.now.reduced → All KeepsReduction nevers.now }
+        requires fair { IsTrue self.now.reduced → fair ≡ false }
+        ensures explored { IfOk result (IsExplored (start_of self.now) nevers.now fair) }
+        ensures met { IfOk result (λ found.
+            found.complete ≡ false → IsCutShort (start_of self.now) limits found) }
+    {
+        let mut found = self.report(alloc, limits, nevers, fair, workers)?;
+        if found.complete {
+            return Ok(found);
+        }
+        let met = self.met(alloc, limits, &found)?;
+        found.met = Some(met);
+        Ok(found)
+    }
+
     /// What was found, with the ends, as far as the memory allows, steps to what must never be so, and a
     /// lasso, if there is one.
-    pub(crate) fn report<R: Threads + Sync>(
+    fn report<R: Threads + Sync>(
         &self,
         alloc: Global,
         limits: Limits,
@@ -118,7 +148,7 @@ impl Visited {
             fair,
             worlds: u32::try_from(self.store.rows.len()).unwrap_or(u32::MAX),
             complete: both(self.complete, both(whole, shown)),
-            refused: self.refused,
+            met: None,
         })
     }
 }

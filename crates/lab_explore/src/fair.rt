@@ -20,7 +20,8 @@ use lab_worlds::{ClosedWalk, ExploreFault, FairSegment, Lasso, Walk, WalkPart, a
 use std::alloc::Global;
 use std::mem::replace;
 
-/// A lasso, if there is one, and whether it is shown that there is none if it isn't told.
+/// A lasso, if there is one, and whether it is shown that there is none if it isn't told, as it must be
+/// if the search is complete.
 #[derive(Drop)]
 pub(crate) struct Lassos {
     pub lasso: Option<Lasso>,
@@ -115,6 +116,7 @@ impl Visited {
         if let Some(at) = sets.first_fair() {
             let lasso = self.fair_lasso(alloc, &sets, at)?;
             let shown = lasso.is_some();
+            self.vouch(shown)?;
             return Ok(Lassos { lasso, shown });
         }
         if !self.complete {
@@ -125,7 +127,16 @@ impl Visited {
         }
         let starved_processes = sets.starved_processes(alloc)?;
         let shown = self.are_ranked(sets.of_rows.as_slice(), starved_processes.as_slice());
+        self.vouch(shown)?;
         Ok(Lassos { lasso: None, shown })
+    }
+
+    /// What isn't shown of a search that is complete is an error.
+    fn vouch(&self, shown: bool) -> Result<(), ExploreFault> {
+        if self.complete && !shown {
+            return Err(ExploreFault::Unvouched);
+        }
+        Ok(())
     }
 }
 

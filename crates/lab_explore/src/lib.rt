@@ -6,6 +6,7 @@ mod exploring;
 mod fair;
 mod judging;
 mod keeping;
+mod met;
 mod reached;
 mod refusals;
 mod ways;

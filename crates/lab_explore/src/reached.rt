@@ -218,8 +218,7 @@ fn first_loss(store: &Store, alloc: Global) -> Result<Option<Turn>, ExploreFault
 
 /// What a search from the start of a laboratory found, of which is told what it shows: the processes
 /// at their starts, the worlds and the moves between them, the local steps of each process before
-/// them, and whether these are all, or in a reduced search as many as show every end. If they aren't,
-/// memory may have been refused.
+/// them, and whether these are all, or in a reduced search as many as show every end.
 #[derive(Drop)]
 pub struct Visited {
     pub processes: Vec<Process>,
@@ -227,7 +226,6 @@ pub struct Visited {
     pub firsts: Vec<u32>,
     pub reduced: bool,
     pub complete: bool,
-    pub refused: bool,
 }
 
 /// What a search from processes at their starts visits, as far as the limits allow: every world that
@@ -260,7 +258,6 @@ pub(crate) fn visit_from<O: Observer>(
         firsts: search.firsts,
         reduced: search.reduced,
         complete: search.complete,
-        refused: search.refused,
     })
 }
 

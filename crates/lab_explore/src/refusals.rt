@@ -15,7 +15,7 @@ use lab_conditions::Refusal;
 use lab_sched::{Process, Stepped, take_step};
 use lab_search::Store;
 use lab_states::{are_near, depth_of};
-use lab_worlds::ExploreFault;
+use lab_worlds::{ExploreFault, waits};
 use std::alloc::Global;
 
 fn alone_at(store: &Store, alloc: Global, at: usize, pid: u32) -> Result<Alone, ExploreFault>
@@ -268,12 +268,6 @@ impl Alone {
             found => Ok(found),
         }
     }
-}
-
-fn waits(process: &Process) -> bool
-    ensures held { result ≡ false → IsHeld process.now }
-{
-    matches!(process, Process::Waiting(_, _))
 }
 
 /// A process that doesn't wait over a kernel of which it is one.

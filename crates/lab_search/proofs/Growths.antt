@@ -208,6 +208,11 @@ pub closed : (t u : Store) → IsStore t → u ≡ record t { row_index = u.row_
 closed t u s same =
     subst (IsLater t) (sym same) (later_by t (record t { row_index = u.row_index }) s (kept_same t.kernels) (inl refl) (inl refl) (inl refl) (still_known t s))
 
+-- what stopped the search is no part of what it holds
+pub stopped : (t u : Store) → IsStore t → u ≡ record t { stop = u.stop } → IsLater t u
+stopped t u s same =
+    subst (IsLater t) (sym same) (later_by t (record t { stop = u.stop }) s (kept_same t.kernels) (inl refl) (inl refl) (inl refl) (still_known t s))
+
 pub row_pushed : (t u : Store) (r : Row) (w : WorldState) (n : ℕ) → Grows t u → u.rows ≡ t.rows ++ r ∷ [] → n ≡ length t.rows → IsRow t r w → IsAt u n w
 row_pushed t u r w n g rows is h =
     (r, ap (λ xs. slice_get xs n) rows ∙ ap (λ m. slice_get (t.rows ++ r ∷ []) m) is ∙ get_pushed t.rows r, row_grows t u r w g h)

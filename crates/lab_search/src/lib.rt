@@ -10,4 +10,4 @@ mod uses;
 
 pub use moves::both;
 pub use search::{Search, search_all};
-pub use store::{KnownSteps, Store};
+pub use store::{KnownSteps, Stop, Store};

@@ -6,7 +6,7 @@ ghost use Rattle.lab_search.specs.Stored.{IsStore, AreKnown, LeadsTo, HasEdge, I
 ghost use Rattle.lab_search.specs.Private.Stored.{IsLater, IsAfter, IsStep};
 ghost use Rattle.lab_states.specs.Rows.{Row, row_of};
 
-use crate::store::{KnownSteps, Mover, Next, Store};
+use crate::store::{KnownSteps, Mover, Next, Stop, Store};
 use ipc_store::are_with;
 use lab_states::{Edge, Parent, digest_after, digest_of, place_of};
 use lab_worlds::{ExploreFault, Limits};
@@ -30,6 +30,14 @@ fn edge_of(from: usize, to: usize, pid: u32) -> Option<Edge>
     let to = u32::try_from(to).ok()?;
     let pid = u8::try_from(pid).ok()?;
     Some(Edge { from, to, pid })
+}
+
+/// What stops a search where a process goes on without a call after its step from the world of a row.
+fn stop_of(next: Next, at: usize, pid: u32) -> Option<Stop> {
+    match next {
+        Next::Limit => Some(Stop::Steps { row: Some(at), pid }),
+        Next::Nothing | Next::To { .. } => None,
+    }
 }
 
 impl Store {
@@ -85,6 +93,7 @@ impl Store {
             return Ok(next);
         }
         let next = self.make_move(mover, most)?;
+        self.stop_by(stop_of(next, at, pid));
         Ok(next)
     }
 

@@ -11,25 +11,24 @@ ghost use Rattle.lab_sched.specs.Stepping.{before_wait};
 ghost use Rattle.lab_worlds.specs.Unwaiting.{unwaiting};
 
 use crate::moves::both;
-use crate::store::Store;
+use crate::store::{Stop, Store};
 use ipc_kernel::Kernel;
 use ipc_store::{ProcessUse, is_alike};
 use lab_sched::{Process, World};
+use lab_states::place_of;
 use lab_worlds::{
     ExploreFault, Limits, Observer, advance, copy_before_wait, discard, none_waits, waits,
 };
 use std::alloc::{AllocError, Global};
 
 /// What a search found: the worlds and the moves between them, the local steps of each process before
-/// them, and whether these are all, or in a reduced search as many as show every end. If they aren't,
-/// memory may have been refused.
+/// them, and whether these are all, or in a reduced search as many as show every end.
 #[derive(Drop)]
 pub struct Search {
     pub store: Store,
     pub firsts: Vec<u32>,
     pub reduced: bool,
     pub complete: bool,
-    pub refused: bool,
     /// Whether processes do with objects what isn't among the uses.
     again: bool,
 }
@@ -56,6 +55,8 @@ impl Store {
             let ahead = advance(self.alloc, process.copy(self.alloc)?, limits.steps)?;
             if !ahead.at_call {
                 discard(ahead);
+                let pid = place_of(firsts.len())?;
+                self.stop_by(Some(Stop::Steps { row: None, pid }));
                 return Ok(None);
             }
             let state = self.states.keep(self.alloc, ahead.process)?;
@@ -89,8 +90,13 @@ impl Store {
             if at >= self.rows.len() {
                 return Ok(whole);
             }
-            let unlinks = reduced && self.states.unlinks();
-            if unlinks || self.size() > limits.memory {
+            if reduced && self.states.unlinks() {
+                return Ok(false);
+            }
+            let bytes = self.size();
+            let full = bytes > limits.memory;
+            if full {
+                self.stop_by(Some(Stop::Memory(bytes)));
                 return Ok(false);
             }
             observer.see(at, self.rows.len() - at);
@@ -136,7 +142,7 @@ impl Search {
                 Ok(())
             }
             Err(ExploreFault::NoMemory) => {
-                self.refused = true;
+                self.store.stop = Some(Stop::Refused);
                 Ok(())
             }
             Err(fault) => Err(fault),
@@ -166,7 +172,6 @@ fn search_in<O: Observer>(
         firsts: Vec::new(alloc),
         reduced,
         complete: false,
-        refused: false,
         again: false,
     };
     match search.fill(processes, kernel, limits, observer, uses) {

@@ -65,6 +65,18 @@ impl Next {
     }
 }
 
+/// What keeps a search from visiting every world, if it isn't how many worlds there are.
+#[derive(Clone, Copy, Drop)]
+pub enum Stop {
+    /// A process that takes as many local steps in a row as it may: after its step from the world of a
+    /// row, or before its first call.
+    Steps { row: Option<usize>, pid: u32 },
+    /// About so many bytes, which are more than it may take.
+    Memory(usize),
+    /// Memory was refused.
+    Refused,
+}
+
 /// Kernels, states of processes at calls, and worlds, each of which is kept once, the edges between
 /// the worlds, in the order of those that they lead from, and the moves that were made.
 #[derive(Drop)]
@@ -75,6 +87,8 @@ pub struct Store {
     /// For each row the one from which it was reached first.
     pub parents: Parents,
     pub edges: Edges,
+    /// What stopped the search first.
+    pub stop: Option<Stop>,
     pub(crate) moves: Moves,
     pub(crate) row_index: Index,
     pub(crate) alloc: Global,
@@ -95,6 +109,7 @@ impl Store {
             rows: Rows::new(alloc, processes),
             parents: Parents::new(alloc),
             edges: Edges::new(alloc),
+            stop: None,
             moves: Moves::new(alloc, Index::none(alloc)),
             row_index: Index::none(alloc),
             alloc,
@@ -113,6 +128,13 @@ impl Store {
             .saturating_add(ROW.saturating_mul(self.rows.len()))
             .saturating_add(self.edges.size())
             .saturating_add(self.moves.size())
+    }
+
+    /// Keeps what stopped the search, if something did and nothing had before.
+    pub(crate) fn stop_by(&mut self, stop: Option<Stop>)
+        ensures same { self.new ≡ record self.old { stop = self.new.stop } }
+    {
+        self.stop = self.stop.or(stop);
     }
 
     /// Lets go of what only a search needs that goes on. No world, state or kernel is looked for any more.

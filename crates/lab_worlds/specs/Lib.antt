@@ -8,6 +8,7 @@ pub mod Fairness
 pub mod Reached
 pub mod Operands
 pub mod Errors
+pub mod Met
 pub mod Stepped
 pub mod Walked
 pub mod Segments

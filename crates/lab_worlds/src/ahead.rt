@@ -116,6 +116,7 @@ pub(crate) fn run_on(alloc: Global, process: &mut Process, most: u32) -> Result<
     ensures at_call { IfOk result (λ r. IsTrue r.at_call → IsAtCall (process_view process.new)) }
     ensures held { IsHeld process.new }
     ensures within { IfOk result (λ r. r.taken ≤ most) }
+    ensures long { IfOk result (λ r. r.at_call ≡ false → r.taken ≡ most) }
 {
     let mut taken = 0;
     let mut errors = Errors::No;
@@ -151,6 +152,7 @@ pub fn advance(alloc: Global, mut process: Process, most: u32) -> Result<Ahead, 
     ensures at_call { IfOk result (λ a. IsTrue a.at_call → IsAtCall (process_view a.process)) }
     ensures held { IfOk result (λ a. IsHeld a.process) }
     ensures within { IfOk result (λ a. a.taken ≤ most) }
+    ensures long { IfOk result (λ a. a.at_call ≡ false → a.taken ≡ most) }
 {
     if !matches!(process, Process::Running(_)) {
         return Ok(Ahead {

@@ -1,5 +1,6 @@
 //! What an exploration found.
 ghost use Rattle.std.specs.Prelude.{◌≡◌};
+ghost use Rattle.lab_worlds.specs.Met.{is_refused};
 ghost use Rattle.lab_worlds.specs.declared.exploration.ExploreFault.TheVariants.{NoMemory};
 
 use crate::ends::End;
@@ -10,8 +11,7 @@ use thiserror::Error;
 
 /// What the programs of a laboratory can come to: their ends, for each thing that must never be so
 /// steps to it, if there are any, a lasso, if they can go on for ever, how many worlds were visited,
-/// and whether these are all. Where they aren't, the search may have come to its end because memory
-/// was refused.
+/// and whether these are all. Where a search doesn't show that they are, it has what it met.
 #[derive(Drop)]
 pub struct Exploration {
     pub ends: Vec<End>,
@@ -21,7 +21,38 @@ pub struct Exploration {
     pub fair: bool,
     pub worlds: u32,
     pub complete: bool,
-    pub refused: bool,
+    pub met: Option<Met>,
+}
+
+impl Exploration {
+    /// Whether memory was refused on the way.
+    pub fn is_refused(&self) -> bool
+        ensures refused { result ≡ is_refused self.now }
+    {
+        matches!(self.met, Some(Met::Refused))
+    }
+}
+
+/// What keeps a search from visiting every world.
+#[derive(Clone, Copy, Drop)]
+pub enum Met {
+    /// As many worlds as it may visit.
+    Worlds,
+    /// A process that goes on without a call for as many steps as it may.
+    Steps(LongRun),
+    /// About so many bytes, which are more than it may take.
+    Memory(usize),
+    /// Memory was refused.
+    Refused,
+}
+
+/// Where a process stands after as many local steps in a row as it may take: the address of its next
+/// instruction, and the word there.
+#[derive(Clone, Copy, Drop)]
+pub struct LongRun {
+    pub pid: usize,
+    pub pc: u16,
+    pub word: u16,
 }
 
 /// A schedule that leads to a world, and steps from that world to one alike, at least one. They can

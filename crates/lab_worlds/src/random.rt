@@ -5,7 +5,7 @@ ghost use Rattle.lab_worlds.specs.Ends.{IsEnd, AreEnds};
 ghost use Rattle.lab_sched.specs.Held.{IsHeld};
 
 use crate::ends::{End, end_of};
-use crate::exploration::{Exploration, ExploreFault, Limits, Observer};
+use crate::exploration::{Exploration, ExploreFault, Limits, Met, Observer};
 use crate::random_walker::{Generator, RandomWalker};
 use crate::walking::Walk;
 use lab_sched::{Fresh, Process, Schedule};
@@ -55,9 +55,9 @@ pub fn walk_randomly<O: Observer>(
         size: 0,
         begun: 0,
     };
-    let refused = match gathering.take_all(&processes, limits, walks, observer) {
-        Ok(()) => false,
-        Err(ExploreFault::NoMemory) => true,
+    let met = match gathering.take_all(&processes, limits, walks, observer) {
+        Ok(()) => None,
+        Err(ExploreFault::NoMemory) => Some(Met::Refused),
         Err(fault) => return Err(fault),
     };
     Ok(Exploration {
@@ -67,7 +67,7 @@ pub fn walk_randomly<O: Observer>(
         fair: false,
         worlds: gathering.begun,
         complete: false,
-        refused,
+        met,
     })
 }
 

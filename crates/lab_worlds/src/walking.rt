@@ -3,17 +3,20 @@ ghost use Rattle.std.specs.Prelude.{◌≡◌, ◌≤◌, ◌+◌, ◌++◌, ◌
 ghost use Rattle.ipc_traps.specs.Asked.{Request};
 ghost use Rattle.lab_sched.specs.Worlds.{StepEffect, IsEffective, entry_of, step_effect_in, step};
 ghost use Rattle.lab_sched.specs.Schedules.{steps_of};
-ghost use Rattle.lab_sched.specs.Held.{stepped_of, told_in, process_view};
+ghost use Rattle.lab_sched.specs.Held.{IsHeld, stepped_of, told_in, process_view};
 ghost use Rattle.lab_sched.specs.Starts.{AreStarts, initial_world};
 ghost use Rattle.lab_sched.specs.declared.stepped.Stepped.TheVariants.{Same};
 ghost use Rattle.lab_conditions.specs.Losses.{receives, Loses};
 ghost use Rattle.lab_conditions.specs.Refusals.{Refuses};
 ghost use Rattle.lab_worlds.specs.Reached.{Breaks};
+ghost use Rattle.lab_worlds.specs.Met.{IsLongRun};
 ghost use Rattle.lab_worlds.specs.Walked.{waiting, IsWalk, KeepsStart};
 ghost use Rattle.lab_sched.specs.Verdicts.{is_waiting};
 ghost use Rattle.lab_worlds.specs.Unwaiting.{unwaiting};
 
-use crate::exploration::ExploreFault;
+use crate::ahead::advance;
+use crate::exploration::{ExploreFault, LongRun};
+use crate::random_walker::discard;
 use ipc_kernel::{Kernel, PROCESS_MAX};
 use lab_conditions::{Never, Refusal, is_receiving, messages_in};
 use lab_sched::{MOST_STEPS, Process, Schedule, Stepped, World};
@@ -226,6 +229,29 @@ impl Walk {
         Ok(())
     }
 
+    /// Where process `pid` stands after so many local steps from its world on, which it must have.
+    pub fn long_run(&self, alloc: Global, pid: usize, most: u32) -> Result<LongRun, ExploreFault>
+        ensures long { IfOk result (IsLongRun self.now.world most) }
+        ensures pid { IfOk result (λ r. r.pid ≡ pid) }
+    {
+        let Some(process) = self.world.process(pid) else {
+            return Err(ExploreFault::Unvouched);
+        };
+        if waits(process) {
+            return Err(ExploreFault::Unvouched);
+        }
+        let ahead = advance(alloc, process.copy(alloc)?, most)?;
+        let machine = ahead.process.machine();
+        let pc = machine.pc();
+        let word = machine.word(pc);
+        let at_call = ahead.at_call;
+        discard(ahead);
+        if at_call {
+            return Err(ExploreFault::Unvouched);
+        }
+        Ok(LongRun { pid, pc, word })
+    }
+
     /// Whether it has at most so many calls, and one more for each process that waits.
     pub fn is_within(&self, depth: u32) -> bool
         ensures yes { IsTrue result → self.now.calls ≤ depth + waiting self.now.world }
@@ -253,6 +279,7 @@ pub struct WayCall {
 /// Whether a process waits.
 pub fn waits(process: &Process) -> bool
     ensures value { result ≡ is_waiting (process_view process.now) }
+    ensures held { result ≡ false → IsHeld process.now }
 {
     matches!(process, Process::Waiting(_, _))
 }

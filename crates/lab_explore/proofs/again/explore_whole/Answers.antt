@@ -2,8 +2,8 @@ use Rattle.std.proofs.Common.{refl, subst}
 use Rattle.lab_explore.specs.Private.Explored.{IsExplored}
 use Rattle.lab_explore.proofs.again.explore_whole.Goals as goal
 
-pub report-report-requires : goal.report-report-requires
-report-report-requires g c =
+pub report_whole-report-requires : goal.report_whole-report-requires
+report_whole-report-requires g c =
     let told = c.in_ok-visited.ensures in
     let off = told.reduced refl in
     (record { shared = c.type_bounds.sync-R.shared }, (told.visited, (λ is. absurd (cc), λ is. absurd (cc))))

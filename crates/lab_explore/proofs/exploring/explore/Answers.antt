@@ -1,6 +1,7 @@
-use Rattle.std.proofs.Common.{IsTrue, sym, ap, subst, ◌∙◌}
+use Rattle.std.proofs.Common.{◌≡◌, IsTrue, false, sym, ap, subst, ◌∙◌}
 use Rattle.std.proofs.lemmas.Bool.{not-true}
 use Rattle.lab_sched.specs.Starts.{AreStarts, initial_world}
+use Rattle.lab_worlds.specs.Met.{IsCutShort}
 use Rattle.lab_explore.specs.Private.Explored.{IsExplored}
 use Rattle.lab_explore.proofs.Explorations.{asked_for}
 use Rattle.lab_explore.proofs.exploring.explore.Goals as goal
@@ -23,7 +24,10 @@ by_fewest_calls-requires g c =
       record { shared = c.type_bounds.sync-R.shared },
       (
         subst AreStarts same c.in_ok-visited.ensures.visited.starts,
-        subst (λ ps. IsExplored (initial_world ps) c.args.nevers.now c.args.fair first.first.exploration) same first.ensures.explored,
+        (
+          subst (λ ps. IsExplored (initial_world ps) c.args.nevers.now c.args.fair first.first.exploration) same first.ensures.explored,
+          subst (λ ps. first.first.exploration.complete ≡ false → IsCutShort (initial_world ps) c.args.limits first.first.exploration) same first.ensures.met,
+        ),
       ),
     )
 
@@ -48,4 +52,5 @@ returns g c =
       fair_lasso = told.fair_lasso;
       fairly_endless = told.fairly_endless;
       fairly_bounded = told.fairly_bounded;
+      met = subst (λ w. c.in_ok-found.found.complete ≡ false → IsCutShort w c.args.limits c.in_ok-found.found) start c.in_ok-found.ensures.met;
     }

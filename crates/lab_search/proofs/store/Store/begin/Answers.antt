@@ -3,7 +3,7 @@ use Rattle.lab_sched.specs.Held.{process_view}
 use Rattle.lab_sched.specs.LocalRun.{AreLocal}
 use Rattle.lab_search.specs.declared.store.Store.{Store}
 use Rattle.lab_worlds.specs.Stepped.{IsReady}
-use Rattle.lab_search.proofs.Growths.{grown_by, kept_same, later_by, later_more, kernel_grows, still_known}
+use Rattle.lab_search.proofs.Growths.{grown_by, kept_same, later_by, later_more, kernel_grows, still_known, stopped}
 use Rattle.lab_search.proofs.FirstWorlds.{begins_row, initial_more}
 use Rattle.lab_search.proofs.store.Store.begin.Goals as goal
 
@@ -48,3 +48,8 @@ returns-clause-later c = later_more c.args.self.now c.loop-process.self _ c.loop
 
 pub returns-then-not-kept-clause-later : goal.returns-then-not-kept-clause-later
 returns-then-not-kept-clause-later c = later_more c.args.self.now c.loop-process.self _ c.loop-process.invariant.later c.in_ok-kept.ensures.later
+
+pub returns-then-not-ahead-clause-later : goal.returns-then-not-ahead-clause-later
+returns-then-not-ahead-clause-later c =
+    let t = c.loop-process.self in
+    later_more c.args.self.now t c.stop_by.new.self c.loop-process.invariant.later (stopped t c.stop_by.new.self c.loop-process.invariant.later.store c.stop_by.ensures.same)
