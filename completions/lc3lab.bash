@@ -1,7 +1,7 @@
 # Completions of lc3lab for bash. README.md beside this file says how to install them.
 
 _lc3lab() {
-    local commands='check asm dis step trace run explore debug help'
+    local commands='check asm dis step trace run explore debug lsp help'
     local word=${COMP_WORDS[COMP_CWORD]} command=${COMP_WORDS[1]} options=
     COMPREPLY=()
     if [ "$COMP_CWORD" -eq 1 ]; then
@@ -41,7 +41,7 @@ _lc3lab() {
     case $command in
     check) options='--profile --werror --allow --help -h' ;;
     asm) options='--list --explain --profile --help -h' ;;
-    dis) options='--help -h' ;;
+    dis | lsp) options='--help -h' ;;
     step | debug) options='--profile --notes --quiet --help -h' ;;
     trace) options='--profile --notes --quiet --page --source --help -h' ;;
     run) options='--profile --notes --quiet --limit --mix --plain --page --help -h' ;;

@@ -8,6 +8,7 @@ complete -c lc3lab -f -n __fish_use_subcommand -a trace -d 'Shows what happens i
 complete -c lc3lab -f -n __fish_use_subcommand -a run -d 'Runs programs on threads'
 complete -c lc3lab -f -n __fish_use_subcommand -a explore -d 'Visits every interleaving of programs'
 complete -c lc3lab -f -n __fish_use_subcommand -a debug -d 'Runs programs by commands, which also show them'
+complete -c lc3lab -f -n __fish_use_subcommand -a lsp -d 'Answers questions of an editor about sources'
 complete -c lc3lab -f -n __fish_use_subcommand -a help -d 'Prints help'
 complete -c lc3lab -s h -l help -d 'Prints help'
 complete -c lc3lab -n __fish_use_subcommand -s V -l version -d 'Prints the version'
@@ -55,4 +56,4 @@ complete -c lc3lab -n '__fish_seen_subcommand_from explore' -r -l page -d 'Also 
 complete -c lc3lab -n '__fish_seen_subcommand_from debug' -x -l profile -a 'a b' -d 'The machine: of the book, or with traps that leave R7'
 complete -c lc3lab -n '__fish_seen_subcommand_from debug' -l notes -d 'Prints refused calls and warnings of sources on standard error'
 complete -c lc3lab -n '__fish_seen_subcommand_from debug' -l quiet -d 'Tells no notes and no advice, also at a terminal'
-complete -c lc3lab -f -n '__fish_seen_subcommand_from help' -a 'check asm dis step trace run explore debug help'
+complete -c lc3lab -f -n '__fish_seen_subcommand_from help' -a 'check asm dis step trace run explore debug lsp help'

@@ -58,6 +58,7 @@ pub(crate) fn request_of<'a>(
         "debug" => Request::Debug {
             setup: setup_of(alloc, words, Some("the commands"))?,
         },
+        "lsp" => Request::Serve,
         _ => return Err(NO_COMMAND.refusal(alloc)),
     })
 }

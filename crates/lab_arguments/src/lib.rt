@@ -13,7 +13,7 @@ mod requirements;
 mod rows;
 
 pub use misuse::Shown;
-pub use parser::read_words;
+pub use parser::{WARNINGS, read_words};
 pub use pieces::{is_of_calls, required_words};
 pub use programs::{Console, program_of, takes_input};
 pub use question::{Choice, Question};

@@ -65,7 +65,8 @@ fn program<'a>(alloc: Global, row: &ProgramRow) -> Result<Command<'a>, AllocErro
     Ok(program)
 }
 
-const WARNINGS: &[&str] = &[
+/// The names of warnings.
+pub const WARNINGS: &[&str] = &[
     "wraps",
     "unknown-trap",
     "decimal-origin",

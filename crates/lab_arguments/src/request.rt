@@ -47,6 +47,8 @@ pub enum Request<'a> {
     Debug {
         setup: Setup<'a>,
     },
+    /// To answer an editor's questions about sources.
+    Serve,
 }
 
 impl Request<'_> {
@@ -55,9 +57,10 @@ impl Request<'_> {
         ensures notes { result ≡ notes_of self.now }
     {
         match self {
-            Request::Assemble { .. } | Request::Check { .. } | Request::Disassemble { .. } => {
-                Notes::AtTerminal
-            }
+            Request::Assemble { .. }
+            | Request::Check { .. }
+            | Request::Disassemble { .. }
+            | Request::Serve => Notes::AtTerminal,
             Request::Step { setup }
             | Request::Trace { setup, .. }
             | Request::Run { setup, .. }

@@ -1,0 +1,3 @@
+-- Definitions that only contracts inside the crate cite.
+pub mod Found
+pub mod Positions

@@ -1,0 +1,5 @@
+mod DocumentLemmas
+mod ReplyLemmas
+mod SessionLemmas
+mod TurnLemmas
+mod ValueLemmas

@@ -1,0 +1,10 @@
+pub mod Messages
+pub mod Members
+pub mod Edits
+pub mod Documents
+pub mod Replies
+pub mod Settings
+pub mod Questions
+pub mod Sessions
+pub mod Turns
+pub mod Private
