@@ -161,6 +161,7 @@ def runs():
     deadlock = (folder / "deadlock.schedule").read_text()
     yield "examples/deadlock", folder, {}, ["two-semaphores-1.obj", "two-semaphores-2.obj"], deadlock
     yield "examples/producer-consumer", folder, {}, ["producer.obj", "consumer.obj"], "1*99 0*99 1*99\n"
+    yield "examples/sources", folder, {}, ["here/producer.asm", "here/consumer.asm"], "1*99 0*22 1*40\n"
     yield "made/names", None, {'<b>"é.asm': NAMES, "names.asm": NAMES}, ['<b>"é.obj', "names.obj"], "0*99 1*99\n"
     yield "made/refused", None, {"refused.asm": REFUSED}, ["refused.obj"] * 3, "0*99 1*99 2*99\n"
     hostile = {f"{name}.asm": HOSTILE for name in HOSTILE_NAMES}
@@ -190,7 +191,8 @@ class Run:
         self.listings = {}
         for source, name in zip(self.sources, self.names):
             if source not in self.listings:
-                self.listings[source] = self.call(["asm", source, name.split("=")[0], "--list"])
+                made = re.sub(r"^(.*/)?(.*)\.asm$", r"\2.obj", name.split("=")[0])
+                self.listings[source] = self.call(["asm", source, made, "--list"])
         self.started = [set(re.findall(r"(\w+ \w+)", it)) for it in self.call(
             ["debug"] + self.names, "".join(f"regs {p}\n" for p in range(self.count))).splitlines()]
 
@@ -207,7 +209,8 @@ class Run:
         named = [it for p in range(self.count) for it in ("--source", f"{p}={self.sources[p]}")] if sources else []
         printed = self.call(["trace", "--page", str(page)] + named + self.names, self.schedule)
         line = re.compile(r"^ *(\d+|end) P(\d+) +(x[0-9A-F]{4}) +\+\d+ (.*)$", re.M)
-        found = line.findall(printed)
+        place = re.compile(r"(?: ;|,) (?:at \w+(?:\+\d+)?(?:, line \d+)?|line \d+)$")  # in the source of the process
+        found = [(*it, place.sub("", what)) for *it, what in line.findall(printed)]
         self.lines = [Line(int(n), int(p), address, what) for n, p, address, what in found if n != "end"]
         self.ends = [Line(0, int(p), address, what) for n, p, address, what in found if n == "end"]
         self.verdict = printed.split()[-1]

@@ -97,6 +97,7 @@ def asked_pages():
     forever = ASKS.replace("BRn AGAIN", "BR AGAIN")
     yield "asked/round", {"asks.asm": forever}, ["--require", "ended", "--fair", "asks.asm"]
     yield "asked/limit", {"asks.asm": forever}, ["--require", "ended", "--never", "lost", "--worlds", "1", "asks.asm"]
+    yield "asked/calls", {}, ["--require", "empty", "--require", "0 calls sem_wait /a", "--worlds", "40", *two]
 
 
 SEEN_ASKED = """({
@@ -107,7 +108,9 @@ SEEN_ASKED = """({
 
 
 def wanted_answers(words, told):
-    """What is asked by these words, each with its answer and the schedules that show it."""
+    """What is asked by these words, each with its answer and the schedules that show it. If all ends are known, and nothing is
+    against what was asked, but it isn't known whether it is so, the search for what is asked of calls met a limit."""
+    unknown = " calls " if told["search"] == "complete" and told["holds"] is None else None
     complete, endless = told["search"] == "complete", told["endless"]
     schedules = {f"--require {it['require']}": it["schedules"] for it in told["not"]}
     schedules |= {f"--never {it['never']}": [it["schedule"]] for it in told["reached"]}
@@ -118,7 +121,8 @@ def wanted_answers(words, told):
             shown = list(schedules.get(text, []))
             if text == "--fair" or text.split()[-1] in ("ended", "stuck", "halted") and word == "--require":
                 shown += through
-            yield text, "not met" if shown else "met" if complete else "not known", shown
+            is_known = complete and not (unknown and unknown in text)
+            yield text, "not met" if shown else "met" if is_known else "not known", shown
 
 
 def steps_of(schedule):
@@ -149,7 +153,8 @@ def try_asked(browser, seen, reloaded, program, folder, given, page):
     rows = sorted(found["rows"], key=lambda row: order.get(row[0], -1))
     if [row[:2] for row in rows] != [[text, answer] for text, answer, _ in wanted]:
         wrong.append(f"the page answers {[row[:2] for row in rows]}, wanted is {wanted}")
-    if any("incomplete" not in row[2] for row in rows if row[1] == "not known"):
+    why = "incomplete" if told["search"] == "incomplete" else "its own search, over all worlds at calls, met a limit"
+    if any(why not in row[2] for row in rows if row[1] == "not known"):
         wrong.append("it isn't told why something isn't known")
     for row, (text, _, schedules) in zip(rows, wanted):
         if len(row[3]) != len(schedules):

@@ -75,6 +75,27 @@ CREATE  .FILL x40
         .END
 '''
 
+# Takes the unit of a semaphore, unlinks it, takes that of another of its name, and waits for the first one for ever.
+REMADE = '''        .ORIG x3000
+        LEA R0, SEM
+        LD R1, CREATE
+        AND R2, R2, #0
+        ADD R2, R2, #1
+        TRAP x50        ; sem_open("/s", O_CREAT, 1) = 0
+        ADD R5, R0, #0
+        TRAP x53        ; sem_wait
+        LEA R0, SEM
+        TRAP x52        ; sem_unlink
+        LEA R0, SEM
+        TRAP x50        ; another of the same name
+        TRAP x53        ; sem_wait
+        ADD R0, R5, #0
+        TRAP x53        ; of the first one
+CREATE  .FILL x40
+SEM     .STRINGZ "/s"
+        .END
+'''
+
 
 def explored():
     """Of each page its name, the files made for it, and the words behind `explore`."""
@@ -85,6 +106,7 @@ def explored():
     yield "ends/many", {"posts.asm": POSTS, "looks.asm": LOOKS}, ["posts.asm", "looks.asm"]
     yield "ends/endless", {"asks.asm": ASKS}, ["asks.asm", "--worlds", "2"]
     yield "ends/none", {"asks.asm": ASKS.replace("BRn AGAIN", "BR AGAIN")}, ["asks.asm"]
+    yield "ends/remade", {"remade.asm": REMADE}, ["remade.asm"]
     hostile = {f"{name}.asm": HOSTILE for name in HOSTILE_NAMES}
     yield "ends/hostile", hostile, list(hostile)
 

@@ -200,7 +200,7 @@ class Game:
     def compare_has(self):
         """Who has what others wait for in the last lines of the trace."""
         found = self.seen()
-        taken = re.compile(r"^end .* in sem_wait\(\d+<(/[^ ]*)>\): value 0, taken by (P\d+(?: P\d+)*), ", re.M)
+        taken = re.compile(r"^end .* in sem_wait\(\d+<([/#][^ ]*)>\): value 0, taken by (P\d+(?: P\d+)*), ", re.M)
         for name, takers in taken.findall(self.printed("trace", found["plan"])):
             wanted = [f"P{p}" for p, chips in enumerate(found["has"]) if name in chips]
             if wanted != takers.split():

@@ -28,7 +28,7 @@ pub fn moment_by(
     alloc: Global,
     taken: &Taken<'_>,
     past: &Past,
-    form: &Form<'_>,
+    form: &Form<'_, '_>,
     whole: bool,
 ) -> Result<Option<Value>, AllocError>
     requires process { taken.now.pid < length taken.now.world.now.processes }
@@ -159,7 +159,7 @@ pub fn event_value(
     alloc: Global,
     taken: &Taken<'_>,
     past: &Past,
-    form: &Form<'_>,
+    form: &Form<'_, '_>,
     event: &Event,
 ) -> Result<Value, AllocError>
     requires process { taken.now.pid < length taken.now.world.now.processes }

@@ -1,5 +1,5 @@
 -- What was asked has no floats.
-use Rattle.std.proofs.Common.{Bool, List, refl}
+use Rattle.std.proofs.Common.{List, refl}
 use Rattle.lab_moments.proofs.PlainLemmas.{IsPlain, plain}
 use Rattle.lab_page.specs.Asked.{asked_data, asked_list, shown_data}
 use Rattle.lab_page.specs.declared.ends.Asked.{Asked}
@@ -10,6 +10,6 @@ shown-plain : (r : ShownRun) → IsPlain (shown_data r)
 shown-plain (End n) = refl
 shown-plain (Other n) = refl
 
-pub asked-plain : (complete : Bool) (all : List Asked) → IsPlain (asked_list complete all)
+pub asked-plain : (all : List Asked) → IsPlain (asked_list all)
 unfolding asked_data
-asked-plain complete all = search (plain, shown-plain)
+asked-plain all = search (plain, shown-plain)

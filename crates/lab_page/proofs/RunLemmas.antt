@@ -5,7 +5,7 @@ use Rattle.serde_json.specs.Written.{compact_text}
 use Rattle.lab_sched.specs.Schedules.{steps_of}
 use Rattle.lab_sched.specs.Worlds.{Process, WorldState}
 use Rattle.lab_sched.specs.declared.schedule.Block.{Block}
-use Rattle.lab_sources.specs.declared.source.Source.{Source}
+use Rattle.lab_places.specs.Placed.{SourceSeen}
 use Rattle.lab_told.specs.Scenes.{Scene, first_scene, scene_after}
 use Rattle.lab_trace.specs.Lines.{events}
 use Rattle.lab_trace.specs.Traces.{ending, trace_with, trace_text}
@@ -72,7 +72,7 @@ pub trace-made : (v : Form) (x u : Scene) (ps first added all : List ℕ) → fi
 trace-made v x u ps first added all none added-is led all-is = rw (all-is, added-is, none, led) refl
 
 -- the trace of a world, by how it is written
-pub trace-first : (v : Form) (w : WorldState) (s : List Block) (ss : List (Option Source)) (x : Scene)
+pub trace-first : (v : Form) (w : WorldState) (s : List Block) (ss : List (Option SourceSeen)) (x : Scene)
     → v ≡ form_for (length (steps_of s)) (length w.processes) ss → x ≡ first_scene w → trace_with v x (steps_of s) ≡ trace_text w ss (steps_of s)
 unfolding trace_text
 trace-first v w s ss x form first = rw (form, first) refl

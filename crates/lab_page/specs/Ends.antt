@@ -56,7 +56,7 @@ extent_data x =
 -- far the exploration went, the processes, the other runs, and all worlds, where they are drawn
 abbrev pub ends_json : Data → EndList → EndList → List Asked → Option Data → Extent → Option Worlds → List ℕ
 ends_json processes l others asked endless extent worlds =
-    codes "{\"asked\":" ++ compact_text (asked_list extent.complete asked) ++ codes ",\"endless\":" ++ compact_text (or_null endless)
+    codes "{\"asked\":" ++ compact_text (asked_list asked) ++ codes ",\"endless\":" ++ compact_text (or_null endless)
     ++ codes ",\"ends\":[" ++ l.json ++ codes "],\"extent\":" ++ compact_text (extent_data extent)
     ++ codes ",\"format\":\"lc3lab-ends-3\",\"processes\":" ++ compact_text processes ++ codes ",\"runs\":[" ++ others.json
     ++ codes "],\"worlds\":" ++ worlds_json worlds ++ codes "}"

@@ -1,5 +1,5 @@
 //! The ends of an exploration, as a page holds them.
-ghost use Rattle.std.specs.Prelude.{◌≡◌, ◌≢◌, ◌<◌, ◌≤◌, false, [], Err, OnOk, IfOk, IfErr, length};
+ghost use Rattle.std.specs.Prelude.{◌≡◌, ◌≢◌, ◌<◌, ◌≤◌, false, [], Err, OnOk, IfOk, IfErr, length, string_bytes};
 ghost use Rattle.std.specs.Option.{option_map};
 ghost use Rattle.serde_json.specs.View.{view};
 ghost use Rattle.serde_json.specs.Written.{compact_text, has_float};
@@ -11,7 +11,7 @@ ghost use Rattle.lab_page.specs.Runs.{run_data};
 ghost use Rattle.lab_page.specs.Stores.{stores_of};
 ghost use Rattle.lab_moments.specs.Values.{or_null};
 ghost use Rattle.lab_page.specs.declared.paging.PageFault.TheVariants.{TooLarge};
-ghost use Rattle.lab_page.specs.Asked.{asked_data, asked_list};
+ghost use Rattle.lab_page.specs.Asked.{answer_text, asked_data, asked_list};
 
 use crate::moments::{push_behind, push_parts, schedule_value};
 use crate::paging::PageFault;
@@ -223,12 +223,7 @@ pub fn ends_json(alloc: Global, processes: &Value, found: &Found<'_>) -> Result<
 {
     let mut json = Vec::new(alloc);
     let (list, others) = (found.ends, found.others);
-    let complete = found.extent.complete;
-    push_behind(
-        &mut json,
-        "{\"asked\":",
-        &asked_value(alloc, found.asked, complete)?,
-    )?;
+    push_behind(&mut json, "{\"asked\":", &asked_value(alloc, found.asked)?)?;
     push_behind(
         &mut json,
         ",\"endless\":",
@@ -263,13 +258,38 @@ pub enum ShownRun {
     Other(usize),
 }
 
-/// Something that was asked, and what was found.
+/// How something that was asked is answered.
+#[derive(Drop)]
+pub enum Answered {
+    /// All is as it was asked.
+    Met,
+    /// Something isn't.
+    NotMet,
+    /// Nothing was found that isn't, and a search met a limit.
+    Unknown,
+    /// Nothing was asked, for this reason.
+    Empty(String),
+}
+
+impl Answered {
+    fn text(&self, alloc: Global) -> Result<String, AllocError>
+        ensures text { IfOk result (λ text. string_bytes text ≡ answer_text self.now) }
+    {
+        match self {
+            Answered::Met => String::from_str(alloc, "met"),
+            Answered::NotMet => String::from_str(alloc, "not met"),
+            Answered::Unknown => String::from_str(alloc, "not known"),
+            Answered::Empty(why) => format!(in alloc; "empty: {why}"),
+        }
+    }
+}
+
+/// Something that was asked, and its answer.
 #[derive(Drop)]
 pub struct Asked {
     /// The words that ask it.
     pub text: String,
-    /// Whether something isn't as it was asked.
-    pub failed: bool,
+    pub answer: Answered,
     /// The runs on the page that show that.
     pub runs: Vec<ShownRun>,
 }
@@ -288,24 +308,20 @@ impl AsData for ShownRun {
 }
 
 #[tactic(auto, unfolding(crate::specs::Asked::asked_data))]
-fn one_value(alloc: Global, asked: &Asked, complete: bool) -> Result<Value, AllocError>
-    ensures value { IfOk result (λ v. view v ≡ asked_data complete asked.now) }
+fn one_value(alloc: Global, asked: &Asked) -> Result<Value, AllocError>
+    ensures value { IfOk result (λ v. view v ≡ asked_data asked.now) }
 {
-    let answer = match (asked.failed, complete) {
-        (true, _) => "not met",
-        (false, true) => "met",
-        (false, false) => "not known",
-    };
-    json!(in alloc; [&asked.text, answer, list_value(alloc, &asked.runs)?])
+    let answer = asked.answer.text(alloc)?;
+    json!(in alloc; [&asked.text, &answer, list_value(alloc, &asked.runs)?])
 }
 
-/// What was asked of an exploration that is complete or isn't, with the answers.
-pub fn asked_value(alloc: Global, asked: &[Asked], complete: bool) -> Result<Value, AllocError>
-    ensures value { IfOk result (λ v. view v ≡ asked_list complete asked.now) }
+/// What was asked of an exploration, with the answers.
+pub fn asked_value(alloc: Global, asked: &[Asked]) -> Result<Value, AllocError>
+    ensures value { IfOk result (λ v. view v ≡ asked_list asked.now) }
 {
     let mut values = Vec::new(alloc);
     for one in asked {
-        values.push(one_value(alloc, one, complete)?)?;
+        values.push(one_value(alloc, one)?)?;
     }
     Ok(Value::Array(values))
 }

@@ -9,7 +9,7 @@ mod run;
 mod source;
 mod worlds;
 
-pub use ends::{Asked, EndList, Endless, Extent, Found, ShownRun};
+pub use ends::{Answered, Asked, EndList, Endless, Extent, Found, ShownRun};
 pub use lab_template::Template;
 pub use paging::{PageFault, PagedRun, Roster, Shown, ends_page, run_page};
 pub use source::{Source, source_of};

@@ -95,7 +95,7 @@ impl Moments {
     }
 
     /// Adds the moment after a step, where it has one, and its line, and keeps the steps that it stands for.
-    pub fn keep_step(&mut self, look: &Look<'_>, taken: &Taken<'_>) -> Result<(), PageFault>
+    pub fn keep_step(&mut self, look: &Look<'_, '_>, taken: &Taken<'_>) -> Result<(), PageFault>
         requires process { taken.now.pid < length taken.now.world.now.processes }
         ensures moment { OnOk result (self.new.json ≡ self.old.json
             ++ more_json (moment_by look.now.page look.now.whole taken.now.number taken.now.pid
@@ -122,7 +122,7 @@ impl Moments {
         &mut self,
         world: &World,
         tally: &Tally,
-        look: &Look<'_>,
+        look: &Look<'_, '_>,
         schedule: &Schedule,
     ) -> Result<(), AllocError>
         ensures json { (number : ℕ) → OnOk result (self.new.json ≡ self.old.json
@@ -135,7 +135,7 @@ impl Moments {
         let outcome = outcome_value(alloc, world, tally, &self.past, &look.page)?;
         push_run_end(&mut self.json, &outcome, schedule, look.whole)?;
         let ending = ending(alloc, world, tally, &look.trace)?;
-        self.lines.extend_from_slice(ending.as_bytes())
+        self.lines.extend_from_slice(&ending)
     }
 }
 
@@ -171,7 +171,7 @@ fn ended(
     alloc: Global,
     world: &World,
     tally: &Tally,
-    form: &Form<'_>,
+    form: &Form<'_, '_>,
 ) -> Result<Vec<Value>, AllocError>
     ensures values { IfOk result (λ v. map view v.items ≡ ended form.now world.now tally.now) }
 {
@@ -203,7 +203,7 @@ fn outcome_value(
     world: &World,
     tally: &Tally,
     past: &Past,
-    form: &Form<'_>,
+    form: &Form<'_, '_>,
 ) -> Result<Value, AllocError>
     ensures value { (number : ℕ) → IfOk result (λ v. view v
         ≡ outcome_at form.now (scene_at number world.now tally.now) past.now) }

@@ -16,8 +16,8 @@ use crate::moments::{push_behind, push_parts};
 use crate::run::{WrittenRun, written_run};
 use crate::source::{Source, programs};
 use lab_moments::list_value;
+use lab_places::Numbered;
 use lab_sched::{Schedule, World};
-use lab_sources::Source as Given;
 use lab_template::{MOST_BYTES, Template, page_with};
 use std::alloc::{AllocError, Global};
 use thiserror::Error;
@@ -67,10 +67,10 @@ fn page_json(
 
 /// A run that a page shows.
 #[derive(Clone, Copy)]
-pub struct PagedRun<'a> {
+pub struct PagedRun<'a, 's> {
     pub schedule: &'a Schedule,
     /// The processes that were given as sources, whose labels the lines of its trace have.
-    pub given: &'a [Option<Given>],
+    pub given: &'a [Option<Numbered<'s>>],
 }
 
 /// The page of a run, and its trace.
@@ -94,7 +94,7 @@ pub fn run_page(
     template: &Template<'_>,
     world: &mut World,
     roster: &Roster<'_>,
-    paged: &PagedRun<'_>,
+    paged: &PagedRun<'_, '_>,
 ) -> Result<Shown, PageFault>
     ensures trace { IfOk result (λ s. s.trace.items
         ≡ trace_text world.old paged.now.given.now (steps_of paged.now.schedule.now)) }

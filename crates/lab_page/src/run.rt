@@ -18,8 +18,8 @@ use crate::moments::Moments;
 use crate::paging::PageFault;
 use crate::source::{Source, source_in};
 use lab_moments::{AsData, words_from};
+use lab_places::Numbered;
 use lab_sched::{Schedule, World};
-use lab_sources::Source as Given;
 use lab_template::MOST_WHOLE;
 use lab_told::{Taken, Tally, Telling, tell_run};
 use lab_trace::{Form, missing_after};
@@ -30,26 +30,26 @@ use std::marker::Model;
 /// How a run is written. The lines on a page are without labels, for it shows the sources themselves; the trace has those of
 /// the processes that were given as sources.
 #[derive(Drop)]
-pub struct Look<'a> {
+pub struct Look<'a, 's> {
     /// The lines on the page.
-    pub page: Form<'a>,
+    pub page: Form<'a, 's>,
     /// The lines of the trace.
-    pub trace: Form<'a>,
+    pub trace: Form<'a, 's>,
     /// Whether counted steps have moments too.
     pub whole: bool,
     /// The sources where it is told what the steps store.
     pub sources: &'a [Option<Source>],
 }
 
-impl<'a> Look<'a> {
+impl<'a, 's> Look<'a, 's> {
     /// How the run of a world by a schedule is written.
     pub fn new(
         alloc: Global,
         world: &World,
         schedule: &Schedule,
-        given: &'a [Option<Given>],
+        given: &'a [Option<Numbered<'s>>],
         sources: &'a [Option<Source>],
-    ) -> Result<Look<'a>, AllocError>
+    ) -> Result<Look<'a, 's>, AllocError>
         ensures page { IfOk result (λ l. l.page
             ≡ form_for (length (steps_of schedule.now)) (length world.now.processes) []) }
         ensures trace { IfOk result (λ l. l.trace
@@ -60,7 +60,7 @@ impl<'a> Look<'a> {
     {
         let whole = schedule.total() <= MOST_WHOLE;
         Ok(Look {
-            page: Form::new(alloc, schedule.total(), world.count(), &[])?,
+            page: Form::new(alloc, schedule.total(), world.count(), &given[..0])?,
             trace: Form::new(alloc, schedule.total(), world.count(), given)?,
             whole,
             sources: if whole { sources } else { &[] },
@@ -68,7 +68,7 @@ impl<'a> Look<'a> {
     }
 }
 
-impl<'a> Telling<(Moments, Stores<'a>)> for Look<'_> {
+impl<'a> Telling<(Moments, Stores<'a>)> for Look<'_, '_> {
     type Fault = PageFault;
 
     ghost use Rattle.std.proofs.Common.{subst, sym};
@@ -106,7 +106,7 @@ fn take_steps(
     alloc: Global,
     world: &mut World,
     tally: &mut Tally,
-    look: &Look<'_>,
+    look: &Look<'_, '_>,
     schedule: &Schedule,
 ) -> Result<WrittenRun, PageFault>
     requires there { AreThere world.old schedule.now }
@@ -146,7 +146,7 @@ pub(crate) fn written_run(
     alloc: Global,
     world: &mut World,
     schedule: &Schedule,
-    given: &[Option<Given>],
+    given: &[Option<Numbered<'_>>],
     sources: &[Option<Source>],
 ) -> Result<WrittenRun, PageFault>
     ensures json { IfOk result (λ t. t.json.items

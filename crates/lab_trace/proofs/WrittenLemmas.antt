@@ -5,7 +5,7 @@ use Rattle.std.specs.Io.KnownBytes.{Appends}
 use Rattle.lab_io.specs.Device.{AppendsPrefix}
 use Rattle.lab_io.proofs.Prefixes.{AppendsPrefix-longer}
 use Rattle.lab_sched.specs.Worlds.{WorldState}
-use Rattle.lab_sources.specs.declared.source.Source.{Source}
+use Rattle.lab_places.specs.Placed.{SourceSeen}
 use Rattle.lab_told.specs.Scenes.{Scene, scene_at, first_scene, scene_after}
 use Rattle.lab_told.specs.Tallies.{TallyState, new_tally}
 use Rattle.lab_trace.specs.Forms.{Form, form_for}
@@ -23,7 +23,7 @@ on_ok (Ok x) P p = p
 on_ok (Err e) P p = tt
 
 -- a whole trace, by its parts
-pub trace-parts : (w : WorldState) (ss : List (Option Source)) (ps : List ℕ) (v : Form) (t : TallyState) (total count many : ℕ) → v ≡ form_for total count ss → total ≡ length ps
+pub trace-parts : (w : WorldState) (ss : List (Option SourceSeen)) (ps : List ℕ) (v : Form) (t : TallyState) (total count many : ℕ) → v ≡ form_for total count ss → total ≡ length ps
     → count ≡ length w.processes → t ≡ new_tally many → many ≡ length w.processes → trace_text w ss ps ≡ trace_with v (scene_at 1 w t) ps
 unfolding trace_text
 trace-parts w ss ps v t total count many v-is steps processes t-is each =

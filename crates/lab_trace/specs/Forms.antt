@@ -5,7 +5,7 @@ use Rattle.std.specs.Fmt.{decimal}
 use Rattle.lc3_word.specs.Words.{hexadecimal_text}
 use Rattle.lab_sources.specs.Labels.{nearest, label_text}
 use Rattle.lab_sources.specs.Rows.{held_row}
-use Rattle.lab_sources.specs.declared.source.Source.{Source}
+use Rattle.lab_places.specs.Placed.{SourceSeen, numbered_of}
 use Rattle.lc3_asm.specs.declared.assembled.Row.{Row}
 use Rattle.lab_trace.specs.Columns.{at_left, at_right}
 
@@ -14,10 +14,10 @@ use Rattle.lab_trace.specs.Columns.{at_left, at_right}
 pub record Form : Type 0 where
   pub step : ℕ
   pub process : ℕ
-  pub sources : List (Option Source)
+  pub sources : List (Option SourceSeen)
 
 -- the form for a schedule of so many steps of so many processes with these sources
-abbrev pub form_for : ℕ → ℕ → List (Option Source) → Form
+abbrev pub form_for : ℕ → ℕ → List (Option SourceSeen) → Form
 form_for total count sources =
     record { step = max 3 (length (decimal total)); process = 1 + length (decimal (count - 1)); sources = sources }
 
@@ -43,18 +43,14 @@ abbrev pub separator : Bool → List ℕ
 separator true = codes ", "
 separator false = codes " ; "
 
--- the source of process p, where it was given as one
-abbrev pub source_of : List (Option Source) → ℕ → Option Source
-source_of sources p = option_and_then (λ s. s) (slice_get sources p)
-
 -- the nearest label of an address in a source
-abbrev pub label_in : ℕ → Option Source → Option (List ℕ × ℕ)
+abbrev pub label_in : ℕ → Option SourceSeen → Option (List ℕ × ℕ)
 label_in address None = None
-label_in address (Some s) = nearest s.assembled address
+label_in address (Some s) = nearest s.program address
 
 -- the nearest label of an address in the source of process p
-abbrev pub label_of : List (Option Source) → ℕ → ℕ → Option (List ℕ × ℕ)
-label_of sources p address = label_in address (source_of sources p)
+abbrev pub label_of : List (Option SourceSeen) → ℕ → ℕ → Option (List ℕ × ℕ)
+label_of sources p address = label_in address (numbered_of sources p)
 
 -- the nearest label of an address, where there is one; `begun` says whether a note stands before it
 abbrev pub label_note : Bool → ℕ → Option (List ℕ × ℕ) → List ℕ
@@ -62,13 +58,13 @@ label_note begun address None = []
 label_note begun address (Some l) = separator begun ++ codes "at " ++ label_text l address
 
 -- the line of a source at an address, where its first word is there and memory holds this word
-abbrev pub row_in : ℕ → ℕ → Option Source → Option Row
+abbrev pub row_in : ℕ → ℕ → Option SourceSeen → Option Row
 row_in address word None = None
-row_in address word (Some s) = held_row s.assembled address word
+row_in address word (Some s) = held_row s.program address word
 
 -- the same in the source of process p
-abbrev pub row_of : List (Option Source) → ℕ → ℕ → ℕ → Option Row
-row_of sources p address word = row_in address word (source_of sources p)
+abbrev pub row_of : List (Option SourceSeen) → ℕ → ℕ → ℕ → Option Row
+row_of sources p address word = row_in address word (numbered_of sources p)
 
 -- the line of a source, where there is one; `begun` says whether a note stands before it
 abbrev pub row_note : Bool → Option Row → List ℕ

@@ -74,7 +74,7 @@ fn push_wait(
 fn push_stand(
     text: &mut String,
     world: &World,
-    form: &Form<'_>,
+    form: &Form<'_, '_>,
     tally: &Tally,
     pid: usize,
 ) -> Result<(), AllocError>
@@ -113,7 +113,7 @@ pub fn stands(
     alloc: Global,
     world: &World,
     tally: &Tally,
-    form: &Form<'_>,
+    form: &Form<'_, '_>,
 ) -> Result<String, AllocError>
     ensures text { IfOk result (λ s. string_bytes s ≡ end_lines form.now world.now tally.now) }
 {

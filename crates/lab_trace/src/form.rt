@@ -2,10 +2,11 @@
 //! source at their end.
 ghost use Rattle.std.specs.Prelude.{◌≡◌, ◌≤◌, ◌<◌, ◌^◌, ◌++◌, OnOk, IfOk, option_map, length, string_bytes};
 ghost use Rattle.std.specs.Fmt.{decimal};
-ghost use Rattle.lab_trace.specs.Forms.{form_for, head, separator, source_of, line_end};
+ghost use Rattle.lab_places.specs.Placed.{numbered_of};
+ghost use Rattle.lab_trace.specs.Forms.{form_for, head, separator, line_end};
 ghost use Rattle.lab_trace.specs.Columns.{blanks, at_left, at_right};
 
-use lab_sources::Source;
+use lab_places::Numbered;
 use lab_told::Event;
 use lc3_word::Hex;
 use std::alloc::{AllocError, Global};
@@ -39,16 +40,16 @@ impl Stand {
 
 /// How the lines of a trace are written.
 #[derive(Drop)]
-pub struct Form<'a> {
+pub struct Form<'a, 's> {
     /// The width of the number of a step.
     step: usize,
     /// The width of the process.
     process: usize,
     /// Of each process its source, where it was given as one.
-    sources: &'a [Option<Source>],
+    sources: &'a [Option<Numbered<'s>>],
 }
 
-impl<'a> Model for Form<'a> {
+impl<'a, 's> Model for Form<'a, 's> {
     ghost use Rattle.lab_trace.specs.Forms.{Form};
 
     ghost Value = { Form };
@@ -65,7 +66,7 @@ fn digits(alloc: Global, number: usize) -> Result<usize, AllocError>
     Ok(text.len())
 }
 
-impl<'a> Form<'a> {
+impl<'a, 's> Form<'a, 's> {
     /// The form for a schedule of so many steps of so many processes. Lines of a process with a
     /// source end with the nearest label of their address and the line there; a process without one
     /// has neither.
@@ -73,8 +74,8 @@ impl<'a> Form<'a> {
         alloc: Global,
         total: u32,
         count: usize,
-        sources: &'a [Option<Source>],
-    ) -> Result<Form<'a>, AllocError>
+        sources: &'a [Option<Numbered<'s>>],
+    ) -> Result<Form<'a, 's>, AllocError>
         requires some { 1 ≤ count }
         ensures form { IfOk result (λ v. v ≡ form_for total count sources.now) }
     {
@@ -87,8 +88,15 @@ impl<'a> Form<'a> {
         })
     }
 
-    fn source(&self, pid: usize) -> Option<&'a Source>
-        ensures source { option_map (λ s. s.now) result ≡ source_of self.now.sources pid }
+    /// Of each process its source, where it was given as one.
+    pub fn sources(&self) -> &'a [Option<Numbered<'s>>]
+        ensures sources { result.now ≡ self.now.sources }
+    {
+        self.sources
+    }
+
+    fn source(&self, pid: usize) -> Option<&'a Numbered<'s>>
+        ensures source { option_map (λ s. s.now) result ≡ numbered_of self.now.sources pid }
     {
         match self.sources.get(pid) {
             Some(Some(source)) => Some(source),
@@ -135,6 +143,7 @@ impl<'a> Form<'a> {
         let Some(source) = self.source(pid) else {
             return text.push_str("\n");
         };
+        let source = source.source;
         let near = source.nearest(address);
         let noted = begun || near.is_some();
         if let Some(near) = near {

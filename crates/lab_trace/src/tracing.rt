@@ -15,8 +15,8 @@ ghost use Rattle.lab_trace.specs.Bytes.{bytes_text};
 use crate::ends::{push_call, push_level, push_outcome, stands};
 use crate::form::{Form, Stand, separator};
 use lab_io::Output;
+use lab_places::{Numbered, placed};
 use lab_sched::{Schedule, World};
-use lab_sources::Source;
 use lab_texts::{Escape, how_name, report_text};
 use lab_told::{Act, Called, Event, Origin, Taken, Tally, Telling, Told, is_quotable, tell_run};
 use lc3_table::WordText;
@@ -40,7 +40,7 @@ pub fn missing_after(world: &World, schedule: &Schedule) -> Option<u64>
     None
 }
 
-fn write_text<W: Write>(text: &str, output: &mut Output<W>) -> Result<(), TraceFault>
+fn write_text<W: Write>(text: &[u8], output: &mut Output<W>) -> Result<(), TraceFault>
     ensures written { OnOk result
         (Appends (W.contents output.old.device) (W.contents output.new.device) text.now) }
     ensures prefix { OnErr result
@@ -48,12 +48,10 @@ fn write_text<W: Write>(text: &str, output: &mut Output<W>) -> Result<(), TraceF
     ensures failed { OnErr result (IsTrue output.new.failed) }
     ensures fault { IfErr result (λ e. e ≡ Write) }
 {
-    output
-        .write_all(text.as_bytes())
-        .map_err(|_| TraceFault::Write)
+    output.write_all(text).map_err(|_| TraceFault::Write)
 }
 
-impl<'a, W: Write> Telling<Output<W>> for Form<'a> {
+impl<'a, 's, W: Write> Telling<Output<W>> for Form<'a, 's> {
     type Fault = TraceFault;
 
     ghost use Rattle.std.proofs.Common.{subst, sym};
@@ -75,33 +73,34 @@ impl<'a, W: Write> Telling<Output<W>> for Form<'a> {
         taken: &Taken<'_>,
     ) -> Result<(), TraceFault> {
         let line = step_line(alloc, self, taken.number, taken.pid, taken.told)?;
-        write_text(&line, output)
+        write_text(line.as_bytes(), output)
     }
 }
 
-/// Where the processes stand that haven't ended, and the report.
+/// Where the processes stand that haven't ended, and the report, with where they stand in their sources.
 pub fn ending(
     alloc: Global,
     world: &World,
     tally: &Tally,
-    form: &Form<'_>,
-) -> Result<String, AllocError>
-    ensures text { IfOk result (λ s. string_bytes s ≡ ending form.now world.now tally.now) }
+    form: &Form<'_, '_>,
+) -> Result<Vec<u8>, AllocError>
+    ensures text { IfOk result (λ v. v.items ≡ ending form.now world.now tally.now) }
 {
-    let mut text = stands(alloc, world, tally, form)?;
+    let mut bytes = stands(alloc, world, tally, form)?.into_bytes();
     let report = report_text(alloc, world)?;
-    text.push_str(&report)?;
-    Ok(text)
+    bytes.extend_from_slice(&placed(alloc, form.sources(), report.as_bytes())?)?;
+    Ok(bytes)
 }
 
 /// Takes the steps of a schedule and writes what happened: the line of each step as it is taken, then where each process
-/// stands that hasn't ended, then the report. Lines of a process with a source end with the nearest label of their address;
-/// `sources` has one for each process that was given as a source, and may be empty. A schedule that names a process that isn't there takes no step and writes
+/// stands that hasn't ended, then the report. Lines of a process with a source end with the nearest label of their address, and
+/// its status line with where it stands there; `sources` has one for each process that was given as a source, and may be empty.
+/// A schedule that names a process that isn't there takes no step and writes
 /// nothing.
 pub fn trace<W: Write>(
     alloc: Global,
     world: &mut World,
-    sources: &[Option<Source>],
+    sources: &[Option<Numbered<'_>>],
     schedule: &Schedule,
     output: &mut Output<W>,
 ) -> Result<(), TraceFault>
@@ -185,7 +184,7 @@ fn push_act(text: &mut String, word: u16, act: &Act) -> Result<(), AllocError>
 /// The columns before what happened in step `number`, of process `pid`.
 pub fn columns_text(
     alloc: Global,
-    form: &Form<'_>,
+    form: &Form<'_, '_>,
     number: u32,
     pid: usize,
     event: &Event,
@@ -211,7 +210,7 @@ pub fn event_text(alloc: Global, event: &Event) -> Result<String, AllocError>
 /// The line of step `number`, of process `pid`, or no text where nothing is shown of it.
 pub fn step_line(
     alloc: Global,
-    form: &Form<'_>,
+    form: &Form<'_, '_>,
     number: u32,
     pid: usize,
     told: &Told,

@@ -12,7 +12,7 @@ use Rattle.lab_page.proofs.ends.ends_json.Goals as goal
 
 pub push_behind-requires : goal.push_behind-requires
 push_behind-requires c = record {
-  plain = rw c.in_ok-asked_value.ensures.value (asked-plain c.args.found.now.extent.complete c.args.found.now.asked.now);
+  plain = rw c.in_ok-asked_value.ensures.value (asked-plain c.args.found.now.asked.now);
 }
 
 pub returns : goal.returns
@@ -38,7 +38,7 @@ returns c =
         c.in_ok-asked_value.ensures.value,
         c.new-json.ensures.items,
       )
-          (ends-parts (codes "{\"asked\":") (compact_text (asked_list found.extent.complete found.asked.now)) (codes ",\"endless\":")
+          (ends-parts (codes "{\"asked\":") (compact_text (asked_list found.asked.now)) (codes ",\"endless\":")
           (compact_text (or_null (option_map endless_shown found.endless))) (codes ",\"ends\":[") found.ends.now.json (codes "],\"extent\":")
           (compact_text (extent_data found.extent)) (codes ",\"format\":\"lc3lab-ends-3\",\"processes\":")
           (compact_text (view c.args.processes.now)) (codes ",\"runs\":[") found.others.now.json (codes "],\"worlds\":")

@@ -39,7 +39,7 @@ returns-clause-written g c =
     let led = rw c.blocks-2.ensures.value at c.in_ok-tell_run.ensures.scene in
     let s = scene_at 1 c.args.world.now c.in_ok-tally.tally in
     let whole = trace-whole s ps v c.tell_run.new.world c.tell_run.new.tally _ _ parts led
-    ∙ ap (λ (l : List ℕ). events v s ps ++ l) (sym (c.deref.ensures ∙ c.in_ok-text.ensures.text)) in
+    ∙ ap (λ (l : List ℕ). events v s ps ++ l) (sym (c.deref.ensures.value ∙ c.in_ok-text.ensures.text)) in
     on_ok_weaker c.write_text.result
     (λ more. subst (λ (l : List ℕ). Appends (g.W.Write.contents c.args.output.now.device) (g.W.Write.contents c.write_text.new.output.device) l) (sym whole)
     (Appends-trans _ _ _ (events v s ps) c.deref.result.now (lines-told g.W.Write.contents v s ps _ _ told) more))
@@ -61,7 +61,7 @@ returns-clause-prefix g c =
     let led = rw c.blocks-2.ensures.value at c.in_ok-tell_run.ensures.scene in
     let s = scene_at 1 c.args.world.now c.in_ok-tally.tally in
     let whole = trace-whole s ps v c.tell_run.new.world c.tell_run.new.tally _ _ parts led
-    ∙ ap (λ (l : List ℕ). events v s ps ++ l) (sym (append-nil c.deref.result.now ∙ c.deref.ensures ∙ c.in_ok-text.ensures.text)) in
+    ∙ ap (λ (l : List ℕ). events v s ps ++ l) (sym (append-nil c.deref.result.now ∙ c.deref.ensures.value ∙ c.in_ok-text.ensures.text)) in
     on_err_weaker c.write_text.result
     (λ part. AppendsPrefix-after _ _ _ (events v s ps) c.deref.result.now [] _ (lines-told g.W.Write.contents v s ps _ _ told) part whole)
     c.write_text.ensures.prefix
