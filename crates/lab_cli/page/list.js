@@ -47,15 +47,18 @@ function wayTo([kind, k]) {
   return `<button type="button" class="way" data-to="${kind}=${k + 1}">${text}</button>`;
 }
 function askedItem([text, answer, runs]) {
-  const kind = { met: 'met', 'not met': 'unmet' }[answer] || 'unknown', mark = { met: '\u2713', unmet: '\u2717' }[kind] || '?';
-  const why = kind === 'unknown' ? `: the search is incomplete, ${reasonText(DATA.extent).replace(/^(and|then) /, '')}` : '';
-  const none = kind === 'unmet' && !runs.length ? ': no room for the run, lc3lab explore --schedule bad prints it' : '';
-  return `<li class="${kind}"><strong>${mark} ${answer}</strong> <code>${esc(visible(text))}</code>${esc(why + none)} ` +
+  const [said, fault] = answer.split(': ');
+  const kind = { met: 'met', 'not met': 'unmet', empty: 'unmet' }[said] || 'unknown', mark = { met: '\u2713', unmet: '\u2717' }[kind] || '?';
+  const limit = DATA.extent[0] ? 'its own search, over all worlds at calls, met a limit'
+    : `the search is incomplete, ${reasonText(DATA.extent).replace(/^(and|then) /, '')}`, open = kind === 'unknown' ? ': ' + limit : '';
+  const none = said === 'not met' && !runs.length ? ': no room for the run, lc3lab explore --schedule bad prints it' : '';
+  const why = fault ? `: ${visible(fault)}` : open + none;
+  return `<li class="${kind}"><strong>${mark} ${said}</strong> <code>${esc(visible(text))}</code>${esc(why)} ` +
     `${runs.map(wayTo).join(' ')}</li>`;
 }
 function fillAsked() {
-  const { asked, endless } = DATA, countOf = wanted => asked.filter(([, answer]) => answer === wanted).length;
-  const worst = ['not met', 'not known'].find(countOf);
+  const { asked, endless } = DATA, countOf = wanted => asked.filter(([, answer]) => answer.split(': ')[0] === wanted).length;
+  const worst = ['not met', 'empty', 'not known'].find(countOf);
   $('asked').hidden = asked.length === 0;
   $('askedtitle').textContent = `What was asked: ${worst ? `${countOf(worst)} of ${asked.length} ${worst}` : 'all met'}`;
   $('askedlist').innerHTML = asked.map(askedItem).join('');

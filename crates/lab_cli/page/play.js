@@ -14,24 +14,29 @@ function lineText({ pc, word }, process) {        // the line of the source that
   return line ? `, line ${line.at + 1}` : '';
 }
 const CHANGES = { sem_wait: 1, sem_trywait: 1, sem_post: -1 };
-function unitsNow(object) {                       // how many more units of a semaphore than it gave each process took
-  const counts = PROCESSES.map(() => 0);
-  for (const { process, events } of legsSoFar()) {
-    const done = events.filter(({ name, result }) => name === nameOf(object) && typeof result === 'number');
-    for (const { call } of done) counts[process] += CHANGES[call] || 0;
+function unitsSoFar() {                           // by the places of objects that are there: whether one was made at 0, when nobody has it,
+  const units = new Map();                        // and how many more units each process took than it gave
+  for (const { process, events, to } of legsSoFar()) {
+    for (const { call, on, result, text } of events) {
+      if (typeof result !== 'number') continue;
+      if (!units.has(on)) units.set(on, { isSignal: text.endsWith('; value 0'), counts: PROCESSES.map(() => 0) });
+      units.get(on).counts[process] += CHANGES[call] || 0;
+    }
+    const there = to === undefined ? [] : WORLD_MAP.nodes[to].objects.map(it => it.place);
+    for (const place of units.keys()) if (!there.includes(place)) units.delete(place);
   }
-  return counts;
+  return units;
 }
-function takersNow(object) {
-  const { processes } = WORLD_MAP.nodes[worldNow()];
-  return takers(unitsNow(object).map((count, p) => [p, count, processes[p].state === 'ended']).filter(([, count]) => count > 0));
+function takersNow({ place }) {                   // none of a signal
+  const { isSignal, counts } = unitsSoFar().get(place), { processes } = WORLD_MAP.nodes[worldNow()];
+  return isSignal ? null : takers(counts.map((count, p) => [p, count, processes[p].state === 'ended']).filter(([, count]) => count > 0));
 }
-const isSignal = object => legsSoFar().flatMap(({ events }) => events).find(({ call, name, result }) =>  // made at 0: nobody has it
-  call === 'sem_open' && name === nameOf(object) && result !== null)?.text.endsWith('; value 0');
 function objectText(object) {                     // the level of an object, and what it holds or who has it
   const name = visible(nameOf(object)) + (object.name === null ? ' (unlinked)' : '');
-  if (object.kind === 'sem') return `${name}: value ${object.value}` +
-    (isSignal(object) ? '' : `, taken by ${takersNow(object) || 'nobody'}`);
+  if (object.kind === 'sem') {
+    const taken = takersNow(object);
+    return `${name}: value ${object.value}` + (taken === null ? '' : `, taken by ${taken || 'nobody'}`);
+  }
   const level = `${name}: ${object.messages.length} of ${object.most}`;
   return [level, ...object.messages.map(m => `${message(m)} prio ${m[0]}`)].join(', ');
 }
@@ -65,17 +70,18 @@ function linesSoFar() {                           // as the trace tells them
   const local = PROCESSES.map(() => 0), lines = [];
   let step = 0;
   for (const { process, steps, events } of legsSoFar()) {
-    for (const { number, pc, text } of events) {
-      lines.push({ step: step + number, process, pc, text, local: local[process] + number - 1 });
+    for (const e of events) {
+      const { number, pc, text } = e, note = placeNote({ process, first: pc, code: [] }, pc, e, text);
+      lines.push({ step: step + number, process, pc, text, note, local: local[process] + number - 1 });
       local[process] = -number;
     }
     local[process] += steps; step += steps;
   }
   return lines;
 }
-function lineSoFar({ step, process, pc, local, text }) {
+function lineSoFar({ step, process, pc, local, text, note }) {
   const who = ('P' + process).padEnd(String(N - 1).length + 1);
-  return `${String(step).padStart(3)} ${who} ${hex(pc)} ${('+' + local).padStart(5)} ${text}`;
+  return `${String(step).padStart(3)} ${who} ${hex(pc)} ${('+' + local).padStart(5)} ${text}${note}`;
 }
 function planSoFar() {                            // the steps; at the end those by which processes begin to wait, too
   const blocks = [], { verdict, processes } = WORLD_MAP.nodes[worldNow()];
@@ -110,10 +116,11 @@ function planText(plan) {
 // ---- playing
 
 function showTurns(node) {                        // the buttons stay, so that the focus does
-  const { processes, objects } = node, takenBy = p => objects.filter(o => o.kind === 'sem' && !isSignal(o) && unitsNow(o)[p] > 0);
+  const { processes, objects } = node, units = unitsSoFar();
+  const hasUnit = (o, p) => !units.get(o.place).isSignal && units.get(o.place).counts[p] > 0;
   processes.forEach((stand, p) => {
     const [head, button] = $('turns').children[p].children, mustWait = stand.state !== 'goes on';
-    const has = takenBy(p).map(o => `<span class="chip">${esc(visible(nameOf(o)))}</span>`).join(' ');
+    const has = objects.filter(o => hasUnit(o, p)).map(o => `<span class="chip">${esc(visible(nameOf(o)))}</span>`).join(' ');
     head.innerHTML = `<p class="stand">${esc(placeText(node, p))}</p>${has && `<p>has ${has}</p>`}` +
       `<pre class="code">${codeNow(stand, p)}</pre><p class="then">${esc(thenText(p, stand, objects))}</p>`;
     button.lastChild.textContent = turnText(stand, p);

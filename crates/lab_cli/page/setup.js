@@ -56,10 +56,11 @@ function fillLegend() {
 function fillTexts() {
   const what = `interleaving of ${N} processes, ${STEPS} steps, verdict ${VERDICT}; the same as text below`;
   for (const id of ['pic', 'show']) $(id).setAttribute('aria-label', what);
-  const lines = [...EVENTS.map(e => e.head + e.what + '\n'), ...(STANDS + REPORT).match(/.*\n/g) || []];
+  const told = EVENTS.map(e => e.head + e.what + placeNote(wasOf(e), e.from, e, e.what) + '\n');
+  const lines = [...told, ...(STANDS_PLACED + REPORT_PLACED).match(/.*\n/g) || []];
   listTexts('lines', lines);
   $('plan').textContent = printed(D.schedule);
-  $('atend').textContent = STANDS + (VERDICT === 'stuck' ? CIRCLES.map(circleText).join('\n') : '');
+  $('atend').textContent = STANDS_PLACED + (VERDICT === 'stuck' ? CIRCLES.map(circleText).join('\n') : '');
 }
 fillTitle(); fillCards(); fillLegend(); fillTexts(); fillWhy();
 choose(0); goToAddress();

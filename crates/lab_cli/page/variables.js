@@ -40,3 +40,22 @@ function placesOf(e) {                            // the label and the line of w
   const line = sourceAt(wasOf(e), e.from), named = line && labelAt(e.process, e.from), n = line && line.at + 1;
   return line ? [`${named}, line ${n}`, `${named}, line ${n}`, `${named}:${n}`, `line ${n}`, String(n)] : [''];
 }
+
+// ---- where the trace has it that a process stands in its source, if it was given as one
+
+function standIn(p, address) {                    // the label, in words, and the line whose first word is there, where it is still held
+  const [name] = DATA.processes[p.process], source = /^[^=]*\.asm(=|$)/i.test(name) && SOURCES[p.process];
+  const row = source && source.placed[lastIndex(source.placed, it => it.address <= address)];
+  if (!row || address >= row.address + row.words.length) return [];
+  const [word = row.words[0]] = codeAt(p, address), isNamed = source.labels.some(it => it.address <= address);
+  return [isNamed && 'at ' + labelAt(p.process, address), row.address === address && row.words[0] === word && row];
+}
+function placeNote(p, address, { call, answer } = {}, text = '') {  // behind what it did, and other notes of that
+  const [at, row] = standIn(p, address), notes = [at, row && `line ${row.at + 1}`].filter(note => note).join(', ');
+  return notes && (call === undefined || text.endsWith(answer) ? ' ; ' : ', ') + notes;
+}
+const STANDS_PLACED = STANDS.replace(/end P(\d+) .*/g, (line, p) => line + placeNote(processAt(p, R.length), processAt(p, R.length).pc));
+const REPORT_PLACED = REPORT.replace(/^(\d+) (?:runn|wait)ing x.*/gm, (line, p) => {
+  const now = processAt(p, R.length), [at, row] = standIn(now, now.pc);
+  return line + (at ? ', ' + at : '') + (row ? `, line ${row.at + 1}: ${row.text.trim()}` : '');
+});

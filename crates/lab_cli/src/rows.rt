@@ -96,6 +96,16 @@ Example:
   printf 'step 0 1\\nprocs\\n' | lc3lab debug halt.obj",
         options: PROGRAMS,
     },
+    CommandRow {
+        name: "lsp",
+        about: "Answers an editor's questions about sources, by the Language Server Protocol",
+        example: "\
+An editor starts it once, and talks with it on standard input and standard output; editors/ has configurations.
+
+Example:
+  lc3lab lsp </dev/null || true",
+        options: &[],
+    },
 ];
 
 /// The machine of a source.

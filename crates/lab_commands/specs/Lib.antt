@@ -3,4 +3,5 @@ pub mod Complaints
 pub mod Found
 pub mod Plain
 pub mod Runs
+pub mod Sources
 pub mod Told

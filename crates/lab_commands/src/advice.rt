@@ -7,31 +7,43 @@ use std::alloc::{AllocError, Global};
 use std::fmt::Display;
 
 /// The first word of a text that may not stand where it does, if there is one, and the place that is reached: the first word
-/// stands at this one. Between words stand blanks, or another character.
-pub(crate) fn reached(first: Place, text: &str, other: char) -> (Option<&str>, Place) {
+/// stands at this one.
+pub(crate) fn reached(first: Place, text: &str) -> (Option<&str>, Place) {
     let mut place = first;
-    for word in text
-        .split(|character: char| character == ' ' || character == other)
-        .filter(|word| !word.is_empty())
-    {
-        let Some(next) = place.behind(word) else {
-            return (Some(word), place);
+    for word in text.split(' ').filter(|word| !word.is_empty()) {
+        let (front, comma) = comma_apart(first, word);
+        let Some(next) = place.behind(front) else {
+            return (Some(front), place);
+        };
+        place = next;
+        let Some(comma) = comma else {
+            continue;
+        };
+        let Some(next) = place.behind(comma) else {
+            return (Some(comma), place);
         };
         place = next;
     }
     (None, place)
 }
 
+/// A word of those that begin at this place, and the comma at its end, if that is a word of its own.
+fn comma_apart(first: Place, word: &str) -> (&str, Option<&'static str>) {
+    match word.strip_suffix(',') {
+        Some(front) if first.asks_of_calls() && !front.is_empty() => (front, Some(",")),
+        _ => (word, None),
+    }
+}
+
 /// The line that says what isn't understood in a text of which the first word stands at this place, and what was meant, if that
-/// is known, where memory allows it. Between words stand blanks, or another character.
+/// is known, where memory allows it.
 pub(crate) fn line_on(
     alloc: Global,
     first: Place,
     text: &str,
-    other: char,
     meant: Option<&str>,
 ) -> Option<String> {
-    let (word, place) = reached(first, text, other);
+    let (word, place) = reached(first, text);
     let may_end = matches!(
         place,
         Place::Many | Place::And | Place::Error | Place::Nothing | Place::At

@@ -16,7 +16,7 @@ use crate::job::{Job, Progress};
 use lab_arguments::{Choice, Shown};
 use lab_io::Output;
 use lab_places::{Numbered, placed};
-use lab_questions::{Answers, Failure, Question, answers_json};
+use lab_questions::{Answers, Basis, Failure, Question, answers_json};
 use lab_sched::Schedule;
 use lab_worlds::End;
 use lc3_messages::{Report, Wish, report_on};
@@ -85,9 +85,9 @@ pub fn check_sources<T: Files, E: Write, P>(
     all_pass
 }
 
-/// Writes what was found, with where processes stand in these sources, says which objects that conditions name nobody opens,
-/// and complains where memory was refused on the way, or not all is as it has to be. Where it doesn't complain, all that was asked
-/// is so, whatever steps are taken.
+/// Writes what was found, with where processes stand in these sources, says what conditions rest on that is never there, and
+/// complains where memory was refused on the way, or not all is as it has to be. Where it doesn't complain, all that was asked
+/// is so, whatever steps are taken, and each condition asks something.
 #[tactic(auto, using(crate::proofs::TellingLemmas::nothing_told, crate::proofs::TellingLemmas::all_begun))]
 pub fn tell_ends<T, W: Write, P: Progress>(
     job: &Job<'_, T, P>,
@@ -105,11 +105,19 @@ pub fn tell_ends<T, W: Write, P: Progress>(
         → HoldsAll start search.now.answers) }
 {
     write_bytes(&told_of(job.alloc, sources, search)?, output)?;
-    for object in &search.answers.unopened {
-        let told = format_args!("explore: nobody opens {object}");
+    for basis in told_before(&search.answers) {
+        let told = format_args!("explore: {basis}");
         job.progress.tell(&advice_line(job.alloc, told, None)?);
     }
     complain(job.alloc, search)
+}
+
+/// What conditions rest on and is never there, but the last, where that is the failure that is told.
+fn told_before(found: &Answers) -> &[Basis] {
+    match (found.failure, found.empty.split_last()) {
+        (Some(Failure::Empty), Some((_, before))) => before,
+        _ => found.empty.as_slice(),
+    }
 }
 
 /// What tells what was found: the line of the schedule that is chosen, or all answers.
@@ -146,7 +154,7 @@ pub fn chosen_schedule(
         Choice::Bad => Ok(found.bad_schedule()),
         Choice::End(number) => match numbered_end(found, number as usize) {
             Some(end) => Ok(Some(&end.schedule)),
-            None if found.exploration.refused => Ok(None),
+            None if found.exploration.is_refused() => Ok(None),
             None => Err(Reason::NoEnd.at("explore")),
         },
     }
@@ -164,16 +172,26 @@ fn complain(alloc: Global, search: &Search) -> Result<(), Complaint<'static>>
     ensures some { OnErr result (complains search.now ≡ true) }
 {
     let found = &search.answers;
+    let refused = found.exploration.is_refused();
     match found.failure {
         None => Ok(()),
-        Some(Failure::Incomplete) if found.exploration.refused => Err(Reason::NoMemory.at("run")),
+        Some(Failure::Incomplete) if refused => Err(Reason::NoMemory.at("run")),
         Some(Failure::Incomplete) if found.judges() => Err(told_as(alloc, "incomplete", "")),
         Some(Failure::Incomplete) => Ok(()),
         Some(Failure::Endless) => Err(told_as(alloc, "endless", "")),
+        Some(Failure::Empty) => Err(nothing_asked(alloc, found)),
         Some(Failure::Unmet(number)) => match found.answers.get(number) {
             Some(answer) => Err(unmet(alloc, &answer.question)),
             None => Err(told_as(alloc, "not", "")),
         },
+    }
+}
+
+/// The complaint that a condition asks nothing.
+fn nothing_asked(alloc: Global, found: &Answers) -> Complaint<'static> {
+    match found.empty.last() {
+        Some(basis) => Complaint::new(alloc, "explore", basis),
+        None => told_as(alloc, "not", ""),
     }
 }
 

@@ -1,9 +1,9 @@
 //! The command `explore`, and what a search took.
-ghost use Rattle.std.specs.Prelude.{◌≡◌, IfOk, IfSome, ◌≤◌, None, IsTrue};
+ghost use Rattle.std.specs.Prelude.{Some, ◌≡◌, IfOk, IfSome, ◌≤◌, ◌<◌, None, IsTrue, false};
 ghost use Rattle.lab_sched.specs.Starts.{fresh};
 ghost use Rattle.lab_commands.specs.Asking.{AreOn, IsAskedBy};
 ghost use Rattle.lab_commands.specs.Found.{IsFound, IsFoundBy, IsSearched, AreWalked};
-ghost use Rattle.lab_commands.specs.Told.{names_no_limit, limit_of_worlds};
+ghost use Rattle.lab_commands.specs.Told.{names_no_limit, limit_of_worlds, NamesMet};
 
 use crate::complaint::Complaint;
 use crate::files::read_file;
@@ -12,9 +12,9 @@ use crate::job::{Job, Progress, SearchCount, WALKS, WORLDS};
 use crate::programs::{Programs, fault_of, laboratory};
 use lab_arguments::{MOST_WORLDS, Question};
 use lab_questions::{Answers, AskFault, Asked, Failure, LimitMet, Reach, Standing, ask, ask_walks};
-use lab_sched::{Process, Program, Stepped, World};
+use lab_sched::Program;
 use lab_sources::Source;
-use lab_worlds::{Limits, Walks, Workers};
+use lab_worlds::{Limits, Met, Walks, Workers};
 use lc3_table::Profile;
 use lc3_word::{Hex, unsigned};
 use std::alloc::{AllocError, Global};
@@ -124,7 +124,8 @@ fn explore<T: Threads + Sync, P: Progress>(
     inquiry: &Inquiry,
     asked: Asked,
 ) -> Result<Answers, Complaint<'static>>
-    ensures searched { IfOk result (IsSearched (fresh profile programs.now)) }
+    ensures searched { IfOk result (IsSearched inquiry.now.reach.limits
+        (fresh profile programs.now)) }
     ensures asked { IfOk result (AreOn asked) }
 {
     let alloc = job.alloc;
@@ -178,28 +179,27 @@ fn has_more(search: &Search) -> bool {
     }
 }
 
-/// How many steps are taken to find a process that goes on without a call, at least.
-const LEAST_TAKEN: u32 = 1_000_000;
-
 /// Which limit a search of programs met, where it met one. Of walks none is named, nor of a search that ends with what it found.
 pub fn limit_met<T, P: Progress>(
     job: &Job<'_, T, P>,
     given: &Programs,
-    profile: Profile,
     search: &Search,
-) -> Result<Option<LimitMet>, Complaint<'static>>
+) -> Result<Option<LimitMet>, AllocError>
     ensures none { IfOk result (λ met. IsTrue (names_no_limit search.now) → met ≡ None) }
     ensures worlds { IfOk result (λ met. IfSome met (λ limit.
         search.now.inquiry.reach.limits.worlds ≤ search.now.answers.exploration.worlds
         → limit ≡ limit_of_worlds search.now.answers.exploration.worlds)) }
+    ensures others { IfOk result (λ met. names_no_limit search.now ≡ false
+        → search.now.answers.exploration.worlds < search.now.inquiry.reach.limits.worlds
+        → NamesMet search.now.inquiry.reach.limits search.now.answers.exploration.met met) }
 {
     let found = &search.answers.exploration;
     let reach = search.inquiry.reach;
-    if found.complete || found.refused || reach.walks.is_some() {
+    if found.complete || found.is_refused() || reach.walks.is_some() {
         return Ok(None);
     }
     if found.worlds < reach.limits.worlds {
-        return Ok(Some(limit_of_steps(job.alloc, given, profile, reach.limits)?));
+        return limit_named(job.alloc, given, reach.limits, found.met);
     }
     if reach.is_stage {
         return Ok(None);
@@ -210,29 +210,45 @@ pub fn limit_met<T, P: Progress>(
     Ok(Some(LimitMet::Worlds { visited, more }))
 }
 
-/// The process that took too many steps without a call, where it is found, and else both limits that a search can have met.
-fn limit_of_steps(
+/// The limit that a search met, but for that of worlds: where a process goes on too long, which one, and where it stands.
+fn limit_of(
     alloc: Global,
     given: &Programs,
-    profile: Profile,
     limits: Limits,
-) -> Result<LimitMet, Complaint<'static>> {
-    let Limits { steps, memory, .. } = limits;
-    let mut world = World::from(laboratory(alloc, given.programs.as_slice(), profile)?);
-    if let Some(process) = loop_in(&mut world, steps)
-        && let Some(stopped) = world.process(process)
-    {
-        let source = given.sources.get(process);
-        let source = source.and_then(|source| source.as_ref());
-        let machine = stopped.machine();
-        let pc = machine.pc();
-        return Ok(LimitMet::Steps {
-            process,
-            steps,
-            standing: standing_at(alloc, source, pc, machine.word(pc))?,
-        });
+    met: Met,
+) -> Result<Option<LimitMet>, AllocError>
+    ensures named { IfOk result (NamesMet limits (Some met)) }
+{
+    match met {
+        Met::Steps(run) => {
+            let source = given.sources.get(run.pid);
+            let source = source.and_then(|source| source.as_ref());
+            Ok(Some(LimitMet::Steps {
+                process: run.pid,
+                steps: limits.steps,
+                standing: standing_at(alloc, source, run.pc, run.word)?,
+            }))
+        }
+        Met::Memory(_) => Ok(Some(LimitMet::Memory {
+            memory: limits.memory,
+        })),
+        Met::Worlds | Met::Refused => Ok(None),
     }
-    Ok(LimitMet::StepsOrMemory { steps, memory })
+}
+
+/// The same of a search that may have met none.
+fn limit_named(
+    alloc: Global,
+    given: &Programs,
+    limits: Limits,
+    met: Option<Met>,
+) -> Result<Option<LimitMet>, AllocError>
+    ensures named { IfOk result (NamesMet limits met) }
+{
+    match met {
+        Some(met) => limit_of(alloc, given, limits, met),
+        None => Ok(None),
+    }
 }
 
 /// Where an address stands: its nearest label and its line, as far as there is a source with such, and else the address.
@@ -249,36 +265,6 @@ pub fn standing_at(
     };
     let line = row.map(|row| row.line);
     Ok(Standing { place, line })
-}
-
-/// A process that takes so many steps without a call, if there is one as the processes of a world take turns, each to its next
-/// call, for some time. A call that is refused before the kernel is asked counts as none.
-fn loop_in(world: &mut World, most: u32) -> Option<usize> {
-    let mut left = most.saturating_mul(4).max(LEAST_TAKEN);
-    for _round in 0..left {
-        let mut goes_on = false;
-        'turns: for process in 0..world.count() {
-            for _ in 0..most {
-                left = left.checked_sub(1)?;
-                match world.step(process).ok()? {
-                    Stepped::Moved | Stepped::Refused(_) => (),
-                    Stepped::Same => continue 'turns,
-                    Stepped::Waits | Stepped::Called(_) => {
-                        goes_on = true;
-                        continue 'turns;
-                    }
-                }
-            }
-            if !matches!(world.process(process)?, Process::Ended(_)) {
-                return Some(process);
-            }
-            goes_on = true;
-        }
-        if !goes_on {
-            return None;
-        }
-    }
-    None
 }
 
 /// The file in which Linux tells how many pages of memory the program has: its second word.

@@ -150,7 +150,7 @@ fn advice_on(alloc: Global, first: Place, text: &str, count: usize) -> Option<St
         fits(alloc, first, meant, count),
         Ok(Some(true))
     ));
-    line_on(alloc, first, text, ' ', taken)
+    line_on(alloc, first, text, taken)
 }
 
 /// The words that requirements are, in the order in which they are answered.
@@ -187,7 +187,8 @@ fn needs_of<'a>(alloc: Global, words: &[&'a str], count: usize) -> Result<Vec<Wo
 
 /// Adds what a word requires of outputs, unless it is of calls.
 fn push_need<'a>(needs: &mut Vec<Word>, word: &'a str, count: usize) -> Result<(), Complaint<'a>>
-    ensures need { OnOk result ((before : List (List ℕ)) → Alongside IsRequired before needs.old.items
+    ensures need { OnOk result ((before : List (List ℕ))
+        → Alongside IsRequired before needs.old.items
         → Alongside IsRequired (before ++ output_if word.now) needs.new.items) }
 {
     if is_of_calls(word) {
@@ -415,10 +416,6 @@ fn wanted_in<'a>(
     match read_calls(alloc, word, never)? {
         Some(wanted) if wanted.process.is_none_or(|process| process < count) => Ok(wanted),
         Some(_) => Err(elsewhere.of(word)),
-        None => Err(
-            unread
-                .of(word)
-                .followed(line_on(alloc, first, word, ',', None)),
-        ),
+        None => Err(unread.of(word).followed(line_on(alloc, first, word, None))),
     }
 }

@@ -33,6 +33,7 @@ pub(crate) enum Place {
     Order,
     Call,
     List,
+    Listed,
     Called,
     On,
     Count,
@@ -44,7 +45,9 @@ pub(crate) enum Place {
     NeverVerb,
     NeverCalls,
     Than,
+    Another,
     Or,
+    OrOn,
     /// At the beginning of what is required of an output.
     Output,
     Writer,
@@ -113,8 +116,9 @@ const STEPS: &[(Place, Kind, Place)] = &[
     (Place::Calls, Kind::Call, Place::Called),
     (Place::Order, Kind::Word("order"), Place::Call),
     (Place::Call, Kind::Call, Place::List),
-    (Place::List, Kind::Call, Place::List),
-    (Place::List, Kind::Name, Place::List),
+    (Place::List, Kind::Word(","), Place::Call),
+    (Place::List, Kind::Name, Place::Listed),
+    (Place::Listed, Kind::Word(","), Place::Call),
     (Place::Called, Kind::Name, Place::On),
     (Place::Called, Kind::Word(">="), Place::Count),
     (Place::On, Kind::Word(">="), Place::Count),
@@ -127,8 +131,10 @@ const STEPS: &[(Place, Kind, Place)] = &[
     (Place::NeverCalls, Kind::Word("other"), Place::Than),
     (Place::NeverCalls, Kind::Call, Place::Or),
     (Place::Than, Kind::Word("than"), Place::Call),
-    (Place::Or, Kind::Word("or"), Place::NeverCalls),
-    (Place::Or, Kind::Name, Place::Or),
+    (Place::Another, Kind::Call, Place::Or),
+    (Place::Or, Kind::Word("or"), Place::Another),
+    (Place::Or, Kind::Name, Place::OrOn),
+    (Place::OrOn, Kind::Word("or"), Place::Another),
     (Place::Output, Kind::Word("out"), Place::Writer),
     (Place::Writer, Kind::Process, Place::Relation),
     (Place::Relation, Kind::OneOf(&["=", "has"]), Place::Text),
@@ -159,8 +165,9 @@ impl Place {
             Place::Caller | Place::Verb => "expected calls or holds",
             Place::Calls => "expected a call, as sem_wait, or in order",
             Place::Order => "expected order",
-            Place::Call => "expected a call, as sem_wait",
-            Place::List => "expected a call, as sem_wait, or the name of an object",
+            Place::Call | Place::Another => "expected a call, as sem_wait",
+            Place::List => "expected the name of an object, as /a, or a comma",
+            Place::Listed => "expected a comma",
             Place::Called => "expected the name of an object, as /a, or >= and a number",
             Place::On => "expected >= and a number, between blanks",
             Place::Count => "expected a number from 1 to 1000",
@@ -170,12 +177,18 @@ impl Place {
             Place::NeverCalls => "expected a call, as sem_wait, or other than",
             Place::Than => "expected than",
             Place::Or => "expected the name of an object, as /a, or or",
+            Place::OrOn => "expected or",
             Place::Output | Place::Joint => "expected out, and a process after it",
             Place::Relation => "expected = or has, between blanks",
             Place::Text => {
                 "expected a text between double quotes, with the escapes of .STRINGZ, and nothing after it"
             }
         }
+    }
+
+    /// Whether words that begin at this place ask of calls.
+    pub(crate) fn asks_of_calls(self) -> bool {
+        matches!(self, Place::Caller | Place::NeverCaller)
     }
 
     /// The place behind a word that stands at this one, if it may stand here.

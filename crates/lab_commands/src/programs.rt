@@ -1,6 +1,7 @@
 //! The programs of a laboratory, as the command line names them.
 ghost use Rattle.std.specs.Prelude.{◌≡◌, false, IfOk, OnOk};
 ghost use Rattle.lab_sched.specs.Starts.{fresh};
+ghost use Rattle.lab_commands.specs.Sources.{numbered, with_lines};
 
 use crate::advice::advice_line;
 use crate::check::messages_if;
@@ -31,8 +32,9 @@ pub struct Programs {
     pub lines: Vec<Vec<String>>,
 }
 
-fn with_lines<'a>((source, lines): (&'a Option<Source>, &'a Vec<String>)) -> Option<Numbered<'a>> {
-    let lines = lines.as_slice();
+fn with_lines<'a>(source: &'a Option<Source>, lines: &'a Vec<String>) -> Option<Numbered<'a>>
+    ensures source { result ≡ with_lines source.now lines.now.items }
+{
     let source = source.as_ref()?;
     Some(Numbered { source, lines })
 }
@@ -62,12 +64,14 @@ impl Programs {
     }
 
     /// The sources with their lines, of each program where it was given as one.
-    pub fn numbered(&self, alloc: Global) -> Result<Vec<Option<Numbered<'_>>>, AllocError> {
-        self.sources
-            .iter()
-            .zip(self.lines.iter())
-            .map(with_lines)
-            .collect(alloc)
+    pub fn numbered(&self, alloc: Global) -> Result<Vec<Option<Numbered<'_>>>, AllocError>
+        ensures sources { IfOk result (λ found. found.items ≡ numbered self.now) }
+    {
+        let mut numbered = Vec::new(alloc);
+        for (source, lines) in self.sources.iter().zip(self.lines.iter()) {
+            numbered.push(with_lines(source, lines))?;
+        }
+        Ok(numbered)
     }
 }
 

@@ -200,7 +200,7 @@ fn advice_on(alloc: Global, word: &str) -> Option<String> {
             Some((head, string)) => (head, Some(string)),
             None => (left, None),
         };
-        match (reached(place, head, ' '), string) {
+        match (reached(place, head), string) {
             ((None, Place::Text), Some(string)) => {
                 let Some(rest) = behind_string(string) else {
                     return unknown(alloc, left.strip_prefix(head), Place::Text.text(), None);

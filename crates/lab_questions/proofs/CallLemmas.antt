@@ -1,33 +1,40 @@
--- What is asked of calls, one by one, and where nothing is.
-use Rattle.std.proofs.Common.{ℕ, ◌≡◌, ◌<◌, ◌+◌, ◌-◌, Bool, List, [], ◌∷◌, ◌++◌, filter, flat_map, map, get_or, length, take, drop, sym, ap, ◌∙◌, append_assoc, append-nil, arith}
+-- What is asked of calls, one by one.
+use Rattle.std.proofs.Common.{ℕ, ◌≡◌, ◌<◌, ◌+◌, Bool, List, [], ◌∷◌, ◌++◌, Result, IfOk, map, flat_map, get_or, length, take, cond, refl, sym, ap, ◌∙◌, append-nil, rules}
+use Rattle.std.specs.List.{slice_split, onto_first}
 use Rattle.std.proofs.lemmas.Grind.{flat_map-append}
-use Rattle.std.proofs.lemmas.List.{take_more, take_all, take-append-drop, map-append, length-drop}
-use Rattle.lab_ways.specs.declared.calls.CallKind.{CallKind}
-use Rattle.lab_questions.specs.CallWords.{kind_words}
-use Rattle.std.proofs.lemmas.List.Elements.{filter_more}
+use Rattle.std.proofs.lemmas.List.{take_more, map-append}
 
--- one word more
-pub other_step : (p : List ℕ → Bool) (old new xs : List (List ℕ)) (i : ℕ) (x : List ℕ) → new ≡ old ++ filter p (x ∷ []) → old ≡ filter p (take i xs)
-    → i < length xs → get_or xs i [] ≡ x → new ≡ filter p (take (i + 1) xs)
-other_step p old new xs i x added before within is =
-    added ∙ ap (λ l. l ++ filter p (x ∷ [])) before
-    ∙ sym (filter_more p xs i [] within ∙ ap (λ y. filter p (take i xs) ++ filter p (y ∷ [])) is)
+-- one thing more that is read from a piece
+pub read_more : {A B : Type 0} (written : A → B) (old new : List A) (xs : List B) (i : ℕ) (x : A) (none : B) → new ≡ old ++ x ∷ []
+    → take i xs ≡ map written old → i < length xs → get_or xs i none ≡ written x → take (i + 1) xs ≡ map written new
+read_more written old new xs i x none added before within is =
+    take_more xs i none within ∙ ap (λ y. take i xs ++ y ∷ []) is ∙ ap (λ l. l ++ written x ∷ []) before
+    ∙ sym (ap (map written) added ∙ map-append written old (x ∷ []))
 
--- one name more
-pub name_step : (old new xs : List (List ℕ)) (i : ℕ) (x : List ℕ) → new ≡ old ++ x ∷ [] → take i xs ≡ old → i < length xs → get_or xs i [] ≡ x
-    → take (i + 1) xs ≡ new
-name_step old new xs i x added before within is =
-    take_more xs i [] within ∙ ap (λ y. take i xs ++ y ∷ []) is ∙ ap (λ l. l ++ x ∷ []) before ∙ sym added
+-- what one word more gives
+pub given_more : {A B : Type 0} (f : A → List B) (old new : List B) (xs : List A) (i : ℕ) (x none : A) → new ≡ old ++ f x → old ≡ flat_map f (take i xs)
+    → i < length xs → get_or xs i none ≡ x → new ≡ flat_map f (take (i + 1) xs)
+given_more f old new xs i x none added before within is =
+    added ∙ ap (λ l. l ++ f x) before
+    ∙ sym (ap (flat_map f) (take_more xs i none within ∙ ap (λ y. take i xs ++ y ∷ []) is)
+    ∙ flat_map-append f (take i xs) (x ∷ []) ∙ ap (λ l. flat_map f (take i xs) ++ l) (append-nil (f x)))
 
--- one kind of calls more
-pub kind_step : {W : Type 0} (word : W → List ℕ) (whole : List (List ℕ)) (old new : List CallKind) (kind : CallKind) (rest : List W) (count : ℕ)
-    → new ≡ old ++ kind ∷ [] → map word (take count rest) ≡ kind_words kind → whole ≡ flat_map kind_words old ++ map word rest
-    → whole ≡ flat_map kind_words new ++ map word (take (length rest - count) (drop count rest))
-kind_step word whole old new kind rest count added read before =
-    let behind = map word (drop count rest) in
-    let parts : map word rest ≡ kind_words kind ++ behind =
-    ap (map word) (sym (take-append-drop count rest)) ∙ map-append word (take count rest) (drop count rest) ∙ ap (λ l. l ++ behind) read in
-    let more : flat_map kind_words new ≡ flat_map kind_words old ++ kind_words kind =
-    ap (flat_map kind_words) added ∙ flat_map-append kind_words old (kind ∷ []) ∙ ap (λ l. flat_map kind_words old ++ l) (append-nil (kind_words kind)) in
-    before ∙ ap (λ l. flat_map kind_words old ++ l) parts ∙ sym (append_assoc (flat_map kind_words old) (kind_words kind) behind) ∙ ap (λ l. l ++ behind) (sym more)
-    ∙ ap (λ l. flat_map kind_words new ++ map word l) (sym (take_all (length rest - count) (drop count rest) (omega (arith, length-drop count rest))))
+onto : {A B : Type 0} (f : A → B) (x : A) (parts : List (List A)) → map (map f) (onto_first x parts) ≡ onto_first (f x) (map (map f) parts)
+onto f x y = search rules
+
+split_by : {A B : Type 0} (f : A → B) (x : A) (rest : List (List A)) (seen : List (List B)) (b : Bool) → map (map f) rest ≡ seen
+    → map (map f) (cond b ([] ∷ rest) (onto_first x rest)) ≡ cond b ([] ∷ seen) (onto_first (f x) seen)
+split_by f x rest seen y e = search rules
+
+-- pieces of a list that is seen by a function are the pieces of what it sees
+pub split-map : {A B : Type 0} (f : A → B) (p : B → Bool) (xs : List A) → map (map f) (slice_split (λ x. p (f x)) xs) ≡ slice_split p (map f xs)
+split-map f p [] = refl
+split-map f p (x ∷ xs) = split_by f x (slice_split (λ x. p (f x)) xs) (slice_split p (map f xs)) (p (f x)) (split-map f p xs)
+
+-- what holds of a value holds of what follows from it
+pub if_ok : {A E : Type 0} (P Q : A → Type 0) (r : Result A E) → ((v : A) → P v → Q v) → IfOk r P → IfOk r Q
+if_ok x y z f h = search rules
+
+pub map-twice : {A B C : Type 0} (f : B → C) (g : A → B) (xs : List A) → map (λ x. f (g x)) xs ≡ map f (map g xs)
+map-twice f g [] = refl
+map-twice f g (x ∷ xs) = ap (λ ys. f (g x) ∷ ys) (map-twice f g xs)

@@ -24,7 +24,7 @@ use Rattle.lab_questions.specs.Left.{left_text}
 use Rattle.lab_questions.specs.Lines.{AreLines, StandIn}
 use Rattle.lab_questions.specs.Private.Says.{Says}
 use Rattle.lab_questions.specs.Shown.{outputs_text, outcome_text, head_text, with_left, shown_text}
-use Rattle.lab_questions.specs.Asked.{is_condition}
+use Rattle.lab_questions.specs.Asked.{is_never}
 use Rattle.lab_questions.specs.Texts.{Unmet, first_line, unmet_lines, unmet_among, answers_text}
 use Rattle.lab_questions.proofs.LineLemmas.{lines-append, lines-feed, lines-onto, same_last}
 use Rattle.lab_questions.proofs.OneText.{same_text}
@@ -70,10 +70,10 @@ module _ (show : Show) (found : Exploration) (answers : List Answer) (text : Lis
   ends = ends_text show 1 (told_ends show found.ends.items)
 
   abbrev words : List ℕ
-  words = flat_map unmet_lines (unmet_among (λ q. not (is_condition q)) found.ends.items answers)
+  words = flat_map unmet_lines (unmet_among (λ q. not (is_never q)) found.ends.items answers)
 
   abbrev reached : List ℕ
-  reached = flat_map unmet_lines (unmet_among is_condition found.ends.items answers)
+  reached = flat_map unmet_lines (unmet_among is_never found.ends.items answers)
 
   abbrev last : List ℕ
   last = extent_line found.complete found.worlds
@@ -84,12 +84,12 @@ module _ (show : Show) (found : Exploration) (answers : List Answer) (text : Lis
 
   front_whole : AreLines (ends ++ words)
   front_whole =
-      lines-append ends words (ends_whole show 1 (told_ends show found.ends.items)) (unmet_whole (unmet_among (λ q. not (is_condition q)) found.ends.items answers))
+      lines-append ends words (ends_whole show 1 (told_ends show found.ends.items)) (unmet_whole (unmet_among (λ q. not (is_never q)) found.ends.items answers))
 
   above_whole : AreLines (ends ++ words ++ (reached ++ lasso_text found.lasso))
   above_whole =
       lines-append (ends ++ words) (reached ++ lasso_text found.lasso) front_whole
-      (lines-append reached (lasso_text found.lasso) (unmet_whole (unmet_among is_condition found.ends.items answers)) (lasso_whole found.lasso))
+      (lines-append reached (lasso_text found.lasso) (unmet_whole (unmet_among is_never found.ends.items answers)) (lasso_whole found.lasso))
 
   -- a text that says `complete` tells an exploration that is
   is_complete : SaysComplete text → found.complete ≡ true
@@ -116,7 +116,7 @@ module _ (show : Show) (found : Exploration) (answers : List Answer) (text : Lis
           absurd (quiet (subst (StandIn endless_line) (sym whole)
           (stand_before endless_line (ends ++ words ++ (reached ++ lasso_text found.lasso)) last
           (stand_behind (ends ++ words) endless_line (reached ++ lasso_text found.lasso) front_whole
-          (stand_behind reached endless_line (lasso_text found.lasso) (unmet_whole (unmet_among is_condition found.ends.items answers)) stands)))))
+          (stand_behind reached endless_line (lasso_text found.lasso) (unmet_whole (unmet_among is_never found.ends.items answers)) stands)))))
 
   -- where all ends were found, by the fewest calls, the text tells each
   tells_every_end : (start : WorldState) → AreEnds start found.ends.items

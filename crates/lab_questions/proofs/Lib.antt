@@ -10,6 +10,7 @@ pub mod ClaimLemmas
 mod Numbered
 mod OrderLemmas
 mod Watched
+mod BasisLemmas
 mod SoFar
 mod FailureLemmas
 pub mod ListLemmas

@@ -17,7 +17,7 @@ use Rattle.lab_questions.specs.declared.asked.Question.{Question}
 use Rattle.lab_questions.specs.declared.asked.Question.TheVariants.{Require, Never, Calls}
 use Rattle.lab_questions.specs.declared.asked.Waiter.{Waiter}
 use Rattle.lab_questions.specs.declared.failure.Failure.{Failure}
-use Rattle.lab_questions.specs.declared.failure.Failure.TheVariants.{Unmet, Endless, Incomplete}
+use Rattle.lab_questions.specs.declared.failure.Failure.TheVariants.{Unmet, Endless, Empty, Incomplete}
 use Rattle.lab_questions.specs.Judgments.{IsMet, IsFault}
 use Rattle.lab_questions.specs.Programs.{schedule_at, AlwaysMeet, IsRefuted}
 
@@ -84,6 +84,7 @@ abbrev pub shown_of : Answers → Option Failure → Option (List Block)
 shown_of a None = None
 shown_of a (Some (Unmet k)) = option_and_then (λ x. shown_by a.exploration.ends.items x.found) (slice_get a.answers.items k)
 shown_of a (Some Endless) = a.through
+shown_of a (Some Empty) = None
 shown_of a (Some Incomplete) = None
 
 -- the same of the failure that is told

@@ -33,12 +33,6 @@ is_never (Require word) = false
 is_never (Never never) = true
 is_never (Calls word) = forbids word.wanted.pattern
 
--- whether it is about each world or step
-abbrev pub is_condition : Question → Bool
-is_condition (Require word) = false
-is_condition (Never never) = true
-is_condition (Calls word) = false
-
 -- whether it is about the calls of every way
 abbrev pub is_of_calls : Question → Bool
 is_of_calls (Require word) = false

@@ -1,6 +1,7 @@
 -- What is asked of calls, as it is written.
-use Rattle.std.specs.Prelude.{ℕ, ◌≡◌, ◌⊎◌, ◌++◌, ◌&&◌, nat_le, if◌then◌else◌, Bool, true, false, Option, Some, None, List, [], ◌∷◌, not, codes, filter, flat_map}
+use Rattle.std.specs.Prelude.{ℕ, ◌-◌, ◌==◌, ◌≡◌, ◌⊎◌, ◌++◌, ◌&&◌, nat_le, nat_lt, if◌then◌else◌, Bool, true, false, Option, Some, None, List, [], ◌∷◌, codes, flat_map, length, map, slice_index, take}
 use Rattle.std.specs.Option.{option_and_then, option_to_list}
+use Rattle.std.specs.List.{slice_split}
 use Rattle.std.specs.Str.{bytes_eq}
 use Rattle.ipc_traps.specs.Services.{service_name}
 use Rattle.lc3_word.specs.Blanks.{words_between}
@@ -23,18 +24,26 @@ call_count word = option_and_then (λ n. if nat_le 1 n && nat_le n 1000 then Som
 abbrev pub IsCount : List (List ℕ) → ℕ → Type 0
 IsCount words n = (number : List ℕ) × (words ≡ codes ">=" ∷ number ∷ []) × (call_count number ≡ Some n)
 
--- words without those that are this one
-abbrev pub without : List ℕ → List (List ℕ) → List (List ℕ)
-without word words = filter (λ other. not (bytes_eq word other)) words
+-- the pieces of words between those that are this one
+abbrev pub pieces : List ℕ → List (List ℕ) → List (List (List ℕ))
+pieces word words = slice_split (bytes_eq word) words
 
--- the words behind a process, or all where there is none: between kinds may stand `or`, and between names `and`
+-- words that begin with these, and behind them write these things, with one word between each two
+abbrev pub Lists : {A : Type 0} → List (List ℕ) → List ℕ → (A → List (List ℕ)) → List A → List (List ℕ) → Type 0
+Lists front between written things words = (rest : List (List ℕ)) × (words ≡ front ++ rest) × (pieces between rest ≡ map written things)
+
+-- a name alone
+abbrev pub name_words : List ℕ → List (List ℕ)
+name_words name = name ∷ []
+
+-- the words behind a process, or all where there is none
 abbrev pub Say : List (List ℕ) → Pattern → Type 0
 Say words (AtLeast kind n) =
     (count : List (List ℕ)) × (words ≡ codes "calls" ∷ kind_words kind ++ count) × (((count ≡ []) × (n ≡ 1)) ⊎ IsCount count n)
-Say words (InOrder kinds) = words ≡ codes "calls" ∷ codes "in" ∷ codes "order" ∷ flat_map kind_words kinds.items
-Say words (Together names) = without (codes "and") words ≡ codes "holds" ∷ names.items
-Say words (NoneOf kinds) = without (codes "or") words ≡ codes "calls" ∷ flat_map kind_words kinds.items
-Say words (NoneBut kinds) = words ≡ codes "calls" ∷ codes "other" ∷ codes "than" ∷ flat_map kind_words kinds.items
+Say words (InOrder kinds) = Lists (codes "calls" ∷ codes "in" ∷ codes "order" ∷ []) (codes ",") kind_words kinds.items words
+Say words (Together names) = Lists (codes "holds" ∷ []) (codes "and") name_words names.items words
+Say words (NoneOf kinds) = Lists (codes "calls" ∷ []) (codes "or") kind_words kinds.items words
+Say words (NoneBut kinds) = Lists (codes "calls" ∷ codes "other" ∷ codes "than" ∷ []) (codes ",") kind_words kinds.items words
 
 -- whether it says what must never be so, and not what must be
 abbrev pub forbids : Pattern → Bool
@@ -50,6 +59,15 @@ SayOf None words pattern = Say words pattern
 SayOf (Some p) words pattern =
     (number : List ℕ) × (rest : List (List ℕ)) × (words ≡ number ∷ rest) × (process_in number ≡ Some p) × Say rest pattern
 
--- a text asks for this: its words stand between blanks and commas
+-- a word; a comma at the end of another is a word of its own
+abbrev pub comma_apart : List ℕ → List (List ℕ)
+comma_apart word =
+    if nat_lt 1 (length word) && (slice_index word (length word - 1) == 44) then take (length word - 1) word ∷ codes "," ∷ [] else word ∷ []
+
+-- the words of a text, with blanks between them
+abbrev pub words_in : List ℕ → List (List ℕ)
+words_in text = flat_map comma_apart (words_between (codes " ") text)
+
+-- a text asks for this
 abbrev pub Asks : List ℕ → Wanted → Type 0
-Asks text wanted = SayOf wanted.process (words_between (codes " ,") text) wanted.pattern
+Asks text wanted = SayOf wanted.process (words_in text) wanted.pattern

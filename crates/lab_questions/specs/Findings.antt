@@ -8,18 +8,19 @@ use Rattle.lab_worlds.specs.declared.ends.End.{End}
 use Rattle.lab_worlds.specs.declared.exploration.Exploration.{Exploration}
 use Rattle.lab_worlds.specs.declared.exploration.Limits.{Limits}
 use Rattle.lab_worlds.specs.declared.random.Walks.{Walks}
+use Rattle.lab_worlds.specs.Met.{is_refused}
 use Rattle.lab_questions.specs.declared.answers.Answers.{Answers}
 use Rattle.lab_questions.specs.declared.asked.Question.{Question}
 use Rattle.lab_questions.specs.declared.asked.Reach.{Reach}
 use Rattle.lab_questions.specs.declared.asked.Show.{Show}
 use Rattle.lab_questions.specs.declared.limit.LimitMet.{LimitMet}
-use Rattle.lab_questions.specs.declared.limit.LimitMet.TheVariants.{Worlds, Steps, StepsOrMemory}
+use Rattle.lab_questions.specs.declared.limit.LimitMet.TheVariants.{Worlds, Steps, Memory}
 use Rattle.lab_questions.specs.declared.limit.Standing.{Standing}
 use Rattle.lab_questions.specs.Asked.{is_never}
 use Rattle.lab_questions.specs.EndTexts.{extent_text}
 use Rattle.lab_questions.specs.Failures.{judges}
 use Rattle.lab_questions.specs.LeftMembers.{left_member}
-use Rattle.lab_questions.specs.Members.{objects_told, lasso_json, holds_json}
+use Rattle.lab_questions.specs.Members.{bases_told, lasso_json, holds_json}
 use Rattle.lab_questions.specs.ProcessMembers.{processes_json}
 use Rattle.lab_questions.specs.Texts.{Unmet, unmet_among}
 use Rattle.lab_questions.specs.Values.{text_json, schedule_json, truth_json, array_json, member, further_members, members_json, name_json, object_json}
@@ -32,7 +33,7 @@ name_if true name = name ∷ []
 -- what walks met of so many that were to be taken, and whether they were the first stage of more
 abbrev pub walk_stop : Exploration → ℕ → Bool → List (List ℕ)
 walk_stop found count first =
-    if found.refused then codes "memory" ∷ [] else
+    if is_refused found then codes "memory" ∷ [] else
     if nat_lt found.worlds count then codes "limit" ∷ [] else
     name_if first (codes "first")
 
@@ -54,7 +55,7 @@ stops_named full refused first =
 -- the names of the limits that a search met, if it isn't complete
 abbrev pub search_limits : Exploration → Limits → Bool → List (List ℕ)
 search_limits found limits first =
-    if found.complete then [] else stops_named (nat_le limits.worlds found.worlds) found.refused first
+    if found.complete then [] else stops_named (nat_le limits.worlds found.worlds) (is_refused found) first
 
 -- the names of the limits that were met: by walks, or by a search
 abbrev pub limits_met : Exploration → Limits → Bool → Option Walks → List (List ℕ)
@@ -81,7 +82,7 @@ abbrev pub limit_json : Option LimitMet → List ℕ
 limit_json None = codes "null"
 limit_json (Some (Worlds visited more)) = object_json (member (codes "met") (name_json (codes "worlds")) ∷ [])
 limit_json (Some (Steps process steps standing)) = standing_json process standing
-limit_json (Some (StepsOrMemory steps memory)) = object_json (member (codes "met") (name_json (codes "steps or memory")) ∷ [])
+limit_json (Some (Memory memory)) = object_json (member (codes "met") (name_json (codes "memory")) ∷ [])
 
 -- what is counted: worlds, or walks in their place
 abbrev pub unit_text : Option Walks → List ℕ
@@ -125,7 +126,7 @@ unmet_of among answers = unmet_among among answers.exploration.ends.items answer
 unfoldable pub last_part : Answers → List ℕ
 last_part answers =
     further_members (
-    member (codes "unopened") (array_json (objects_told answers.unopened.items))
+    member (codes "empty") (array_json (bases_told answers.empty.items))
     ∷ member (codes "fair") (truth_json answers.exploration.fair)
     ∷ member (codes "endless") (lasso_json answers.exploration.lasso)
     ∷ member (codes "holds") (holds_json (judges answers.answers.items) answers.failure)

@@ -8,7 +8,7 @@ pub mod Laws
 pub mod Requirements
 pub mod Outputs
 pub mod Written
-pub mod Objects
+pub mod Bases
 pub mod Judgments
 pub mod Programs
 pub mod CallWords

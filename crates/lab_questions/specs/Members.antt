@@ -3,13 +3,13 @@ use Rattle.std.specs.Prelude.{ℕ, Bool, true, false, List, [], ◌∷◌, Optio
 use Rattle.lab_worlds.specs.declared.exploration.Lasso.{Lasso}
 use Rattle.lab_questions.specs.declared.failure.Failure.{Failure}
 use Rattle.lab_questions.specs.declared.failure.Failure.TheVariants.{Incomplete}
-use Rattle.lab_questions.specs.declared.asking.Object.{Object}
-use Rattle.lab_questions.specs.Objects.{object_text}
+use Rattle.lab_questions.specs.declared.bases.Basis.{Basis}
+use Rattle.lab_questions.specs.Bases.{basis_text}
 use Rattle.lab_questions.specs.Values.{text_json, schedule_json, member, object_json}
 
--- objects, each as a condition names it
-abbrev pub objects_told : List Object → List (List ℕ)
-objects_told objects = map (λ o. text_json (object_text o)) objects
+-- what conditions rest on and is never there, each as it is told
+abbrev pub bases_told : List Basis → List (List ℕ)
+bases_told bases = map (λ b. text_json (basis_text b)) bases
 
 -- a lasso
 unfoldable pub cycle_json : Lasso → List ℕ

@@ -12,7 +12,7 @@ use Rattle.lab_questions.specs.declared.asked.Show.{Show}
 use Rattle.lab_questions.specs.declared.asked.Word.{Word}
 use Rattle.lab_questions.specs.declared.asked.Word.TheVariants.{Ended, Stuck, Halted, Empty, Same, Output}
 use Rattle.lab_questions.specs.Answered.{shown_by}
-use Rattle.lab_questions.specs.Asked.{head_of, is_condition, is_never, question_text}
+use Rattle.lab_questions.specs.Asked.{head_of, is_never, question_text}
 use Rattle.lab_questions.specs.EndTexts.{told_ends, ends_text, schedule_line, lasso_text, extent_line}
 
 -- what isn't as it has to be: whether it must never be so, how its line begins, what was asked, the schedule with which the
@@ -72,10 +72,10 @@ walks_line walks = codes "incomplete " ++ decimal walks ++ codes " walks\n"
 abbrev pub last_lines : Bool → Exploration → List Answer → List ℕ
 last_lines true found answers = walks_line found.worlds
 last_lines false found answers =
-    flat_map unmet_lines (unmet_among is_condition found.ends.items answers) ++ lasso_text found.lasso ++ extent_line found.complete found.worlds
+    flat_map unmet_lines (unmet_among is_never found.ends.items answers) ++ lasso_text found.lasso ++ extent_line found.complete found.worlds
 
 -- the ends that are told, the words and what is asked of calls that aren't so, and the last lines
 abbrev pub answers_text : Bool → Show → Exploration → List Answer → List ℕ
 answers_text walks show found answers =
     ends_text show 1 (told_ends show found.ends.items)
-    ++ flat_map unmet_lines (unmet_among (λ q. not (is_condition q)) found.ends.items answers) ++ last_lines walks found answers
+    ++ flat_map unmet_lines (unmet_among (λ q. not (is_never q)) found.ends.items answers) ++ last_lines walks found answers

@@ -18,7 +18,7 @@ ghost use Rattle.lab_questions.specs.Private.Says.{Says};
 use crate::failure::{failure_of, through};
 use crate::output::{has_written, have_same_outputs, have_settled};
 use crate::texts::{shown_text, tell};
-use crate::{Asked, CallWord, Failure, Object, Question, Show, Waiter, Word};
+use crate::{Asked, Basis, CallWord, Failure, Question, Show, Waiter, Word};
 use lab_conditions::{Never, messages_in};
 use lab_sched::{Fresh, Schedule, Verdict, World};
 use lab_worlds::{End, Exploration, ExploreFault, Limits, Observer, Walks, walk_randomly};
@@ -84,9 +84,9 @@ pub struct Answers {
     pub exploration: Exploration,
     /// The answer on each question, in order.
     pub answers: Vec<Answer>,
-    /// The semaphores and queues that the conditions name and that are never there. Where not
-    /// everything was visited that isn't known, and there are none here.
-    pub unopened: Vec<Object>,
+    /// What conditions rest on and is never there: those conditions ask nothing. Where not everything was visited that isn't
+    /// known, and there is none here.
+    pub empty: Vec<Basis>,
     /// The schedule of the lasso with its steps behind it, if there is one, unless they are too many for a schedule.
     pub through: Option<Schedule>,
     pub text: String,
@@ -149,7 +149,7 @@ impl Answers {
                 answer.found.shown(&self.exploration.ends)
             }
             Some(Failure::Endless) => self.through.as_ref(),
-            Some(Failure::Incomplete) | None => None,
+            Some(Failure::Empty | Failure::Incomplete) | None => None,
         }
     }
 }
@@ -278,6 +278,7 @@ pub(crate) fn said_of(
     show: Show,
     found: &Exploration,
     answers: &[Answer],
+    empty: &[Basis],
     walks: bool,
 ) -> Result<Said, AllocError>
     ensures says { IfOk result (λ s. walks ≡ false → Says show found.now (string_bytes s.text)) }
@@ -286,7 +287,7 @@ pub(crate) fn said_of(
     ensures told { IfOk result (λ s. AreTold show found.now.ends.items s.told.items) }
     ensures texts { IfOk result (λ s. map string_bytes s.texts.items
         ≡ map (text_of show) (told_ends show found.now.ends.items)) }
-    ensures failure { IfOk result (λ s. s.failure ≡ failure_of found.now answers.now) }
+    ensures failure { IfOk result (λ s. s.failure ≡ failure_of found.now answers.now empty.now) }
     ensures through { IfOk result (λ s. IsThrough found.now.lasso s.through) }
 {
     let told = tell(alloc, show, found, answers, walks)?;
@@ -296,7 +297,7 @@ pub(crate) fn said_of(
         text: told.text,
         told: told.numbers,
         texts: told.texts,
-        failure: failure_of(found, answers),
+        failure: failure_of(found, answers, empty),
     })
 }
 
@@ -324,11 +325,11 @@ pub fn ask_walks<O: Observer>(
     ensures texts { IfOk result (λ a. map string_bytes a.texts.items
         ≡ map (text_of a.show) (told_ends a.show a.exploration.ends.items)) }
     ensures sound { IfOk result (λ a. AreEnds fresh a.exploration.ends.items) }
-    ensures unopened { IfOk result (λ a. a.unopened.items ≡ []) }
+    ensures empty { IfOk result (λ a. a.empty.items ≡ []) }
     ensures open { IfOk result (λ a. a.exploration.complete ≡ false) }
     ensures lasso { IfOk result (λ a. a.exploration.lasso ≡ None) }
     ensures failure { IfOk result (λ a.
-        a.failure ≡ failure_of a.exploration a.answers.items) }
+        a.failure ≡ failure_of a.exploration a.answers.items a.empty.items) }
     ensures fails { IfOk result (λ a. a.failure ≡ None → ⊥) }
 {
     let Asked {
@@ -344,14 +345,15 @@ pub fn ask_walks<O: Observer>(
     let conditions = condition_answers(alloc, never, reached, false)?;
     let exploration = walk_randomly(alloc, fresh, limits, walks, observer)?;
     let answers = all_answers(alloc, words, &waiters, &exploration, conditions, called)?;
-    let said = said_of(alloc, show, &exploration, &answers, true)?;
+    let empty = Vec::new(alloc);
+    let said = said_of(alloc, show, &exploration, &answers, &empty, true)?;
     Ok(Answers {
         waiters,
         fair,
         show,
         exploration,
         answers,
-        unopened: Vec::new(alloc),
+        empty,
         through: said.through,
         text: said.text,
         told: said.told,

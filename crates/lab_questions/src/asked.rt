@@ -64,10 +64,6 @@ pub enum Question {
 /// Which questions are told together.
 #[derive(Clone, Copy, Debug, PartialEq, Eq)]
 pub(crate) enum Part {
-    /// Those of ends and of ways.
-    Judged,
-    /// What must never be so of a world or a step.
-    Conditions,
     /// What is required.
     Required,
     /// What must never be so.
@@ -138,8 +134,6 @@ impl Question {
         ensures value { result ≡ is_in part self.now }
     {
         match part {
-            Part::Judged => !matches!(self, Question::Never(_)),
-            Part::Conditions => matches!(self, Question::Never(_)),
             Part::Required => !self.is_never(),
             Part::Never => self.is_never(),
         }

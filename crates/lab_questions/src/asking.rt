@@ -4,11 +4,12 @@ ghost use Rattle.lab_conditions.specs.declared.never.Never.{Never as Asking};
 ghost use Rattle.lab_explore.specs.Visits.{start_of, IsWhole};
 ghost use Rattle.lab_sched.specs.Starts.{fresh};
 ghost use Rattle.lab_worlds.specs.Calls.{Alongside};
+ghost use Rattle.lab_worlds.specs.Met.{IsCutShort};
 ghost use Rattle.lab_questions.specs.Answered.{IsAnswer, IsThrough};
 ghost use Rattle.lab_questions.specs.Asked.{questions};
 ghost use Rattle.lab_questions.specs.EndTexts.{text_of, told_ends, AreTold};
 ghost use Rattle.lab_questions.specs.Failures.{failure_of, Passes};
-ghost use Rattle.lab_questions.specs.Objects.{named, objects_in, presence, TellsUnopened};
+ghost use Rattle.lab_questions.specs.Bases.{TellsEmpty};
 ghost use Rattle.lab_questions.specs.Programs.{TellEveryEnd};
 ghost use Rattle.lab_questions.specs.Searches.{HasEnds, HasRound, IsTrueText};
 ghost use Rattle.lab_questions.specs.Texts.{answers_text};
@@ -17,16 +18,15 @@ ghost use Rattle.lab_questions.specs.Private.Founds.{IsCallAnswer, IsConditionAn
 ghost use Rattle.lab_questions.specs.Private.Presences.{AreNamed, AsksFor, unseen};
 
 use crate::answers::{all_answers, condition_answers, said_of};
-use crate::{Answer, Answers, Asked, CallWord, Found, Question};
-use ipc_names::Name;
-use lab_conditions::{Condition, Never, Part, Relation};
+use crate::watching::{empty_in, watch};
+use crate::{Answer, Answers, Asked, Basis, CallWord, Found, Question};
+use lab_conditions::Never;
 use lab_explore::{Visited, explore, visit};
-use lab_sched::{Fresh, FreshFault, Program, Schedule};
+use lab_sched::{Fresh, FreshFault, Program};
 use lab_ways::{Wanted, Ways, ways_of};
 use lab_worlds::{Exploration, ExploreFault, Limits, Observer, Workers, discard};
 use lc3_table::Profile;
 use std::alloc::{AllocError, Global};
-use std::fmt;
 use std::mem::replace;
 use std::thread::Threads;
 use thiserror::Error;
@@ -38,7 +38,9 @@ use thiserror::Error;
 /// conditions name are unopened which no steps lead to. They are told once, in the order in which the conditions name them first.
 /// If only fair lassos are asked for, a lasso that is told is fair; where the exploration is complete and has none, no more than
 /// some number of passes that serve each process can follow each other. Workers judge conditions side by side. What is asked of
-/// calls is looked for by another search. A fault is that there is no laboratory of so many programs, or want of memory.
+/// calls is looked for by another search. An exploration that isn't complete says what it met: the limit of worlds, of steps, with
+/// the process that goes on so long, or of memory, or that memory was refused. A fault is that there is no laboratory of so many
+/// programs, want of memory, or a check that fails.
 pub fn ask<O: Observer, R: Threads + Sync>(
     alloc: Global,
     programs: &[Program],
@@ -67,13 +69,15 @@ pub fn ask<O: Observer, R: Threads + Sync>(
     ensures round { IfOk result (λ a. HasRound (fresh profile programs.now) a.exploration) }
     ensures says { IfOk result (λ a. IsTrueText (fresh profile programs.now) a.exploration.fair
         a.show (string_bytes a.text)) }
-    ensures unopened { IfOk result (λ a. TellsUnopened (fresh profile programs.now)
-        asked.never.items a.exploration.complete a.unopened.items) }
+    ensures empty { IfOk result (λ a. TellsEmpty (fresh profile programs.now)
+        asked.never.items a.exploration.complete a.empty.items) }
     ensures through { IfOk result (λ a. IsThrough a.exploration.lasso a.through) }
     ensures failure { IfOk result (λ a.
-        a.failure ≡ failure_of a.exploration a.answers.items) }
+        a.failure ≡ failure_of a.exploration a.answers.items a.empty.items) }
     ensures passes { IfOk result (λ a.
-        a.failure ≡ None → Passes a.exploration a.answers.items) }
+        a.failure ≡ None → Passes a.exploration a.answers.items a.empty.items) }
+    ensures met { IfOk result (λ a. a.exploration.complete ≡ false
+        → IsCutShort (fresh profile programs.now) limits a.exploration) }
 {
     let Asked {
         words,
@@ -88,17 +92,17 @@ pub fn ask<O: Observer, R: Threads + Sync>(
     let Searched {
         exploration,
         conditions,
-        unopened,
+        empty,
     } = search(alloc, fresh, limits, never, fair, observer, workers)?;
     let answers = all_answers(alloc, words, &waiters, &exploration, conditions, called)?;
-    let said = said_of(alloc, show, &exploration, &answers, false)?;
+    let said = said_of(alloc, show, &exploration, &answers, &empty, false)?;
     Ok(Answers {
         waiters,
         fair,
         show,
         exploration,
         answers,
-        unopened,
+        empty,
         through: said.through,
         text: said.text,
         told: said.told,
@@ -193,15 +197,15 @@ fn called_of(
     Ok(answers)
 }
 
-/// What a search found, the answers on what must never be so, and which objects that conditions name are never there.
+/// What a search found, the answers on what must never be so, and what of all that they rest on is never there.
 #[derive(Drop)]
 struct Searched {
     exploration: Exploration,
     conditions: Vec<Answer>,
-    unopened: Vec<Object>,
+    empty: Vec<Basis>,
 }
 
-/// Explores the programs of a laboratory, and looks for what must never be so and for the objects that it names.
+/// Explores the programs of a laboratory, and looks for what must never be so and for what it rests on.
 fn search<O: Observer, R: Threads + Sync>(
     alloc: Global,
     fresh: Fresh,
@@ -218,164 +222,22 @@ fn search<O: Observer, R: Threads + Sync>(
         map (λ a. a.question) s.conditions.items ≡ map Condemn never.items) }
     ensures each { IfOk result (λ s.
         All (IsConditionAnswer fresh s.exploration.complete) s.conditions.items) }
-    ensures unopened { IfOk result (λ s.
-        TellsUnopened fresh never.items s.exploration.complete s.unopened.items) }
+    ensures empty { IfOk result (λ s.
+        TellsEmpty fresh never.items s.exploration.complete s.empty.items) }
+    ensures met { IfOk result (λ s.
+        s.exploration.complete ≡ false → IsCutShort fresh limits s.exploration) }
 {
     let count = never.len();
-    let objects = watch(alloc, &mut never)?;
+    let bases = watch(alloc, &mut never)?;
     let mut exploration = explore(alloc, fresh, limits, &never, fair, observer, workers)?;
     never.truncate(count);
     let complete = exploration.complete;
-    let unopened = unopened_in(alloc, complete, objects, &mut exploration.reached, count)?;
+    let empty = empty_in(alloc, complete, bases, &mut exploration.reached, count)?;
     let reached = replace(&mut exploration.reached, Vec::new(alloc));
     let conditions = condition_answers(alloc, never, reached, complete)?;
     Ok(Searched {
         exploration,
         conditions,
-        unopened,
+        empty,
     })
-}
-
-/// Greater than each value of a semaphore, and than each number of messages in a queue.
-const MORE_THAN_ANY: u16 = 65_535;
-
-/// The part of a condition that holds of each world which has an object.
-fn part_of(object: &Object) -> Result<Part, AllocError>
-    ensures part { IfOk result (λ part. part ≡ presence object.now) }
-{
-    match object {
-        Object::Semaphore(name) => Ok(Part::Semaphore {
-            name: name.clone()?,
-            relation: Relation::Less,
-            value: MORE_THAN_ANY,
-        }),
-        Object::Queue(name) => Ok(Part::Queue {
-            name: name.clone()?,
-            relation: Relation::Less,
-            value: MORE_THAN_ANY,
-        }),
-    }
-}
-
-/// Adds, behind conditions, one for each object that they name, which holds of each world that has it; the objects, each once, in
-/// the order in which the conditions first name them.
-fn watch(alloc: Global, conditions: &mut Vec<Never>) -> Result<Vec<Object>, AllocError>
-    ensures asks { IfOk result (λ objects. (presences : List Asking)
-        × (conditions.new.items ≡ conditions.old.items ++ presences)
-        × Alongside AsksFor objects.items presences) }
-    ensures named { IfOk result (λ objects.
-        AreNamed (named conditions.old.items) (named conditions.old.items) objects.items) }
-{
-    let objects = named_in(alloc, conditions)?;
-    for object in &objects {
-        let part = part_of(object)?;
-        let parts = vec![in alloc; part]?;
-        let text = String::new(alloc);
-        conditions.push(Never::Holds(Condition { text, parts }))?;
-    }
-    Ok(objects)
-}
-
-fn unseen(
-    alloc: Global,
-    objects: &[Object],
-    seen: &[Option<Schedule>],
-) -> Result<Vec<Object>, AllocError>
-    ensures unseen { IfOk result (λ found. found.items ≡ unseen objects.now seen.now) }
-{
-    let mut unseen = Vec::new(alloc);
-    for number in 0..objects.len().min(seen.len()) {
-        let object = &objects[number];
-        match &seen[number] {
-            Some(_) => {}
-            None => unseen.push(object.clone()?)?,
-        }
-    }
-    Ok(unseen)
-}
-
-/// Takes the schedules behind the first ones, which are those of objects; the objects without one, if everything was visited.
-fn unopened_in(
-    alloc: Global,
-    complete: bool,
-    objects: Vec<Object>,
-    reached: &mut Vec<Option<Schedule>>,
-    asked: usize,
-) -> Result<Vec<Object>, AllocError>
-    requires there { asked ≤ length reached.old.items }
-    ensures first { OnOk result (reached.new.items ≡ take asked reached.old.items) }
-    ensures whole { IfOk result (λ unopened. IsTrue complete
-        → unopened.items ≡ unseen objects.items (drop asked reached.old.items)) }
-    ensures unknown { IfOk result (λ unopened. complete ≡ false → unopened.items ≡ []) }
-{
-    let seen = reached.split_off(asked)?;
-    if complete {
-        unseen(alloc, &objects, &seen)
-    } else {
-        Ok(Vec::new(alloc))
-    }
-}
-
-/// A semaphore or a queue, by its name. It is shown as a condition names it.
-#[derive(Clone, PartialEq, Eq, Drop)]
-pub enum Object {
-    Semaphore(Name),
-    Queue(Name),
-}
-
-impl fmt::Display for Object {
-    ghost use Rattle.std.specs.Prelude.{Some};
-    ghost use Rattle.lab_questions.specs.Objects.{object_text};
-
-    ghost output = { λ o. Some (object_text o) };
-
-    fn fmt<W: fmt::Write>(&self, f: &mut fmt::Formatter<W>) -> fmt::Result {
-        match self {
-            Object::Semaphore(name) => write!(f, "sem {}", name.text()),
-            Object::Queue(name) => write!(f, "mq {}", name.text()),
-        }
-    }
-}
-
-fn push_objects(objects: &mut Vec<Object>, parts: &[Part]) -> Result<(), AllocError>
-    ensures objects { OnOk result
-        (objects.new.items ≡ objects.old.items ++ flat_map objects_in parts.now) }
-{
-    for part in parts {
-        match part {
-            Part::Semaphore { name, .. } => objects.push(Object::Semaphore(name.clone()?))?,
-            Part::Queue { name, .. } => objects.push(Object::Queue(name.clone()?))?,
-            Part::Of { .. } | Part::MoreThan { .. } => {}
-        }
-    }
-    Ok(())
-}
-
-/// The objects that conditions name, as often as they do.
-fn all_named(alloc: Global, conditions: &[Never]) -> Result<Vec<Object>, AllocError>
-    ensures objects { IfOk result (λ objects. objects.items ≡ named conditions.now) }
-{
-    let mut objects = Vec::new(alloc);
-    for condition in conditions {
-        if let Never::Holds(condition) = condition {
-            push_objects(&mut objects, &condition.parts)?;
-        }
-    }
-    Ok(objects)
-}
-
-/// The objects that conditions name, each once, in the order in which they first do.
-fn named_in(alloc: Global, conditions: &[Never]) -> Result<Vec<Object>, AllocError>
-    ensures named { IfOk result (λ objects.
-        AreNamed (named conditions.now) (named conditions.now) objects.items) }
-{
-    let repeated = all_named(alloc, conditions)?;
-    let mut objects = Vec::new(alloc);
-    for object in &repeated {
-        if objects.contains(object) {
-            continue;
-        }
-        objects.push(object.clone()?)?;
-    }
-    Ok(objects)
 }

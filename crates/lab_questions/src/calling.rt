@@ -1,7 +1,6 @@
 //! Reading what is asked of calls.
-ghost use Rattle.std.specs.Prelude.{◌≡◌, ◌++◌, ◌∷◌, [], true, false, IfOk, IfSome, OnOk, codes, flat_map, map};
-ghost use Rattle.lc3_word.specs.Blanks.{words_between};
-ghost use Rattle.lab_questions.specs.CallWords.{call_count, kind_words, without, Say, SayOf, Asks, forbids};
+ghost use Rattle.std.specs.Prelude.{◌≡◌, ◌++◌, ◌∷◌, [], true, false, IfOk, IfSome, OnOk, codes, map};
+ghost use Rattle.lab_questions.specs.CallWords.{call_count, comma_apart, kind_words, name_words, pieces, words_in, Say, SayOf, Asks, forbids};
 ghost use Rattle.lab_ways.specs.declared.wanted.Pattern.{Pattern as Calls};
 
 use crate::reading::{is_word, process_in};
@@ -50,64 +49,67 @@ fn kind_in(alloc: Global, words: &[&[u8]]) -> Result<Option<CallKind>, AllocErro
     }
 }
 
-/// Kinds of calls, one behind the other, where there is one.
-fn kinds_in(alloc: Global, words: &[&[u8]]) -> Result<Option<Vec<CallKind>>, AllocError>
-    ensures words { IfOk result (λ read. IfSome read (λ kinds.
-        map (λ word. word.now) words.now ≡ flat_map kind_words kinds.items)) }
+/// What stands between the words that are this one.
+fn pieces<'a, 'b>(
+    alloc: Global,
+    between: &str,
+    words: &'a [&'b [u8]],
+) -> Result<Vec<&'a [&'b [u8]]>, AllocError>
+    ensures pieces { IfOk result (λ found.
+        map (λ piece. map (λ word. word.now) piece.now) found.items
+        ≡ pieces between.now (map (λ word. word.now) words.now)) }
 {
-    if words.is_empty() {
-        return Ok(None);
-    }
+    words.split(|word| is_word(between, word)).collect(alloc)
+}
+
+/// Kinds of calls with one word between each two.
+fn kinds_in(
+    alloc: Global,
+    between: &str,
+    words: &[&[u8]],
+) -> Result<Option<Vec<CallKind>>, AllocError>
+    ensures kinds { IfOk result (λ read. IfSome read (λ kinds.
+        pieces between.now (map (λ word. word.now) words.now) ≡ map kind_words kinds.items)) }
+{
+    let pieces = pieces(alloc, between, words)?;
     let mut kinds = Vec::new(alloc);
-    let mut rest = words;
-    while !rest.is_empty() {
-        let count = match rest.get(1) {
-            Some(word) if word.starts_with(b"/") => 2,
-            _ => 1,
-        };
-        let Some(kind) = kind_in(alloc, &rest[..count])? else {
-            return Ok(None);
-        };
-        kinds.push(kind)?;
-        rest = &rest[count..];
+    for piece in &pieces {
+        match kind_in(alloc, piece)? {
+            Some(kind) => kinds.push(kind)?,
+            None => return Ok(None),
+        }
     }
     Ok(Some(kinds))
 }
 
+/// The name that is one word.
+fn name_alone(alloc: Global, words: &[&[u8]]) -> Result<Option<Name>, AllocError>
+    ensures name { IfOk result (λ read. IfSome read (λ name.
+        map (λ word. word.now) words.now ≡ name_words name)) }
+{
+    match words {
+        [word] => name_in(alloc, word),
+        _ => Ok(None),
+    }
+}
+
+/// Names with `and` between each two, if they aren't too many.
 fn names_in(alloc: Global, words: &[&[u8]]) -> Result<Option<Vec<Name>>, AllocError>
     ensures names { IfOk result (λ read. IfSome read (λ names.
-        map (λ word. word.now) words.now ≡ names.items)) }
+        pieces (codes "and") (map (λ word. word.now) words.now) ≡ map name_words names.items)) }
 {
+    let pieces = pieces(alloc, "and", words)?;
+    if pieces.len() > MOST_NAMES {
+        return Ok(None);
+    }
     let mut names = Vec::new(alloc);
-    for word in words {
-        match name_in(alloc, word)? {
+    for piece in &pieces {
+        match name_alone(alloc, piece)? {
             Some(name) => names.push(name)?,
             None => return Ok(None),
         }
     }
     Ok(Some(names))
-}
-
-fn push_other<'a>(words: &mut Vec<&'a [u8]>, name: &str, word: &'a [u8]) -> Result<(), AllocError>
-    ensures added { OnOk result (map (λ w. w.now) words.new.items
-        ≡ map (λ w. w.now) words.old.items ++ without name.now (word.now ∷ [])) }
-{
-    if name.as_bytes() == word {
-        return Ok(());
-    }
-    words.push(word)?;
-    Ok(())
-}
-
-fn without<'a>(alloc: Global, name: &str, words: &[&'a [u8]]) -> Result<Vec<&'a [u8]>, AllocError>
-    ensures words { IfOk result (λ found. map (λ word. word.now) found.items
-        ≡ without name.now (map (λ word. word.now) words.now)) }
-{
-    let mut found = Vec::new(alloc);
-    for word in words {
-        push_other(&mut found, name, word)?;
-    }
-    Ok(found)
 }
 
 /// How many calls a word says that there are at least, if that is a number that can be asked for: 1 to 1,000.
@@ -140,7 +142,9 @@ fn pattern_in(alloc: Global, words: &[&[u8]], never: bool) -> Result<Option<Patt
             if !never
                 && is_word("calls", calls)
                 && is_word("in", first)
-                && is_word("order", second) => { Ok(kinds_in(alloc, kinds)?.map(Pattern::InOrder)) }
+                && is_word("order", second) => {
+            Ok(kinds_in(alloc, ",", kinds)?.map(Pattern::InOrder))
+        }
         [calls, rest @ ..] if !never && is_word("calls", calls) => {
             let Some((call, number)) = count_behind(rest) else {
                 return Ok(kind_in(alloc, rest)?.map(|kind| Pattern::AtLeast(kind, 1)));
@@ -151,20 +155,17 @@ fn pattern_in(alloc: Global, words: &[&[u8]], never: bool) -> Result<Option<Patt
             Ok(call_count(number).map(|count| Pattern::AtLeast(kind, count)))
         }
         [holds, names @ ..] if !never && is_word("holds", holds) => {
-            let names = without(alloc, "and", names)?;
-            if names.is_empty() || names.len() > MOST_NAMES {
-                return Ok(None);
-            }
-            Ok(names_in(alloc, &names)?.map(Pattern::Together))
+            Ok(names_in(alloc, names)?.map(Pattern::Together))
         }
         [calls, first, second, kinds @ ..]
             if never
                 && is_word("calls", calls)
                 && is_word("other", first)
-                && is_word("than", second) => { Ok(kinds_in(alloc, kinds)?.map(Pattern::NoneBut)) }
+                && is_word("than", second) => {
+            Ok(kinds_in(alloc, ",", kinds)?.map(Pattern::NoneBut))
+        }
         [calls, kinds @ ..] if never && is_word("calls", calls) => {
-            let kinds = without(alloc, "or", kinds)?;
-            Ok(kinds_in(alloc, &kinds)?.map(Pattern::NoneOf))
+            Ok(kinds_in(alloc, "or", kinds)?.map(Pattern::NoneOf))
         }
         _ => Ok(None),
     }
@@ -183,16 +184,45 @@ fn process_of<'a, 'b>(words: &'a [&'b [u8]]) -> (Option<usize>, &'a [&'b [u8]])
     (None, words)
 }
 
+/// Adds a word, and the comma at its end, if it has one, as another.
+fn push_apart<'a>(words: &mut Vec<&'a [u8]>, word: &'a [u8]) -> Result<(), AllocError>
+    ensures added { OnOk result (map (λ w. w.now) words.new.items
+        ≡ map (λ w. w.now) words.old.items ++ comma_apart word.now) }
+{
+    match word {
+        [front @ .., b','] if !front.is_empty() => {
+            words.push(front)?;
+            words.push(b",")?;
+        }
+        _ => words.push(word)?,
+    }
+    Ok(())
+}
+
+/// The words of a text. A comma at the end of one is a word of its own.
+fn words_in(alloc: Global, text: &[u8]) -> Result<Vec<&[u8]>, AllocError>
+    ensures words { IfOk result (λ found. map (λ word. word.now) found.items
+        ≡ words_in text.now) }
+{
+    let whole = words_between(alloc, b" ", text)?;
+    let mut words = Vec::new(alloc);
+    for word in &whole {
+        push_apart(&mut words, word)?;
+    }
+    Ok(words)
+}
+
 /// What a text asks of calls: what must be so, or what must never be. `calls CALL`, behind which `>= N` may stand, and
-/// `calls in order CALL, CALL` say what must be so, and `holds /NAME and /NAME`; `calls CALL or CALL` and
+/// `calls in order CALL, CALL` say what must be so, and `holds NAME and NAME`; `calls CALL or CALL` and
 /// `calls other than CALL, CALL` what must never be. Each CALL is a name, behind which that of an object may stand; before
-/// all may stand a process.
+/// all may stand a process. Lists have one element or more, with the comma or the word between each two and nowhere else. A name
+/// may have a comma, but not at its end.
 pub fn read_calls(alloc: Global, text: &str, never: bool) -> Result<Option<Wanted>, AllocError>
     ensures asks { IfOk result (λ read. IfSome read (λ wanted. Asks text.now wanted)) }
     ensures forbids { IfOk result (λ read.
         IfSome read (λ wanted. forbids wanted.pattern ≡ never)) }
 {
-    let words = words_between(alloc, b" ,", text.as_bytes())?;
+    let words = words_in(alloc, text.as_bytes())?;
     let (process, rest) = process_of(&words);
     let pattern = pattern_in(alloc, rest, never)?;
     Ok(pattern.map(|pattern| Wanted { process, pattern }))

@@ -6,7 +6,7 @@ ghost use Rattle.lab_questions.specs.Answered.{is_known, IsThrough};
 ghost use Rattle.lab_questions.specs.Asked.{asks_rest};
 ghost use Rattle.lab_questions.specs.Failures.{failure_of, first_failing};
 
-use crate::Answer;
+use crate::{Answer, Basis};
 use lab_sched::{Block, MOST_STEPS, Schedule};
 use lab_worlds::{Exploration, Lasso};
 use std::alloc::{AllocError, Global};
@@ -18,6 +18,8 @@ pub enum Failure {
     Unmet(usize),
     /// Some interleaving never ends, and each has to.
     Endless,
+    /// Some condition asks nothing.
+    Empty,
     /// Not everything was visited.
     Incomplete,
 }
@@ -43,9 +45,13 @@ fn are_known(answers: &[Answer]) -> bool
 }
 
 /// Why not all is shown to be so, if it isn't: what was found of ends, worlds and steps; else a round, where each run has to come
-/// to rest; else a way; else what isn't known.
-pub(crate) fn failure_of(found: &Exploration, answers: &[Answer]) -> Option<Failure>
-    ensures failure { result ≡ failure_of found.now answers.now }
+/// to rest; else a way; else that a condition asks nothing, by what such rest on; else what isn't known.
+pub(crate) fn failure_of(
+    found: &Exploration,
+    answers: &[Answer],
+    empty: &[Basis],
+) -> Option<Failure>
+    ensures failure { result ≡ failure_of found.now answers.now empty.now }
 {
     if let Some(number) = first_failing(answers, false) {
         return Some(Failure::Unmet(number));
@@ -55,6 +61,9 @@ pub(crate) fn failure_of(found: &Exploration, answers: &[Answer]) -> Option<Fail
     }
     if let Some(number) = first_failing(answers, true) {
         return Some(Failure::Unmet(number));
+    }
+    if !empty.is_empty() {
+        return Some(Failure::Empty);
     }
     if found.complete && are_known(answers) {
         return None;
@@ -66,8 +75,10 @@ pub(crate) fn failure_of(found: &Exploration, answers: &[Answer]) -> Option<Fail
 fn push_blocks(schedule: &mut Schedule, blocks: &[Block]) -> Result<(), AllocError>
     requires valid { AllByRecursion IsBlock blocks.now }
     requires room { total_of schedule.old + total_of blocks.now ≤ most_steps }
-    ensures steps { OnOk result (steps_of schedule.new ≡ steps_of schedule.old ++ steps_of blocks.now) }
-    ensures total { OnOk result (total_of schedule.new ≡ total_of schedule.old + total_of blocks.now) }
+    ensures steps { OnOk result
+        (steps_of schedule.new ≡ steps_of schedule.old ++ steps_of blocks.now) }
+    ensures total { OnOk result
+        (total_of schedule.new ≡ total_of schedule.old + total_of blocks.now) }
 {
     for block in blocks {
         schedule.push(block.pid, block.count)?;

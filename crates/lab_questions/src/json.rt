@@ -4,7 +4,7 @@ ghost use Rattle.std.specs.Option.{option_copied};
 ghost use Rattle.lab_questions.specs.Findings.{answers_line, found_part, last_part, limits_met, unit_text, schedules_json, unmet_json};
 ghost use Rattle.std.specs.Fmt.{decimal};
 ghost use Rattle.lab_questions.specs.Values.{array_json, member, name_json};
-ghost use Rattle.lab_questions.specs.Members.{objects_told, lasso_json, holds_json};
+ghost use Rattle.lab_questions.specs.Members.{bases_told, lasso_json, holds_json};
 ghost use Rattle.lab_questions.specs.Private.Rows.{unmet_view, unmets_of};
 
 mod ends;
@@ -13,9 +13,9 @@ mod values;
 use crate::asked::Part;
 use crate::called::{Unmet, unmets_in};
 use crate::json::ends::{Ends, Limit};
-use crate::json::values::{Array, Characters, Quoted, StepsValue, Text, Values};
+use crate::json::values::{Array, Quoted, StepsValue, Text, Values};
 use crate::texts::extent_of;
-use crate::{Answers, Failure, LimitMet, Object, Reach};
+use crate::{Answers, Basis, Failure, LimitMet, Reach};
 use lab_sched::Steps;
 use lab_worlds::{Exploration, Lasso, Walks};
 use std::alloc::{AllocError, Global};
@@ -26,8 +26,9 @@ fn limits_json(found: &Exploration, reach: Reach) -> &'static str
     ensures text { result.now ≡ array_json (map name_json
         (limits_met found.now reach.limits reach.is_stage reach.walks)) }
 {
+    let refused = found.is_refused();
     if let Some(walks) = reach.walks {
-        return match (found.refused, found.worlds < walks.count, reach.is_stage) {
+        return match (refused, found.worlds < walks.count, reach.is_stage) {
             (true, _, _) => "[\"memory\",\"random\"]",
             (false, true, _) => "[\"limit\",\"random\"]",
             (false, false, true) => "[\"first\",\"random\"]",
@@ -38,7 +39,7 @@ fn limits_json(found: &Exploration, reach: Reach) -> &'static str
         return "[]";
     }
     let is_full = found.worlds >= reach.limits.worlds;
-    match (is_full, found.refused, reach.is_stage) {
+    match (is_full, refused, reach.is_stage) {
         (true, true, true) => "[\"memory\",\"first\"]",
         (true, true, false) => "[\"worlds\",\"memory\"]",
         (true, false, true) => "[\"first\"]",
@@ -66,21 +67,22 @@ impl fmt::Display for Visited {
 
 /// The last members, and the end of the line.
 #[derive(Clone, Copy)]
-struct Last<'a>(&'a Answers);
+struct Last<'a>(Found<'a>);
 
 impl fmt::Display for Last<'_> {
-    ghost output = { λ l. Some (last_part l.0.now) };
+    ghost output = { λ l. Some (last_part l.0.answers.now) };
 
     #[tactic(auto, unfolding(crate::specs::Findings::last_part))]
     fn fmt<W: fmt::Write>(&self, f: &mut fmt::Formatter<W>) -> fmt::Result {
-        let answers = self.0;
-        let unopened = Array(Objects(&answers.unopened));
+        let Found { alloc, answers } = self.0;
+        let bases = answers.empty.as_slice();
+        let empty = Array(Bases { alloc, bases });
         let fair = answers.exploration.fair;
         let endless = Cycle(&answers.exploration.lasso);
         let holds = holds_name(answers.judges(), answers.failure);
         write!(
             f,
-            ",\"unopened\":{unopened},\"fair\":{fair},\"endless\":{endless},\"holds\":{holds}}}\n"
+            ",\"empty\":{empty},\"fair\":{fair},\"endless\":{endless},\"holds\":{holds}}}\n"
         )
     }
 }
@@ -100,7 +102,7 @@ impl fmt::Display for Found<'_> {
         let ends = Array(Ends(*self));
         let required = UnmetArray(*self, Part::Required);
         let never = UnmetArray(*self, Part::Never);
-        let last = Last(self.answers);
+        let last = Last(*self);
         write!(
             f,
             ",\"ends\":{ends},\"not\":{required},\"reached\":{never}{last}"
@@ -128,23 +130,25 @@ pub fn answers_json(
     format!(in alloc; "{{\"search\":{search},\"limits\":{limits},\"limit\":{limit},{visited}{rest}")
 }
 
-/// Objects, each as a condition names it.
+/// What conditions rest on and is never there, each as it is told.
 #[derive(Clone, Copy)]
-pub(crate) struct Objects<'a>(pub &'a [Object]);
+struct Bases<'a> {
+    alloc: Global,
+    bases: &'a [Basis],
+}
 
-impl Values for Objects<'_> {
-    ghost values = { λ o. objects_told o.0.now };
+impl Values for Bases<'_> {
+    ghost values = { λ b. bases_told b.bases.now };
 
     fn count(&self) -> usize {
-        self.0.len()
+        self.bases.len()
     }
 
-    #[tactic(auto, using(crate::proofs::ValueLemmas::value_at, crate::proofs::ValueLemmas::semaphore_told, crate::proofs::ValueLemmas::queue_told))]
+    #[tactic(auto, using(crate::proofs::ValueLemmas::value_at))]
     fn write<W: fmt::Write>(&self, place: usize, f: &mut fmt::Formatter<W>) -> fmt::Result {
-        match &self.0[place] {
-            Object::Semaphore(name) => write!(f, "\"sem {}\"", Characters(name.text().as_bytes())),
-            Object::Queue(name) => write!(f, "\"mq {}\"", Characters(name.text().as_bytes())),
-        }
+        let basis = &self.bases[place];
+        let told = format!(in self.alloc; "{basis}")?;
+        write!(f, "{}", Text(told.as_bytes()))
     }
 }
 

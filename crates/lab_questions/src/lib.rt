@@ -5,6 +5,7 @@
 mod answers;
 mod asked;
 mod asking;
+mod bases;
 mod called;
 mod calling;
 mod failure;
@@ -15,10 +16,12 @@ mod limit;
 mod output;
 mod reading;
 mod texts;
+mod watching;
 
 pub use answers::{Answer, Answers, Found, ask_walks};
 pub use asked::{Asked, CallWord, Question, Reach, Show, Waiter, Word};
-pub use asking::{AskFault, Object, ask};
+pub use asking::{AskFault, ask};
+pub use bases::{Basis, PlaceWord};
 pub use calling::{call_count, read_calls};
 pub use failure::Failure;
 pub use json::answers_json;

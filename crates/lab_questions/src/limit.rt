@@ -34,9 +34,8 @@ pub enum LimitMet {
         steps: u32,
         standing: Standing,
     },
-    /// A process took so many steps without a call, or the search so many bytes: which isn't known.
-    StepsOrMemory {
-        steps: u32,
+    /// The search took so many bytes.
+    Memory {
         memory: usize,
     },
 }
@@ -62,13 +61,9 @@ impl fmt::Display for LimitMet {
                     "process {process} took {steps} steps without a call, at {standing} (--limit)"
                 )
             }
-            LimitMet::StepsOrMemory { steps, memory } => {
-                let steps = Grouped(*steps);
+            LimitMet::Memory { memory } => {
                 let megabytes = *memory / MEGABYTE;
-                write!(
-                    f,
-                    "a process took {steps} steps without a call (--limit), or the search {megabytes} megabytes (--memory)"
-                )
+                write!(f, "the search took {megabytes} megabytes (--memory)")
             }
         }
     }

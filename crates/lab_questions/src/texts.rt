@@ -58,7 +58,7 @@ fn push_last(
     if walks {
         return write!(text, "incomplete {worlds} walks\n");
     }
-    push_unmets(text, answers, &found.ends, Part::Conditions)?;
+    push_unmets(text, answers, &found.ends, Part::Never)?;
     let lasso = LassoLines(&found.lasso);
     let extent = extent_of(found.complete);
     write!(text, "{lasso}{extent} {worlds} worlds\n")
@@ -79,7 +79,7 @@ pub(crate) fn tell(
     ensures told { IfOk result (λ told. AreTold show found.now.ends.items told.numbers.items) }
 {
     let mut told = told_of(alloc, show, &found.ends)?;
-    push_unmets(&mut told.text, answers, &found.ends, Part::Judged)?;
+    push_unmets(&mut told.text, answers, &found.ends, Part::Required)?;
     push_last(&mut told.text, found, answers, walks)?;
     Ok(told)
 }

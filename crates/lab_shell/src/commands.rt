@@ -5,6 +5,7 @@ ghost use Rattle.lab_commands.specs.Runs.{IsReport, IsToldRun};
 ghost use Rattle.lab_sched.specs.Schedules.{steps_of};
 ghost use Rattle.lab_trace.specs.Traces.{trace_text};
 ghost use Rattle.lab_shell.specs.Private.Explored.{IsTrace};
+ghost use Rattle.lab_commands.specs.Sources.{numbered};
 ghost use Rattle.lab_shell.specs.Private.Runs.{start_of};
 
 use crate::given::{Given, page_files};
@@ -157,7 +158,7 @@ impl<'a, T: Files, P> Given<'_, 'a, T, P> {
     ) -> Result<(), Complaint<'a>>
         ensures trace { OnOk result (Appends (W.contents output.old.device)
             (W.contents output.new.device) (trace_text (start_of self.now)
-            self.now.programs.sources.items (steps_of schedule.now))) }
+            (numbered self.now.programs) (steps_of schedule.now))) }
     {
         match page {
             Some(page) => write_bytes(&self.write_page(page.file, schedule)?, output),
@@ -176,11 +177,11 @@ impl<'j, 'a, T, P> Given<'j, 'a, T, P> {
     ) -> Result<(), Complaint<'a>>
         ensures trace { OnOk result (Appends (W.contents output.old.device)
             (W.contents output.new.device) (trace_text (start_of self.now)
-            self.now.programs.sources.items (steps_of schedule.now))) }
+            (numbered self.now.programs) (steps_of schedule.now))) }
     {
         let mut world = self.world()?;
-        let sources = self.programs.sources.as_slice();
-        trace(self.job.alloc, &mut world, sources, schedule, output).at(self.job.alloc, "run")
+        let sources = self.programs.numbered(self.job.alloc)?;
+        trace(self.job.alloc, &mut world, &sources, schedule, output).at(self.job.alloc, "run")
     }
 }
 

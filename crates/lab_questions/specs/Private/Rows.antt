@@ -4,10 +4,10 @@ use Rattle.lab_worlds.specs.declared.ends.End.{End}
 use Rattle.lab_questions.specs.declared.answers.Answer.{Answer}
 use Rattle.lab_questions.specs.declared.answers.Answers.{Answers}
 use Rattle.lab_questions.specs.declared.asked.Part.{Part}
-use Rattle.lab_questions.specs.declared.asked.Part.TheVariants.{Judged, Conditions, Required, Never}
+use Rattle.lab_questions.specs.declared.asked.Part.TheVariants.{Required, Never}
 use Rattle.lab_questions.specs.declared.asked.Question.{Question}
 use Rattle.lab_questions.specs.declared.called.Unmet.{Unmet as Shown}
-use Rattle.lab_questions.specs.Asked.{is_condition, is_never}
+use Rattle.lab_questions.specs.Asked.{is_never}
 use Rattle.lab_questions.specs.Findings.{unmet_of}
 use Rattle.lab_questions.specs.Texts.{Unmet, unmet_if, unmet_among}
 
@@ -17,8 +17,6 @@ unmet_view u = record { never = u.never; head = u.head.now; asked = u.asked.now;
 
 -- whether a question is one of those that are told together
 abbrev pub is_in : Part → Question → Bool
-is_in Judged q = not (is_condition q)
-is_in Conditions q = is_condition q
 is_in Required q = not (is_never q)
 is_in Never q = is_never q
 

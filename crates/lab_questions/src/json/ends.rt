@@ -253,7 +253,7 @@ impl fmt::Display for Limit<'_> {
                     "{{\"met\":\"steps\",\"process\":{process},\"place\":{place},\"line\":{line}}}"
                 )
             }
-            Some(LimitMet::StepsOrMemory { .. }) => write!(f, "{{\"met\":\"steps or memory\"}}"),
+            Some(LimitMet::Memory { .. }) => write!(f, "{{\"met\":\"memory\"}}"),
         }
     }
 }

@@ -5,7 +5,6 @@ use Rattle.lc3_table.specs.declared.profile.Profile.{Profile}
 use Rattle.lab_sched.specs.Starts.{fresh}
 use Rattle.lab_sched.specs.Worlds.{WorldState}
 use Rattle.lab_sched.specs.declared.process.Program.{Program}
-use Rattle.lab_sources.specs.declared.source.Source.{Source}
 use Rattle.lab_trace.specs.Traces.{trace_text}
 use Rattle.lab_places.specs.Placed.{SourceSeen}
 use Rattle.lab_commands.specs.declared.explore.Search.{Search}
@@ -14,12 +13,12 @@ use Rattle.lab_commands.specs.Told.{told_bytes}
 
 -- the trace of some programs, on machines of this profile, by some steps, with the labels of some sources
 abbrev pub IsTrace : Profile → List ℕ → Type 0
-IsTrace profile text = (programs : List Program) × (sources : List (Option Source)) × (steps : List ℕ)
+IsTrace profile text = (programs : List Program) × (sources : List (Option SourceSeen)) × (steps : List ℕ)
     × (text ≡ trace_text (fresh profile programs) sources steps)
 
 -- the trace of a laboratory by some steps, with the labels of some sources, or nothing
 abbrev pub IsTraceOf : WorldState → List ℕ → Type 0
-IsTraceOf start text = (text ≡ []) ⊎ ((sources : List (Option Source)) × (steps : List ℕ) × (text ≡ trace_text start sources steps))
+IsTraceOf start text = (text ≡ []) ⊎ ((sources : List (Option SourceSeen)) × (steps : List ℕ) × (text ≡ trace_text start sources steps))
 
 -- what tells what was found of some programs, on machines of this profile, was appended, and behind it a trace of them, or nothing
 pub record HasExplored (profile : Profile) (old new : Option (List ℕ)) : Type 0 where

@@ -19,4 +19,4 @@ returns-clause-answers g c =
 
 pub returns-clause-fails : goal.returns-clause-fails
 returns-clause-fails g c none =
-    open_fails c.in_ok-exploration.exploration c.deref-2.result.now c.in_ok-exploration.ensures.open (sym c.in_ok-said.ensures.failure ∙ none)
+    open_fails c.in_ok-exploration.exploration c.deref-2.result.now c.deref-3.result.now c.in_ok-exploration.ensures.open (sym c.in_ok-said.ensures.failure ∙ none)

@@ -1,5 +1,6 @@
-use Rattle.std.proofs.Common.{◌∙◌, All, refl, subst, sym}
+use Rattle.std.proofs.Common.{◌≡◌, ◌∙◌, All, false, refl, subst, sym}
 use Rattle.lab_sched.specs.Starts.{fresh}
+use Rattle.lab_worlds.specs.Met.{IsCutShort}
 use Rattle.lab_questions.specs.Answered.{IsAnswer}
 use Rattle.lab_questions.specs.Failures.{Passes}
 use Rattle.lab_questions.specs.Private.Founds.{IsConditionAnswer}
@@ -42,4 +43,11 @@ returns-clause-says g c =
 pub returns-clause-passes : goal.returns-clause-passes
 returns-clause-passes g c none =
     let e = c.in_ok-exploration.field-0.exploration in
-    subst (Passes e) c.deref-2.ensures.value (passes e c.deref-2.result.now (sym c.in_ok-said.ensures.failure ∙ none))
+    let empty = c.deref-3.result.now in
+    subst (Passes e c.in_ok-answers.answers.items) c.deref-3.ensures.value
+    (subst (λ answers. Passes e answers empty) c.deref-2.ensures.value (passes e c.deref-2.result.now empty (sym c.in_ok-said.ensures.failure ∙ none)))
+
+pub returns-clause-met : goal.returns-clause-met
+returns-clause-met g c =
+    let e = c.in_ok-exploration.field-0.exploration in
+    subst (λ w. e.complete ≡ false → IsCutShort w c.args.limits e) c.in_ok-fresh.ensures.start c.in_ok-exploration.ensures.met

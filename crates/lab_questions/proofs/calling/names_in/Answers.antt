@@ -1,12 +1,16 @@
-use Rattle.std.proofs.Common.{◌≡◌, ◌<◌, [], IfSome, arith, get_or, length, map, subst, sym, ◌∙◌}
+use Rattle.std.proofs.Common.{ℕ, ◌≡◌, ◌<◌, [], List, Bor, IfSome, arith, get_or, length, map, subst, ◌∙◌}
 use Rattle.std.proofs.lemmas.List.{get_or-map, length-map}
-use Rattle.lab_questions.proofs.CallLemmas.{name_step}
+use Rattle.lab_questions.specs.CallWords.{name_words}
+use Rattle.lab_questions.proofs.CallLemmas.{read_more}
 use Rattle.lab_questions.proofs.calling.names_in.Goals as goal
 
-pub loop-word-preserved : goal.loop-word-preserved
-loop-word-preserved c =
-    let words = map (λ w. w.now) c.args.words.now in
-    let i = c.loop-word.word-index in
-    let within : i < length words = omega (arith, c.loop-word-test.true, length-map c.args.words.now (λ w. w.now)) in
-    name_step c.loop-word.names.items _ words i c.in-Some.name c.in_ok-push-in-Some.ensures.items c.loop-word.invariant within
-    (get_or-map (λ w. w.now) c.args.words.now i (record { ref_ptr = (0, 0); now = [] }) [] c.loop-word-test.true ∙ sym (subst (λ o. IfSome o (λ n. n ≡ (get_or c.args.words.now i (record { ref_ptr = (0, 0); now = [] })).now)) c.in-Some.is c.in_ok-name.ensures.name))
+pub loop-piece-preserved : goal.loop-piece-preserved
+loop-piece-preserved c =
+    let seen : Bor (List (Bor (List ℕ))) → List (List ℕ) = λ piece. map (λ word. word.now) piece.now in
+    let items = c.deref-piece-items.result.now in
+    let i = c.loop-piece.piece-index in
+    let none : Bor (List (Bor (List ℕ))) = record { ref_ptr = (0, 0); now = [] } in
+    let within : i < length (map seen items) = omega (arith, c.loop-piece-test.true, length-map items seen) in
+    read_more name_words c.loop-piece.names.items c.push.new.self.items (map seen items) i c.in-Some.name [] c.in_ok-push-in-Some.ensures.items c.loop-piece.invariant within
+    (get_or-map seen items i none [] c.loop-piece-test.true
+    ∙ subst (λ o. IfSome o (λ name. map (λ word. word.now) (get_or items i none).now ≡ name_words name)) c.in-Some.is c.in_ok-name.ensures.name)
