@@ -291,15 +291,25 @@ def look_at_keys(check, grader):
 
 
 def look_at_names(check, grader):
-    """A name of a condition that nobody opens is told and costs nothing; one that is opened isn't told."""
+    """A condition on a name that nobody opens, or on a place where nobody calls, is told and fails; one that asks something isn't told."""
     folder = grader.folder("names", a__asm=POSTS)
     task = grader.task(ONE + 'never = ["sem /v > 1", "sem /w > 5", "mq /w = 0"]\n')
     said = ["nobody opens sem /v", "nobody opens mq /w"]
     printed, _, status = grader.call("--junit", "marks.xml", "--gradescope", "results.json", task, folder)
-    check(status == 0 and printed.splitlines()[1:4] == ["  run 1: pass", *(f"    {it}" for it in said)], f"names: {printed}")
+    good = status == 0 and printed.splitlines()[1:4] == ["  run 1: asks nothing", *(f"    {it}" for it in said)]
+    check(good, f"names: {printed}")
     check("\n".join(said) in (grader.place / "marks.xml").read_text(), "JUnit's XML doesn't tell the names")
     test, = json.loads((grader.place / "results.json").read_text())["tests"]
-    check(test["score"] == 1 and test["output"] == "\n".join(["pass", *said]), f"Gradescope: {test}")
+    check(test["score"] == 0 and "\n".join(said) in test["output"], f"Gradescope: {test}")
+    # a critical section whose traps are left out
+    folder = grader.folder("nops", a__asm=".ORIG x3000\nENTER ADD R0,R0,#1\nLEAVE ADD R0,R0,#1\nHALT\n")
+    two = ONE.replace('[{ asked = "a.asm" }]', '[{ asked = "a.asm" }, { asked = "a.asm" }]')
+    task = grader.task(two + 'never = ["at ENTER-LEAVE > 1"]\n')
+    found = grader.marks(task, [folder])
+    check(found == {str(folder): ["asks nothing"]}, f"traps left out: {found}")
+    _, complained, status = grader.call("--mutants", task, folder)
+    told = f"the task asks nothing by {folder}: run 1: nobody calls at ENTER-LEAVE"
+    check(status == 2 and told in complained, f"traps left out, by mutants: {complained}")
 
 
 def look(check, grader):

@@ -22,14 +22,14 @@ class End:
 @dataclass
 class Answer:
     """The ends, what isn't as it should be but for demands (a verdict, and a schedule that shows it), the demands that aren't met,
-    each with such a schedule, the limits that were met, the objects that conditions name and nobody opens, and a schedule that
-    never ends, where there is one."""
+    each with such a schedule, the limits that were met, why conditions ask nothing, and a schedule that never ends, where there
+    is one."""
 
     ends: list
     fault: tuple | None
     unmet: dict
     limits: list
-    unopened: list
+    empty: list
     round: str | None
 
     def is_wrong(self, need, end):
@@ -98,15 +98,15 @@ def parsed(raw):
 def read(raw, count, run):
     """The answer for a run of so many programs."""
     found = parsed(raw)
-    limits, unopened = member(found, "limits", list), member(found, "unopened", list)
+    limits, empty = member(found, "limits", list), member(found, "empty", list)
     complete = member(found, "search", str) == "complete"
-    if complete == bool(limits) or not all(isinstance(it, str) for it in limits + unopened):
+    if complete == bool(limits) or not all(isinstance(it, str) for it in limits + empty):
         raise NoMark("explore --json: search and limits contradict each other")
     told, endless = dict(untrue(found)), round_of(found)
     unmet = {it: told.pop(it) for it in run.demands() if it in told}
     fault = fault_of(told, endless, run.asks_to_end())
     # what explore itself makes of it must be the same
-    holds = not (fault or unmet)
+    holds = not (fault or unmet or empty)
     if holds and complete and run.questions() and found.get("holds", "none") is None:
         # calls have a search of their own, which meets a limit alone
         complete, limits = False, ["worlds or memory"]
@@ -117,4 +117,4 @@ def read(raw, count, run):
     ends = [end_of(it, count) for it in member(found, "ends", list)]
     if not {unmet.get(it.key()) for it in run.needs} <= {None, *(it.schedule for it in ends)}:
         raise NoMark("explore --json: an end that isn't told has another output")
-    return Answer(ends, fault, unmet, limits, unopened, endless)
+    return Answer(ends, fault, unmet, limits, empty, endless)

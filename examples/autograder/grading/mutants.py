@@ -17,7 +17,7 @@ USED = re.compile(r"\b(?:LD|LEA)\s+R[12],\s*(\w+)", re.IGNORECASE)
 CALLS = {"40": "mq_open", "41": "mq_close", "42": "mq_unlink", "43": "mq_send", "44": "mq_receive", "45": "mq_getattr",
          "46": "mq_setattr", "50": "sem_open", "51": "sem_close", "52": "sem_unlink", "53": "sem_wait", "54": "sem_trywait",
          "55": "sem_post", "56": "sem_getvalue"}
-NONBLOCK, CREATE = 0x800, 0x40
+NONBLOCK, CREATE, EXCLUSIVE = 0x800, 0x40, 0x80
 # a value that is loaded is taken for flags if it is one of these without O_NONBLOCK
 FLAGS = {0, 1, 2, 0x40, 0x41, 0x42, 0x80, 0xC0, 0xC1, 0xC2}
 
@@ -30,6 +30,7 @@ class Mutant:
     line: int
     what: str
     text: str
+    is_of_flags: bool = False
 
 
 @dataclass
@@ -97,6 +98,11 @@ def is_straight(lines, one, other):
     return not any(LABEL.match(it) or BRANCH.search(code(it)) for it in inner)
 
 
+def names_in(text):
+    """The names of objects in a source, each as often as it stands there."""
+    return ["/" + it for it in re.findall(r'\.STRINGZ\s+"/([^"]*)"', text, re.IGNORECASE)]
+
+
 def other_name(line):
     """The line with another name for its object."""
     return NAME.sub(lambda it: f"{it[1]}/{'x' if it[2] != 'x' else 'y'}", line, count=1)
@@ -107,41 +113,52 @@ def number_of(word):
     return int(word[1:], 16) if word[0] in "xX" else int(word)
 
 
+def is_exclusive(text):
+    """A value of the source may be flags with O_EXCL, so that an open that is made twice is refused."""
+    values = [number_of(it[2]) for it in FILL.finditer("\n".join(map(code, text.split("\n"))))]
+    return any(it in FLAGS and it & EXCLUSIVE for it in values)
+
+
 def other_values(line, used):
-    """The line with another value, and what that is: of flags O_NONBLOCK or O_CREAT, of what is added or filled one more."""
+    """The line with another value, what that is, and whether it is of flags: O_NONBLOCK or O_CREAT; else it is one more."""
     added, filled, label = ADDED.search(code(line)), FILL.search(code(line)), LABEL.match(line)
     if added:
         more = int(added[2]) + 1 if int(added[2]) < 15 else 1
-        yield line[:added.start()] + added[1] + str(more) + line[added.end():], f"#{more} for #{added[2]}"
+        yield line[:added.start()] + added[1] + str(more) + line[added.end():], f"#{more} for #{added[2]}", False
     if filled and label and label[1] in used:
         value = number_of(filled[2])
         if value & ~NONBLOCK in FLAGS:
             for bit, name in (NONBLOCK, "O_NONBLOCK"), (CREATE, "O_CREAT"):
                 what = f"{'without' if value & bit else 'with'} {name}"
-                yield line[:filled.start()] + f"{filled[1]}x{value ^ bit:X}" + line[filled.end():], what
+                yield line[:filled.start()] + f"{filled[1]}x{value ^ bit:X}" + line[filled.end():], what, True
     elif filled and not label and 0 < number_of(filled[2]) < 100:
         value = number_of(filled[2]) + 1
-        yield line[:filled.start()] + f"{filled[1]}{value}" + line[filled.end():], f"{value} for {filled[2]}"
+        yield line[:filled.start()] + f"{filled[1]}{value}" + line[filled.end():], f"{value} for {filled[2]}", False
 
 
-def mutants_of(file, text):
-    """All mutants of a source: each of its calls left out, doubled, and exchanged with the next one; each name and value changed."""
+def mutants_of(file, text, private):
+    """All mutants of a source: each of its calls left out, doubled, and exchanged with the next one; each name and value changed.
+
+    Two changes make no difference, and aren't made: an open is doubled only beside O_EXCL, and a private name stays, which
+    nobody else has.
+    """
     lines = text.split("\n")
     blocks = blocks_of(lines)
 
-    def made(number, what, changed):
-        return Mutant(file, number + 1, what, "\n".join(changed))
+    def made(number, what, changed, is_of_flags=False):
+        return Mutant(file, number + 1, what, "\n".join(changed), is_of_flags)
 
     for place, block in enumerate(blocks):
         yield made(block.last, f"{block.name} left out", left_out(lines, block))
-        yield made(block.last, f"{block.name} doubled", doubled(lines, block))
+        if is_exclusive(text) or not block.name.endswith("_open"):
+            yield made(block.last, f"{block.name} doubled", doubled(lines, block))
         following = blocks[place + 1] if place + 1 < len(blocks) else None
         if following and following.first > block.last and is_straight(lines, block, following):
             what = f"{block.name} exchanged with {following.name}"
             yield made(block.last, what, exchanged(lines, block, following))
     used = set(USED.findall("\n".join(map(code, lines))))
     for number, line in enumerate(lines):
-        if NAME.search(code(line)):
+        if NAME.search(code(line)) and private.isdisjoint(names_in(code(line))):
             yield made(number, "another name", lines[:number] + [other_name(line)] + lines[number + 1:])
-        for changed, what in other_values(line, used):
-            yield made(number, what, lines[:number] + [changed] + lines[number + 1:])
+        for changed, what, is_of_flags in other_values(line, used):
+            yield made(number, what, lines[:number] + [changed] + lines[number + 1:], is_of_flags)
