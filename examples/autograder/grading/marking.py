@@ -3,6 +3,7 @@ from __future__ import annotations
 
 import hashlib
 import os
+import re
 import resource
 import shutil
 import time
@@ -59,6 +60,7 @@ class Marking:
         self.budget, self.with_pages = Budget(self.task.budget), bool(records)
         objects = self.within(self.assemble, taken)
         runs = [self.mark_run(place, run, objects) for place, run in enumerate(self.task.runs, 1)]
+        refuse_empty(self.task.runs, runs)
         record = {"key": key_of(key, same), "same": same if any(it.content is not None for it in taken.values()) else None,
                   "mark": mark_of(runs), "points": sum(it["points"] for it in runs),
                   "of": sum(it.points for it in self.task.runs), "runs": runs,
@@ -162,7 +164,7 @@ class Marking:
             part.update(found)
             return
         verdict, detail, schedule = fault_of(run, found)
-        part.update(verdict=verdict, detail=detail, schedule=schedule, ends=len(found.ends))
+        part.update(verdict=verdict, detail=detail, schedule=schedule, ends=len(found.ends), empty=found.empty)
         if schedule is not None:
             text = self.show(place, run, words, schedule)
             trace = shown.lines(text, LONGEST_LINE, LINES_OF_TRACE)
@@ -270,11 +272,25 @@ def fault_of(run, found):
     for it in run.questions():
         if it.key() in found.unmet:
             return it.verdict, [it.said], found.unmet[it.key()]
-    if found.empty:
-        return "asks nothing", found.empty, None
     if found.limits:
         return "incomplete", ["the search met the limit of " + ", ".join(found.limits)], None
     return "pass", [], None
+
+
+def asks_of(run, sentence):
+    """A condition of a run is on what a sentence says that nobody opens, or calls at."""
+    subject = re.escape(re.sub(r"^nobody (opens|calls) ", "", sentence))
+    return any(re.search(rf"{subject}(?![\w/.-])", it) for option in ("never", "may-wait") for it in run.options[option])
+
+
+def refuse_empty(runs, parts):
+    """A run that passes fails where it asks nothing by a condition, unless another run asks something by it."""
+    told = [part.pop("empty", None) for part in parts]
+    for part, empty in zip(parts, told):
+        alone = [it for it in empty or () if not any(
+            asks_of(run, it) and other is not None and it not in other for run, other in zip(runs, told))]
+        if alone and part["verdict"] == "pass":
+            part.update(verdict="asks nothing", detail=alone, points=0)
 
 
 def sentences(trace):

@@ -190,7 +190,8 @@ def options_of(table):
         if key in ("limit", "worlds", "memory", "seconds", "points") and said[key] < (key != "points"):
             raise TaskFault(f"{key}: this can't be {said[key]}")
     for key in "may-wait", "never":
-        calls.words_of(said[key], key)
+        if any("$(" in it for it in calls.words_of(said[key], key)):
+            raise TaskFault(f"{key}: a run draws this, and not the head of a task")
     if said["require"] and not set(said["require"].split(",")) <= set(WORDS):
         raise TaskFault(f"require: {said['require']}: the words are {', '.join(WORDS)}")
     if said["profile"] not in ("a", "b") or said["visibility"] not in VISIBILITIES:
